@@ -1,0 +1,2 @@
+-- The laws of masks.
+pub mod Mask

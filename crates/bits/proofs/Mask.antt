@@ -1,0 +1,249 @@
+-- The laws of masks, for any width: what each operation does to bit k, and what the bits tell of the mask.
+use mathlib.Core.Path.{_≡_, refl, sym, ap, ap₂, _∙_, subst}
+use mathlib.Core.Bool.{Bool, true, false, not, _&&_, _||_, or-true, false≢true}
+use mathlib.Core.List.{List, [], _∷_, map}
+use Prim.Native.Nat.{ℕ, zero, suc, _+_, _-_, _*_, _/_, _%_, _^_, min, max, _≤_, _<_}
+use native.Mathlib.Omega.{arith}
+use native.Mathlib.Nat.{mod-lt, pow-suc, div-one, zero-div, add-zero, one-mul}
+use native.Mathlib.Numerals.{add-one, one-add}
+use lib.Arith.{lt-one}
+use lib.Bits.{bitAnd, bitOr, and-shr, or-shr, and-mod, or-mod}
+use lib.Count.{ones, trailingZeros, under, ones-step, ones-cat}
+use lib.Dec.{T, eqb, lit<, eqb→eq, eqb-refl, eqb·zero-suc, eqb·suc-zero, eqb·suc-suc}
+use lib.Pow.{pow-pos, pow-lt, shr-shr, shr-lt}
+use Rattle.bits.specs.Mask.{bit, digit, maskOf, countOf, all, any, withZero, placesOf}
+
+and-left : (a b : Bool) → (a && b) ≡ true → a ≡ true
+and-left true b e = refl
+and-left false b e = e
+
+and-right : (a b : Bool) → (a && b) ≡ true → b ≡ true
+and-right true b e = e
+and-right false b e = absurd (false≢true e)
+
+half-lt : {n : ℕ} (k : ℕ) → n < 2 ^ suc k → n / 2 < 2 ^ k
+half-lt {n} k h = shr-lt k 1 (subst (λ (x : ℕ). n < 2 ^ x) (sym (add-one k)) h)
+
+-- ---- a bit, by halving
+
+pub bit-zero : (m : ℕ) → bit m 0 ≡ eqb (m % 2) 1
+unfolding bit
+bit-zero m = rw div-one
+
+pub bit-suc : (m k : ℕ) → bit m (suc k) ≡ bit (m / 2) k
+unfolding bit
+bit-suc m k = ap (λ (x : ℕ). eqb (x % 2) 1) (ap (λ (x : ℕ). m / 2 ^ x) (sym (one-add k)) ∙ sym (shr-shr m 1 k))
+
+-- a digit, and the test that it is 1
+digit-eqb : (x : ℕ) → x < 2 → digit (eqb x 1) ≡ x
+digit-eqb zero h = refl
+digit-eqb (suc zero) h = refl
+digit-eqb (suc (suc x)) h = absurd (omega arith)
+
+eqb-digit : (b : Bool) → eqb (digit b) 1 ≡ b
+eqb-digit true = refl
+eqb-digit false = refl
+
+digit-lt : (b : Bool) → digit b < 2
+digit-lt true = omega arith
+digit-lt false = omega arith
+
+-- the lowest binary digit is bit 0
+pub digit-bit : (m : ℕ) → digit (bit m 0) ≡ m % 2
+digit-bit m = ap digit (bit-zero m) ∙ digit-eqb (m % 2) (omega arith)
+
+-- ---- two tests that agree below n
+
+pub maskOf-cong : (n : ℕ) (p q : ℕ → Bool) → ((k : ℕ) → k < n → p k ≡ q k) → maskOf n p ≡ maskOf n q
+unfolding maskOf
+maskOf-cong zero p q h = refl
+maskOf-cong (suc n) p q h = ap₂ (λ (b : Bool) (x : ℕ). digit b + 2 * x) (h 0 (omega arith)) (maskOf-cong n (λ k. p (suc k)) (λ k. q (suc k)) (λ k l. h (suc k) (omega arith)))
+
+pub countOf-cong : (n : ℕ) (p q : ℕ → Bool) → ((k : ℕ) → k < n → p k ≡ q k) → countOf n p ≡ countOf n q
+unfolding countOf
+countOf-cong zero p q h = refl
+countOf-cong (suc n) p q h = ap₂ (λ (b : Bool) (x : ℕ). digit b + x) (h 0 (omega arith)) (countOf-cong n (λ k. p (suc k)) (λ k. q (suc k)) (λ k l. h (suc k) (omega arith)))
+
+-- ---- a mask and its bits
+
+pub maskOf-lt : (n : ℕ) (p : ℕ → Bool) → maskOf n p < 2 ^ n
+unfolding maskOf
+maskOf-lt zero p = lit< tt
+maskOf-lt (suc n) p = rw pow-suc (omega (arith, maskOf-lt n (λ k. p (suc k)), digit-lt (p 0)))
+
+-- bit k of the mask of p is p's word at k
+pub bit-maskOf : (n : ℕ) (p : ℕ → Bool) (k : ℕ) → k < n → bit (maskOf n p) k ≡ p k
+unfolding maskOf
+bit-maskOf zero p k h = absurd (omega arith)
+bit-maskOf (suc n) p zero h =
+    let low : (digit (p 0) + 2 * maskOf n (λ j. p (suc j))) % 2 ≡ digit (p 0) = omega (arith, digit-lt (p 0)) in
+    bit-zero _ ∙ ap (λ (x : ℕ). eqb x 1) low ∙ eqb-digit (p 0)
+bit-maskOf (suc n) p (suc k) h =
+    let rest : (digit (p 0) + 2 * maskOf n (λ j. p (suc j))) / 2 ≡ maskOf n (λ j. p (suc j)) = omega (arith, digit-lt (p 0)) in
+    bit-suc _ k ∙ ap (λ (x : ℕ). bit x k) rest ∙ bit-maskOf n (λ j. p (suc j)) k (omega arith)
+
+-- a mask below 2 ^ n is the mask of its own bits
+pub maskOf-bit : (n m : ℕ) → m < 2 ^ n → maskOf n (bit m) ≡ m
+unfolding maskOf
+maskOf-bit zero m h = sym (lt-one h)
+maskOf-bit (suc n) m h =
+    ap₂ (λ (x y : ℕ). x + 2 * y) (digit-bit m) (maskOf-cong n (λ k. bit m (suc k)) (bit (m / 2)) (λ k l. bit-suc m k) ∙ maskOf-bit n (m / 2) (half-lt n h))
+    ∙ omega arith
+
+-- a mask below 2 ^ n is the mask of a test that says what its bits say
+pub mask-of : (n m : ℕ) (p : ℕ → Bool) → m < 2 ^ n → ((k : ℕ) → k < n → bit m k ≡ p k) → m ≡ maskOf n p
+mask-of n m p l h = sym (maskOf-bit n m l) ∙ maskOf-cong n (bit m) p h
+
+-- two masks below 2 ^ n with equal bits are equal
+pub mask-ext : (n a b : ℕ) → a < 2 ^ n → b < 2 ^ n → ((k : ℕ) → k < n → bit a k ≡ bit b k) → a ≡ b
+mask-ext n a b la lb h = mask-of n a (bit b) la h ∙ maskOf-bit n b lb
+
+-- the count of ones is the number of set bits
+pub ones-bits : (n m : ℕ) → m < 2 ^ n → ones m ≡ countOf n (bit m)
+unfolding countOf ones
+ones-bits zero m h = ap ones (lt-one h)
+ones-bits (suc n) m h =
+    ones-step m ∙ ap₂ (λ (x y : ℕ). x + y) (sym (digit-bit m)) (ones-bits n (m / 2) (half-lt n h) ∙ countOf-cong n (bit (m / 2)) (λ k. bit m (suc k)) (λ k l. sym (bit-suc m k)))
+
+-- ---- bit k of an and, an or, a complement, a shift of one
+
+-- what holds of two binary digits written out holds of any two
+two-digits : (P : ℕ → ℕ → Type 0) → P 0 0 → P 0 1 → P 1 0 → P 1 1 → (x y : ℕ) → x < 2 → y < 2 → P x y
+two-digits P a b c d zero zero h l = a
+two-digits P a b c d zero (suc zero) h l = b
+two-digits P a b c d (suc zero) zero h l = c
+two-digits P a b c d (suc zero) (suc zero) h l = d
+two-digits P a b c d (suc (suc x)) y h l = absurd (omega arith)
+two-digits P a b c d zero (suc (suc y)) h l = absurd (omega arith)
+two-digits P a b c d (suc zero) (suc (suc y)) h l = absurd (omega arith)
+
+pub bit-and : (a b k : ℕ) → bit (bitAnd a b) k ≡ (bit a k && bit b k)
+unfolding bit
+bit-and a b k =
+    ap (λ (x : ℕ). eqb (x % 2) 1) (and-shr a b k) ∙ ap (λ (x : ℕ). eqb x 1) (and-mod (a / 2 ^ k) (b / 2 ^ k) 1)
+    ∙ two-digits (λ x y. eqb (bitAnd x y) 1 ≡ (eqb x 1 && eqb y 1)) refl refl refl refl (a / 2 ^ k % 2) (b / 2 ^ k % 2) (omega arith) (omega arith)
+
+pub bit-or : (a b k : ℕ) → bit (bitOr a b) k ≡ (bit a k || bit b k)
+unfolding bit
+bit-or a b k =
+    ap (λ (x : ℕ). eqb (x % 2) 1) (or-shr a b k) ∙ ap (λ (x : ℕ). eqb x 1) (or-mod (a / 2 ^ k) (b / 2 ^ k) 1)
+    ∙ two-digits (λ x y. eqb (bitOr x y) 1 ≡ (eqb x 1 || eqb y 1)) refl refl refl refl (a / 2 ^ k % 2) (b / 2 ^ k % 2) (omega arith) (omega arith)
+
+not-digit : (x y : ℕ) → x + y ≡ 1 → eqb x 1 ≡ not (eqb y 1)
+not-digit zero y e = let f : y ≡ 1 = omega arith in rw f
+not-digit (suc x) y e =
+    let f : y ≡ 0 = omega arith in let g : x ≡ 0 = omega arith in rw (f, g)
+
+-- the complement of a mask of n bits is 2 ^ n - 1 less the mask
+pub bit-not : (n a k : ℕ) → a < 2 ^ n → k < n → bit (2 ^ n - 1 - a) k ≡ not (bit a k)
+bit-not zero a k h l = absurd (omega arith)
+bit-not (suc n) a zero h l =
+    let e : 2 ^ suc n ≡ 2 ^ n * 2 = pow-suc 2 n in
+    bit-zero _ ∙ not-digit ((2 ^ suc n - 1 - a) % 2) (a % 2) (omega arith) ∙ sym (ap not (bit-zero a))
+bit-not (suc n) a (suc k) h l =
+    let e : 2 ^ suc n ≡ 2 ^ n * 2 = pow-suc 2 n in
+    let half : (2 ^ suc n - 1 - a) / 2 ≡ 2 ^ n - 1 - a / 2 = omega arith in
+    bit-suc _ k ∙ ap (λ (x : ℕ). bit x k) half ∙ bit-not n (a / 2) k (half-lt n h) (omega arith) ∙ sym (ap not (bit-suc a k))
+
+pub bit-none : (k : ℕ) → bit 0 k ≡ false
+unfolding bit
+bit-none k = rw zero-div
+
+pub bit-one : (j k : ℕ) → bit (2 ^ j) k ≡ eqb j k
+bit-one zero zero = bit-zero 1
+bit-one zero (suc k) = bit-suc 1 k ∙ bit-none k ∙ sym (eqb·zero-suc k)
+bit-one (suc j) zero =
+    let even : 2 ^ suc j % 2 ≡ 0 = omega (arith, pow-suc 2 j) in
+    bit-zero _ ∙ ap (λ (x : ℕ). eqb x 1) even ∙ sym (eqb·suc-zero j)
+bit-one (suc j) (suc k) =
+    let half : 2 ^ suc j / 2 ≡ 2 ^ j = omega (arith, pow-suc 2 j) in
+    bit-suc _ k ∙ ap (λ (x : ℕ). bit x k) half ∙ bit-one j k ∙ sym (eqb·suc-suc j k)
+
+-- ---- the only bit
+
+ones-none : (n m : ℕ) → m < 2 ^ n → ones m ≡ 0 → m ≡ 0
+ones-none zero m h e = lt-one h
+ones-none (suc n) m h e =
+    let step = ones-step m in
+    let rest : m / 2 ≡ 0 = ones-none n (m / 2) (half-lt n h) (omega arith) in
+    omega arith
+
+-- a lowest digit that is set is the only one, and one that is not leaves the only one to the rest
+low-only : (n m d : ℕ) → m % 2 ≡ d → (ones (m / 2) ≡ 0 → m / 2 ≡ 0) → (ones (m / 2) ≡ 1 → (trailingZeros n (m / 2) < n) × (m / 2 ≡ 2 ^ trailingZeros n (m / 2)))
+    → ones m ≡ 1 → (under d (trailingZeros n (m / 2)) < suc n) × (m ≡ 2 ^ under d (trailingZeros n (m / 2)))
+low-only n m zero z none one e =
+    let step = ones-step m in
+    let ih = one (omega arith) in
+    (omega arith, let up = pow-suc 2 (trailingZeros n (m / 2)) in omega arith)
+low-only n m (suc d) z none one e =
+    let step = ones-step m in
+    let rest = none (omega arith) in
+    (omega arith, omega arith)
+
+-- with one bit set, the mask is that bit, and the trailing zeros are its place
+pub only-bit : (n m : ℕ) → m < 2 ^ n → ones m ≡ 1 → (trailingZeros n m < n) × (m ≡ 2 ^ trailingZeros n m)
+unfolding trailingZeros ones
+only-bit zero m h e = absurd (let z : ones m ≡ 0 = ap ones (lt-one h) in omega arith)
+only-bit (suc n) m h e = low-only n m (m % 2) refl (ones-none n (m / 2) (half-lt n h)) (only-bit n (m / 2) (half-lt n h)) e
+
+ones-pow : (d : ℕ) → ones (2 ^ d) ≡ 1
+unfolding ones
+ones-pow d = ap ones (sym (add-zero (2 ^ d)) ∙ ap (λ (x : ℕ). x + 0) (sym (one-mul (2 ^ d)))) ∙ ones-cat d 1 0 (pow-pos d)
+
+-- a test that picks one place below n picks one d
+pub countOf-one : (n : ℕ) (p : ℕ → Bool) → countOf n p ≡ 1 → (d : ℕ) × (d < n) × ((k : ℕ) → k < n → p k ≡ eqb d k)
+countOf-one n p e =
+    let m : ℕ = maskOf n p in
+    let one = only-bit n m (maskOf-lt n p) (ones-bits n m (maskOf-lt n p) ∙ countOf-cong n (bit m) p (bit-maskOf n p) ∙ e) in
+    (trailingZeros n m, one .0, λ k l. sym (bit-maskOf n p k l) ∙ ap (λ (x : ℕ). bit x k) (one .1) ∙ bit-one (trailingZeros n m) k)
+
+-- and a test that picks d alone picks one
+pub one-countOf : (n d : ℕ) (p : ℕ → Bool) → d < n → ((k : ℕ) → k < n → p k ≡ eqb d k) → countOf n p ≡ 1
+one-countOf n d p l h =
+    sym (ones-bits n (2 ^ d) (pow-lt l) ∙ countOf-cong n (bit (2 ^ d)) p (λ k j. bit-one d k ∙ sym (h k j))) ∙ ones-pow d
+
+-- ---- every place, some place, the places
+
+pub all-at : (n : ℕ) (p : ℕ → Bool) → all n p ≡ true → (k : ℕ) → k < n → p k ≡ true
+unfolding all
+all-at zero p e k l = absurd (omega arith)
+all-at (suc n) p e zero l = and-left (p 0) (all n (λ k. p (suc k))) e
+all-at (suc n) p e (suc k) l = all-at n (λ j. p (suc j)) (and-right (p 0) (all n (λ j. p (suc j))) e) k (omega arith)
+
+pub all-of : (n : ℕ) (p : ℕ → Bool) → ((k : ℕ) → k < n → p k ≡ true) → all n p ≡ true
+unfolding all
+all-of zero p h = refl
+all-of (suc n) p h = ap₂ _&&_ (h 0 (omega arith)) (all-of n (λ k. p (suc k)) (λ k l. h (suc k) (omega arith)))
+
+pub any-none : (n : ℕ) (p : ℕ → Bool) → ((k : ℕ) → k < n → p k ≡ false) → any n p ≡ false
+unfolding any
+any-none zero p h = refl
+any-none (suc n) p h = ap₂ _||_ (h 0 (omega arith)) (any-none n (λ k. p (suc k)) (λ k l. h (suc k) (omega arith)))
+
+pub any-of : (n : ℕ) (p : ℕ → Bool) (k : ℕ) → k < n → p k ≡ true → any n p ≡ true
+unfolding any
+any-of zero p k l e = absurd (omega arith)
+any-of (suc n) p zero l e = ap (λ (b : Bool). b || any n (λ k. p (suc k))) e
+any-of (suc n) p (suc k) l e = ap (λ (b : Bool). p 0 || b) (any-of n (λ j. p (suc j)) k (omega arith) e) ∙ or-true (p 0)
+
+pub any-at : (n : ℕ) (p : ℕ → Bool) → any n p ≡ true → (k : ℕ) × (k < n) × (p k ≡ true)
+unfolding any
+any-at zero p e = absurd (false≢true e)
+any-at (suc n) p e = go (p 0) refl (any-at n (λ k. p (suc k)))
+  where
+    go : (b : Bool) → p 0 ≡ b → (any n (λ k. p (suc k)) ≡ true → (k : ℕ) × (k < n) × (p (suc k) ≡ true)) → (k : ℕ) × (k < suc n) × (p k ≡ true)
+    go true z rest = (0, omega arith, z)
+    go false z rest = let r = rest (ap (λ (b : Bool). b || any n (λ k. p (suc k))) (sym z) ∙ e) in (suc (r .0), omega arith, r .2)
+
+pub places-none : (n : ℕ) (p : ℕ → Bool) → ((k : ℕ) → k < n → p k ≡ false) → placesOf n p ≡ []
+unfolding placesOf
+places-none zero p h = refl
+places-none (suc n) p h = ap₂ withZero (h 0 (omega arith)) (ap (map suc) (places-none n (λ k. p (suc k)) (λ k l. h (suc k) (omega arith))))
+
+pub places-one : (n d : ℕ) (p : ℕ → Bool) → d < n → ((k : ℕ) → k < n → p k ≡ eqb d k) → placesOf n p ≡ d ∷ []
+unfolding placesOf
+places-one zero d p l h = absurd (omega arith)
+places-one (suc n) zero p l h =
+    ap₂ withZero (h 0 l) (ap (map suc) (places-none n (λ k. p (suc k)) (λ k j. h (suc k) (omega arith) ∙ eqb·zero-suc k)))
+places-one (suc n) (suc d) p l h =
+    ap₂ withZero (h 0 (omega arith) ∙ eqb·suc-zero d) (ap (map suc) (places-one n d (λ k. p (suc k)) (omega arith) (λ k j. h (suc k) (omega arith) ∙ eqb·suc-suc d k)))

@@ -1,0 +1,1 @@
+// Laws of masks: definitions in specs/, laws in proofs/. No function of its own.

@@ -1,0 +1,103 @@
+-- The laws of the board's geometry, for any board whose line divides its page.
+use mathlib.Core.Path.{_≡_, refl, sym, ap, ap₂, _∙_, subst, subst⁻¹}
+use Prim.Native.Nat.{ℕ, zero, suc, _+_, _*_, _/_, _%_, _≤_, _<_}
+use native.Mathlib.Omega.{arith}
+use native.Mathlib.Nat.{mod-lt, mul-assoc, mul-le-mul-right, add-mul, add-assoc, div-add-mod', div-lt-iff-lt-mul, suc-mul}
+use lib.Arith.{digits-lt, digits-div, digits-mod}
+use Rattle.board.specs.Board.{Board, Regular, board01, pageLines, lines, cacheWords, memoryWords, colourOf, lineOf, lineAt, cacheAt, lineColour, lineOffset, frameAt, memoryAt}
+
+-- document 01's board
+pub board01-regular : Regular board01
+unfolding pageLines
+board01-regular = record { line-words = omega arith; page-words = omega arith; has-colours = omega arith; divides = refl }
+
+-- a row of w words below the last of n ends within n rows
+after : (i n w : ℕ) → i < n → i * w + w ≤ n * w
+after i n w h = subst (λ (x : ℕ). x ≤ n * w) (suc-mul i w) (mul-le-mul-right w h)
+
+module _ (b : Board) (reg : Regular b) where
+  -- ---- colours
+
+  pub colourOf-lt : (page : ℕ) → colourOf b page < b .colours
+  unfolding colourOf
+  colourOf-lt page = mod-lt page (reg .has-colours)
+
+  -- ---- a line and the offsets in it
+
+  -- which of a page's lines an offset lies in
+  offset-line-lt : (o : ℕ) → o < b .pageWords → o / b .lineWords < pageLines b
+  offset-line-lt o h = div-lt-iff-lt-mul (reg .line-words) .1 (subst (λ (w : ℕ). o < w) (sym (reg .divides)) h)
+
+  pub lineOf-lt : (c o : ℕ) → c < b .colours → o < b .pageWords → lineOf b c o < lines b
+  unfolding lineOf lines
+  lineOf-lt c o hc ho = digits-lt hc (offset-line-lt o ho)
+
+  pub lineOf-colour : (c o : ℕ) → o < b .pageWords → lineColour b (lineOf b c o) ≡ c
+  unfolding lineOf lineColour
+  lineOf-colour c o ho = digits-div c (offset-line-lt o ho)
+
+  pub lineOf-offset : (c o : ℕ) → o < b .pageWords → lineOffset b (lineOf b c o) + o % b .lineWords ≡ o
+  unfolding lineOf lineOffset
+  lineOf-offset c o ho = ap (λ (x : ℕ). x * b .lineWords + o % b .lineWords) (digits-mod c (offset-line-lt o ho)) ∙ div-add-mod' o (b .lineWords)
+
+  pageLines-pos : 0 < pageLines b
+  pageLines-pos = let some = offset-line-lt 0 (reg .page-words) in omega arith
+
+  pub lineColour-lt : (n : ℕ) → n < lines b → lineColour b n < b .colours
+  unfolding lineColour lines
+  lineColour-lt n h = div-lt-iff-lt-mul pageLines-pos .1 h
+
+  -- a line's words lie in the page
+  pub lineOffset-end : (n : ℕ) → lineOffset b n + b .lineWords ≤ b .pageWords
+  unfolding lineOffset
+  lineOffset-end n = subst (λ (w : ℕ). lineOffset b n + b .lineWords ≤ w) (reg .divides) (after (n % pageLines b) (pageLines b) (b .lineWords) (mod-lt n pageLines-pos))
+
+  -- a word of line n is the word of its colour at its offset
+  pub lineOf-line : (n i : ℕ) → i < b .lineWords → lineOf b (lineColour b n) (lineOffset b n + i) ≡ n
+  unfolding lineOf lineColour lineOffset
+  lineOf-line n i h = ap (λ (x : ℕ). n / pageLines b * pageLines b + x) (digits-div (n % pageLines b) h) ∙ div-add-mod' n (pageLines b)
+
+  pub cacheAt-line : (n i : ℕ) → i < b .lineWords → cacheAt b (lineColour b n) (lineOffset b n + i) ≡ lineAt b n + i
+  unfolding cacheAt lineOffset
+  cacheAt-line n i h = ap₂ (λ (x y : ℕ). lineAt b x + y) (lineOf-line n i h) (digits-mod (n % pageLines b) h)
+
+  -- ---- words of the cache and of memory
+
+  -- the words of a colour lie in the cache as the offsets of a page do
+  pub cacheAt-flat : (c o : ℕ) → cacheAt b c o ≡ c * b .pageWords + o
+  unfolding cacheAt
+  cacheAt-flat c o =
+      ap (λ (x : ℕ). x + o % b .lineWords) (add-mul (c * pageLines b) (o / b .lineWords) (b .lineWords))
+      ∙ add-assoc (c * pageLines b * b .lineWords) (o / b .lineWords * b .lineWords) (o % b .lineWords)
+      ∙ ap₂ _+_ (mul-assoc c (pageLines b) (b .lineWords) ∙ ap (λ (x : ℕ). c * x) (reg .divides)) (div-add-mod' o (b .lineWords))
+
+  pub cacheAt-lt : (c o : ℕ) → c < b .colours → o < b .pageWords → cacheAt b c o < cacheWords b
+  unfolding cacheWords
+  cacheAt-lt c o hc ho = subst⁻¹ (λ (x : ℕ). x < b .colours * b .pageWords) (cacheAt-flat c o) (digits-lt hc ho)
+
+  pub lineAt-end : (n : ℕ) → n < lines b → lineAt b n + b .lineWords ≤ cacheWords b
+  unfolding lineAt lines cacheWords
+  lineAt-end n h =
+      subst (λ (w : ℕ). lineAt b n + b .lineWords ≤ w) (mul-assoc (b .colours) (pageLines b) (b .lineWords) ∙ ap (λ (x : ℕ). b .colours * x) (reg .divides))
+      (after n (lines b) (b .lineWords) h)
+
+  pub memoryAt-lt : (f o : ℕ) → f < b .frames → o < b .pageWords → memoryAt b f o < memoryWords b
+  unfolding memoryAt memoryWords
+  memoryAt-lt f o hf ho = digits-lt hf ho
+
+  pub frameAt-end : (f : ℕ) → f < b .frames → frameAt b f + b .pageWords ≤ memoryWords b
+  unfolding frameAt memoryWords
+  frameAt-end f h = after f (b .frames) (b .pageWords) h
+
+  -- a word of memory is of one frame and offset
+  pub memoryAt-frame : (f o : ℕ) → o < b .pageWords → memoryAt b f o / b .pageWords ≡ f
+  unfolding memoryAt
+  memoryAt-frame f o h = digits-div f h
+
+  pub memoryAt-offset : (f o : ℕ) → o < b .pageWords → memoryAt b f o % b .pageWords ≡ o
+  unfolding memoryAt
+  memoryAt-offset f o h = digits-mod f h
+
+  pub memoryAt-split : (i : ℕ) → memoryAt b (i / b .pageWords) (i % b .pageWords) ≡ i
+  unfolding memoryAt
+  memoryAt-split i = div-add-mod' i (b .pageWords)

@@ -1,0 +1,2 @@
+-- The laws of the geometry.
+pub mod Geometry

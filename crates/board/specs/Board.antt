@@ -1,0 +1,83 @@
+-- Document 01, "The board as modelled": the four numbers, and which line, word and colour belong to which page and offset.
+use Prim.Native.Nat.{ℕ, _+_, _*_, _/_, _%_, _<_}
+use mathlib.Core.Path.{_≡_}
+
+-- a board by its four numbers
+pub record Board : Type 0 where
+  pub pageWords : ℕ
+  pub lineWords : ℕ
+  pub colours : ℕ
+  pub frames : ℕ
+
+-- document 01's board
+abbrev pub board01 : Board
+board01 = record { pageWords = 64; lineWords = 8; colours = 8; frames = 64 }
+
+-- the address spaces, and the virtual pages of each; the same on every board
+abbrev pub spaces : ℕ
+spaces = 16
+
+abbrev pub pages : ℕ
+pages = 1024
+
+-- ---- sizes
+
+-- the lines of one page, and of the whole cache
+unfoldable pub pageLines : Board → ℕ
+pageLines b = b .pageWords / b .lineWords
+
+unfoldable pub lines : Board → ℕ
+unfolding pageLines
+lines b = b .colours * pageLines b
+
+unfoldable pub cacheWords : Board → ℕ
+cacheWords b = b .colours * b .pageWords
+
+unfoldable pub memoryWords : Board → ℕ
+memoryWords b = b .frames * b .pageWords
+
+-- ---- places
+
+-- the colour of a virtual page
+unfoldable pub colourOf : Board → ℕ → ℕ
+colourOf b page = page % b .colours
+
+-- the line in which offset o lies in colour c
+unfoldable pub lineOf : Board → ℕ → ℕ → ℕ
+unfolding pageLines
+lineOf b c o = c * pageLines b + o / b .lineWords
+
+-- the first word of line n in the cache
+unfoldable pub lineAt : Board → ℕ → ℕ
+lineAt b n = n * b .lineWords
+
+-- the word of the cache that holds offset o in colour c
+unfoldable pub cacheAt : Board → ℕ → ℕ → ℕ
+unfolding lineOf lineAt
+cacheAt b c o = lineAt b (lineOf b c o) + o % b .lineWords
+
+-- the colour that line n belongs to, and the first offset of a page that lies in it
+unfoldable pub lineColour : Board → ℕ → ℕ
+unfolding pageLines
+lineColour b n = n / pageLines b
+
+unfoldable pub lineOffset : Board → ℕ → ℕ
+unfolding pageLines
+lineOffset b n = n % pageLines b * b .lineWords
+
+-- the first word of frame f in memory, and its word at offset o
+unfoldable pub frameAt : Board → ℕ → ℕ
+frameAt b f = f * b .pageWords
+
+unfoldable pub memoryAt : Board → ℕ → ℕ → ℕ
+unfolding frameAt
+memoryAt b f o = frameAt b f + o
+
+-- ---- the boards of which the laws hold
+
+-- a board has words and colours, and its line divides its page
+pub record Regular (b : Board) : Type 0 where
+  pub line-words : 0 < b .lineWords
+  pub page-words : 0 < b .pageWords
+  pub has-colours : 0 < b .colours
+  pub divides : pageLines b * b .lineWords ≡ b .pageWords

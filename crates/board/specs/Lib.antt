@@ -1,0 +1,2 @@
+-- The board and its geometry.
+pub mod Board

@@ -1,0 +1,41 @@
+// The board: its four numbers and the lengths that follow from them.
+ghost use mathlib.Core.Path.{_≡_};
+ghost use Prim.Native.Nat.{_<_};
+ghost use Rattle.board.specs.Board.{board01, colourOf, lineOf};
+
+// Words in a page, words in a line, colours (cache pages), frames (physical pages).
+pub const PAGE_WORDS: usize = 64;
+
+pub const LINE_WORDS: usize = 8;
+
+pub const COLOURS: usize = 8;
+
+pub const FRAMES: usize = 64;
+
+pub const PAGE_LINES: usize = PAGE_WORDS / LINE_WORDS;
+
+pub const LINES: usize = COLOURS * PAGE_LINES;
+
+pub const CACHE_WORDS: usize = COLOURS * PAGE_WORDS;
+
+pub const MEMORY_WORDS: usize = FRAMES * PAGE_WORDS;
+
+// The address spaces, and the virtual pages of each.
+pub const SPACES: usize = 16;
+
+pub const PAGES: usize = 1024;
+
+// The colour of a virtual page.
+pub fn colour_of(page: usize) -> usize
+    ensures { λ r. ⌜ r ≡ colourOf board01 page ⌝ }
+{
+    page % COLOURS
+}
+
+// The cache line in which an offset of a page lies that goes through a colour.
+pub fn line_of(colour: usize, offset: usize) -> usize
+    requires { ⌜ (colour < board01 .colours) × (offset < board01 .pageWords) ⌝ }
+    ensures { λ r. ⌜ r ≡ lineOf board01 colour offset ⌝ }
+{
+    colour * PAGE_LINES + offset / LINE_WORDS
+}
