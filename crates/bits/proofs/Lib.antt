@@ -1,2 +1,3 @@
--- The laws of masks.
+-- The laws of masks, and laws of tests proved by computing them.
 pub mod Mask
+pub mod Tautology

@@ -1,25 +1,20 @@
 -- The laws of masks, for any width: what each operation does to bit k, and what the bits tell of the mask.
 use mathlib.Core.Path.{_≡_, refl, sym, ap, ap₂, _∙_, subst}
-use mathlib.Core.Bool.{Bool, true, false, not, _&&_, _||_, or-true, false≢true}
+use mathlib.Core.Bool.{Bool, true, false, not, _&&_, _||_, or-true, and-true, and-false, cond, false≢true}
 use mathlib.Core.List.{List, [], _∷_, map}
 use Prim.Native.Nat.{ℕ, zero, suc, _+_, _-_, _*_, _/_, _%_, _^_, min, max, _≤_, _<_}
 use native.Mathlib.Omega.{arith}
-use native.Mathlib.Nat.{mod-lt, pow-suc, div-one, zero-div, add-zero, one-mul}
+use native.Mathlib.Nat.{mod-lt, suc-inj, pow-suc, div-one, zero-div, mod-eq-of-lt, add-zero, one-mul}
 use native.Mathlib.Numerals.{add-one, one-add}
+use borrow.Author.Tests.{eqb-true}
 use lib.Arith.{lt-one}
-use lib.Bits.{bitAnd, bitOr, and-shr, or-shr, and-mod, or-mod}
+use lib.Bits.{bitAnd, bitOr, and-shr, or-shr, and-mod, or-mod, or-lt, and-le-l}
 use lib.Count.{ones, trailingZeros, under, ones-step, ones-cat}
 use lib.Dec.{T, eqb, lit<, eqb→eq, eqb-refl, eqb·zero-suc, eqb·suc-zero, eqb·suc-suc}
+use lib.ListN.{length, length-map}
 use lib.Pow.{pow-pos, pow-lt, shr-shr, shr-lt}
-use Rattle.bits.specs.Mask.{bit, digit, maskOf, countOf, all, any, withZero, placesOf}
-
-and-left : (a b : Bool) → (a && b) ≡ true → a ≡ true
-and-left true b e = refl
-and-left false b e = e
-
-and-right : (a b : Bool) → (a && b) ≡ true → b ≡ true
-and-right true b e = e
-and-right false b e = absurd (false≢true e)
+use Rattle.bits.proofs.Tautology.{and-left, and-right}
+use Rattle.bits.specs.Mask.{bit, withBit, withoutBit, digit, maskOf, countOf, all, any, withZero, placesOf}
 
 half-lt : {n : ℕ} (k : ℕ) → n < 2 ^ suc k → n / 2 < 2 ^ k
 half-lt {n} k h = shr-lt k 1 (subst (λ (x : ℕ). n < 2 ^ x) (sym (add-one k)) h)
@@ -149,6 +144,10 @@ pub bit-none : (k : ℕ) → bit 0 k ≡ false
 unfolding bit
 bit-none k = rw zero-div
 
+-- a shift of one within the width
+pub one-shl : (w k : ℕ) → k < w → 1 * 2 ^ k % 2 ^ w ≡ 2 ^ k
+one-shl w k h = ap (λ (x : ℕ). x % 2 ^ w) (one-mul (2 ^ k)) ∙ mod-eq-of-lt (pow-lt h)
+
 pub bit-one : (j k : ℕ) → bit (2 ^ j) k ≡ eqb j k
 bit-one zero zero = bit-zero 1
 bit-one zero (suc k) = bit-suc 1 k ∙ bit-none k ∙ sym (eqb·zero-suc k)
@@ -158,6 +157,39 @@ bit-one (suc j) zero =
 bit-one (suc j) (suc k) =
     let half : 2 ^ suc j / 2 ≡ 2 ^ j = omega (arith, pow-suc 2 j) in
     bit-suc _ k ∙ ap (λ (x : ℕ). bit x k) half ∙ bit-one j k ∙ sym (eqb·suc-suc j k)
+
+-- ---- a bit set, a bit cleared
+
+pub bit-with : (m j k : ℕ) → bit (withBit m j) k ≡ (bit m k || eqb j k)
+unfolding withBit
+bit-with m j k = bit-or m (2 ^ j) k ∙ ap (λ (b : Bool). bit m k || b) (bit-one j k)
+
+pub bit-without : (n m j k : ℕ) → j < n → k < n → bit (withoutBit n m j) k ≡ (bit m k && not (eqb j k))
+unfolding withoutBit
+bit-without n m j k lj lk =
+    bit-and m (2 ^ n - 1 - 2 ^ j) k ∙ ap (λ (b : Bool). bit m k && b) (bit-not n (2 ^ j) k (pow-lt lj) lk ∙ ap not (bit-one j k))
+
+pub with-lt : (n m j : ℕ) → m < 2 ^ n → j < n → withBit m j < 2 ^ n
+unfolding withBit
+with-lt n m j l lj = or-lt n m (2 ^ j) l (pow-lt lj)
+
+pub without-lt : (n m j : ℕ) → m < 2 ^ n → withoutBit n m j < 2 ^ n
+unfolding withoutBit
+without-lt n m j l = omega (arith, and-le-l m (2 ^ n - 1 - 2 ^ j))
+
+-- no bit, or those of m
+pub bit-cond : (b : Bool) (m k : ℕ) → bit (cond b 0 m) k ≡ (not b && bit m k)
+bit-cond true m k = bit-none k
+bit-cond false m k = refl
+
+-- ---- a test at one place
+
+pub at-place : (p : ℕ → Bool) (j k : ℕ) → (eqb j k && p k) ≡ (p j && eqb j k)
+at-place p j k = go (eqb j k) refl
+  where
+    go : (b : Bool) → eqb j k ≡ b → (b && p k) ≡ (p j && b)
+    go true e = ap p (sym (eqb-true j k e)) ∙ sym (and-true (p j))
+    go false e = sym (and-false (p j))
 
 -- ---- the only bit
 
@@ -247,3 +279,18 @@ places-one (suc n) zero p l h =
     ap₂ withZero (h 0 l) (ap (map suc) (places-none n (λ k. p (suc k)) (λ k j. h (suc k) (omega arith) ∙ eqb·zero-suc k)))
 places-one (suc n) (suc d) p l h =
     ap₂ withZero (h 0 (omega arith) ∙ eqb·suc-zero d) (ap (map suc) (places-one n d (λ k. p (suc k)) (omega arith) (λ k j. h (suc k) (omega arith) ∙ eqb·suc-suc d k)))
+
+-- places that p picks are few if p picks no two
+pub places-few : (n : ℕ) (p : ℕ → Bool) → ((j k : ℕ) → j < n → k < n → p j ≡ true → p k ≡ true → j ≡ k) → length (placesOf n p) ≤ 1
+unfolding placesOf
+places-few zero p h = omega arith
+places-few (suc n) p h =
+    first (p 0) refl (places-few n (λ k. p (suc k)) (λ j k lj lk ej ek. suc-inj (h (suc j) (suc k) (omega arith) (omega arith) ej ek)))
+  where
+    later : p 0 ≡ true → (k : ℕ) (b : Bool) → k < n → p (suc k) ≡ b → p (suc k) ≡ false
+    later z k true l e = absurd (let x = h 0 (suc k) (omega arith) (omega arith) z e in omega arith)
+    later z k false l e = e
+
+    first : (b : Bool) → p 0 ≡ b → length (placesOf n (λ k. p (suc k))) ≤ 1 → length (withZero b (map suc (placesOf n (λ k. p (suc k))))) ≤ 1
+    first true z ih = simp (places-none n (λ k. p (suc k)) (λ k l. later z k (p (suc k)) l refl)) (omega arith)
+    first false z ih = omega (arith, length-map (placesOf n (λ k. p (suc k))) suc)

@@ -1,0 +1,18 @@
+-- `bits::has` meets its contract.
+use borrow.Author.Needs.{needs}
+use Rattle.bits.specs.Mask.{bit}
+use Rattle.bits.proofs.has.Statement.{statement}
+use Rattle.bits.proofs.has.Tie as tie
+
+cast-result : tie.Need-cast-result
+cast-result c = search needs
+
+shr-result : tie.Need-shr-result
+shr-result c = search needs
+
+returns : tie.Need-returns
+unfolding bit
+returns c = search needs
+
+pub has-spec : {M : Type 1} → statement M
+has-spec = tie.close (tie.spec cast-result shr-result returns)
