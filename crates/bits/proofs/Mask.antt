@@ -6,14 +6,14 @@ use Prim.Native.Nat.{ℕ, zero, suc, _+_, _-_, _*_, _/_, _%_, _^_, min, max, _�
 use native.Mathlib.Omega.{arith}
 use native.Mathlib.Nat.{mod-lt, suc-inj, pow-suc, div-one, zero-div, mod-eq-of-lt, add-zero, one-mul}
 use native.Mathlib.Numerals.{add-one, one-add}
-use borrow.Author.Tests.{eqb-true}
+use borrow.Author.Tests.{eqb-true, eq-eqb, not-true}
 use lib.Arith.{lt-one}
 use lib.Bits.{bitAnd, bitOr, and-shr, or-shr, and-mod, or-mod, or-lt, and-le-l}
 use lib.Count.{ones, trailingZeros, under, ones-step, ones-cat}
 use lib.Dec.{T, eqb, lit<, eqb→eq, eqb-refl, eqb·zero-suc, eqb·suc-zero, eqb·suc-suc}
 use lib.ListN.{length, length-map}
 use lib.Pow.{pow-pos, pow-lt, shr-shr, shr-lt}
-use Rattle.bits.proofs.Tautology.{and-left, and-right}
+use Rattle.bits.proofs.Tautology.{and-left, and-right, iff}
 use Rattle.bits.specs.Mask.{bit, withBit, withoutBit, digit, maskOf, countOf, all, any, withZero, placesOf}
 
 half-lt : {n : ℕ} (k : ℕ) → n < 2 ^ suc k → n / 2 < 2 ^ k
@@ -30,12 +30,12 @@ unfolding bit
 bit-suc m k = ap (λ (x : ℕ). eqb (x % 2) 1) (ap (λ (x : ℕ). m / 2 ^ x) (sym (one-add k)) ∙ sym (shr-shr m 1 k))
 
 -- a digit, and the test that it is 1
-digit-eqb : (x : ℕ) → x < 2 → digit (eqb x 1) ≡ x
+pub digit-eqb : (x : ℕ) → x < 2 → digit (eqb x 1) ≡ x
 digit-eqb zero h = refl
 digit-eqb (suc zero) h = refl
 digit-eqb (suc (suc x)) h = absurd (omega arith)
 
-eqb-digit : (b : Bool) → eqb (digit b) 1 ≡ b
+pub eqb-digit : (b : Bool) → eqb (digit b) 1 ≡ b
 eqb-digit true = refl
 eqb-digit false = refl
 
@@ -247,6 +247,19 @@ unfolding all
 all-of zero p h = refl
 all-of (suc n) p h = ap₂ _&&_ (h 0 (omega arith)) (all-of n (λ k. p (suc k)) (λ k l. h (suc k) (omega arith)))
 
+-- two masks share no bit exactly if their and is 0
+pub disjoint-all : (n a b : ℕ) → a < 2 ^ n → all n (λ k. not (bit a k && bit b k)) ≡ eqb (bitAnd a b) 0
+disjoint-all n a b l =
+    iff _ _
+    (λ e. eq-eqb _ 0 (mask-ext n (bitAnd a b) 0 (omega (arith, and-le-l a b)) (pow-pos n)
+    (λ k lk. bit-and a b k ∙ not-true _ (all-at n _ e k lk) ∙ sym (bit-none k))))
+    (λ e. all-of n _ (λ k lk. ap not (sym (bit-and a b k) ∙ ap (λ (m : ℕ). bit m k) (eqb-true (bitAnd a b) 0 e) ∙ bit-none k)))
+
+pub any-cong : (n : ℕ) (p q : ℕ → Bool) → ((k : ℕ) → k < n → p k ≡ q k) → any n p ≡ any n q
+unfolding any
+any-cong zero p q h = refl
+any-cong (suc n) p q h = ap₂ _||_ (h 0 (omega arith)) (any-cong n (λ k. p (suc k)) (λ k. q (suc k)) (λ k l. h (suc k) (omega arith)))
+
 pub any-none : (n : ℕ) (p : ℕ → Bool) → ((k : ℕ) → k < n → p k ≡ false) → any n p ≡ false
 unfolding any
 any-none zero p h = refl
@@ -266,6 +279,11 @@ any-at (suc n) p e = go (p 0) refl (any-at n (λ k. p (suc k)))
     go : (b : Bool) → p 0 ≡ b → (any n (λ k. p (suc k)) ≡ true → (k : ℕ) × (k < n) × (p (suc k) ≡ true)) → (k : ℕ) × (k < suc n) × (p k ≡ true)
     go true z rest = (0, omega arith, z)
     go false z rest = let r = rest (ap (λ (b : Bool). b || any n (λ k. p (suc k))) (sym z) ∙ e) in (suc (r .0), omega arith, r .2)
+
+-- a test that picks d alone, and that under b
+pub any-one : (n d : ℕ) (b : Bool) (p : ℕ → Bool) → d < n → ((k : ℕ) → k < n → p k ≡ (b && eqb d k)) → any n p ≡ b
+any-one n d true p l h = any-of n p d l (h d l ∙ eq-eqb d d refl)
+any-one n d false p l h = any-none n p h
 
 pub places-none : (n : ℕ) (p : ℕ → Bool) → ((k : ℕ) → k < n → p k ≡ false) → placesOf n p ≡ []
 unfolding placesOf

@@ -1,5 +1,5 @@
 -- A law of up to four tests, proved by computing it at all their values.
-use mathlib.Core.Path.{_≡_, refl, sym, _∙_}
+use mathlib.Core.Path.{_≡_, refl, sym}
 use mathlib.Core.Bool.{Bool, true, false, not, _&&_, _||_, Bool·beq, false≢true}
 
 pub and-left : (a b : Bool) → (a && b) ≡ true → a ≡ true
@@ -9,6 +9,12 @@ and-left false b e = e
 pub and-right : (a b : Bool) → (a && b) ≡ true → b ≡ true
 and-right true b e = e
 and-right false b e = absurd (false≢true e)
+
+-- two tests that hold together are equal
+pub iff : (a b : Bool) → (a ≡ true → b ≡ true) → (b ≡ true → a ≡ true) → a ≡ b
+iff true b f g = sym (f refl)
+iff false true f g = g refl
+iff false false f g = refl
 
 abbrev pub both : (Bool → Bool) → Bool
 both p = p true && p false
@@ -22,6 +28,12 @@ beq-true true true e = refl
 beq-true true false e = sym e
 beq-true false true e = e
 beq-true false false e = refl
+
+pub beq-of : (a b : Bool) → a ≡ b → Bool·beq a b ≡ true
+beq-of true true e = refl
+beq-of true false e = sym e
+beq-of false true e = e
+beq-of false false e = refl
 
 -- where given holds, left and right are equal
 abbrev pub equalIf : Bool → Bool → Bool → Bool

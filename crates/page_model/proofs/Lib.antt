@@ -1,0 +1,4 @@
+-- The page model's laws and theorems.
+pub mod Rules
+pub mod Steps
+pub mod Theorems

@@ -1,0 +1,28 @@
+-- `page_model::in_order` meets its contract.
+use mathlib.Core.Path.{sym}
+use Rattle.page_model.proofs.Steps.{ops-one, ops-two}
+use borrow.Author.Needs.{needs}
+use Rattle.page_model.proofs.in_order.Statement.{statement}
+use Rattle.page_model.proofs.in_order.Tie as tie
+
+enum-told : tie.Need-enum-told
+enum-told c = search needs
+
+enum-known-flush : tie.Need-enum-known-flush
+enum-known-flush c = search needs
+
+enum-known-flush-2 : tie.Need-enum-known-flush-2
+enum-known-flush-2 c = search needs
+
+returns : tie.Need-returns
+returns c = rw (c .enum-told .given .1) (sym (ops-one _))
+
+returns-2 : tie.Need-returns-2
+returns-2 c = rw (c .before .flush .given .1) (sym (ops-two _ _))
+
+returns-3 : tie.Need-returns-3
+returns-3 c = rw (c .before .flush2 .given .1) (sym (ops-two _ _))
+
+pub in-order-spec : {M : Type 1} → statement M
+in-order-spec =
+    tie.close (tie.spec enum-told enum-known-flush enum-known-flush-2 returns returns-2 returns-3)

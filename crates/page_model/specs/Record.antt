@@ -1,0 +1,59 @@
+-- Document 01, "Frame records and mapping list": what a frame's record says of each colour, when it keeps the rules, and the record that
+-- states encode to. For any number n of colours.
+use mathlib.Core.Bool.{Bool, true, false, not, _&&_, _||_}
+use Prim.Native.Nat.{ℕ, _^_}
+use lib.Dec.{eqb, leb, ltb}
+use Rattle.bits.specs.Mask.{bit, digit, maskOf, countOf, all, any}
+use Rattle.page_model.specs.declared.FrameRecord.{FrameRecord}
+use Rattle.page_model.specs.Table.{ColourState, empty, present, dirty, stale}
+
+-- ---- decoding
+
+-- the state that a colour's stale bit, its held bit and the record's flag say
+abbrev pub stateFrom : Bool → Bool → Bool → ColourState
+stateFrom true held flag = stale
+stateFrom false true true = dirty
+stateFrom false true false = present
+stateFrom false false flag = empty
+
+unfoldable pub stateOf : FrameRecord → ℕ → ColourState
+stateOf r k = stateFrom (bit (r .stale) k) (bit (r .held) k) (eqb (r .dirty) 1)
+
+-- ---- the rules
+
+-- No bit stands past the colours, none in both masks, the flag is 0 or 1, and with the flag set the held mask has exactly one bit.
+unfoldable pub keepsRules : ℕ → FrameRecord → Bool
+keepsRules n r =
+    ltb (r .held) (2 ^ n) && ltb (r .stale) (2 ^ n)
+    && all n (λ k. not (bit (r .held) k && bit (r .stale) k))
+    && leb (r .dirty) 1
+    && (not (eqb (r .dirty) 1) || eqb (countOf n (bit (r .held))) 1)
+
+-- ---- encoding
+
+abbrev pub isHeld : ColourState → Bool
+isHeld empty = false
+isHeld present = true
+isHeld dirty = true
+isHeld stale = false
+
+abbrev pub isDirty : ColourState → Bool
+isDirty empty = false
+isDirty present = false
+isDirty dirty = true
+isDirty stale = false
+
+abbrev pub isStale : ColourState → Bool
+isStale empty = false
+isStale present = false
+isStale dirty = false
+isStale stale = true
+
+-- the record of a frame whose colours are in these states
+unfoldable pub encode : ℕ → (ℕ → ColourState) → FrameRecord
+encode n states =
+    record {
+      held = maskOf n (λ k. isHeld (states k));
+      stale = maskOf n (λ k. isStale (states k));
+      dirty = digit (any n (λ k. isDirty (states k)));
+    }

@@ -1,0 +1,81 @@
+-- Document 01, "The page model": both tables, cell by cell, in its order of steps and states.
+use mathlib.Core.Bool.{Bool, true, false}
+use Prim.Native.Nat.{ℕ}
+use lib.Dec.{eqb}
+
+infix 30 _⇒_
+-- The state of one colour of a frame. Document 01 calls present "held".
+pub data ColourState : Type 0 where
+  empty present dirty stale : ColourState
+
+-- What the cache is to do with one colour of a frame. Document 01 calls this an order.
+pub data Order : Type 0 where
+  none flush purge : Order
+
+-- A cell of a table: the order, and the state after it.
+pub record Cell : Type 0 where
+  pub order : Order
+  pub next : ColourState
+
+abbrev pub _⇒_ : Order → ColourState → Cell
+o ⇒ s = record { order = o; next = s }
+
+-- Whether a colour is the one that the step goes through.
+pub data Role : Type 0 where
+  own other : Role
+
+-- ---- the processor's steps
+
+abbrev pub readCell : Role → ColourState → Cell
+readCell own empty = none ⇒ present
+readCell own present = none ⇒ present
+readCell own dirty = none ⇒ dirty
+readCell own stale = purge ⇒ present
+readCell other empty = none ⇒ empty
+readCell other present = none ⇒ present
+readCell other dirty = flush ⇒ empty
+readCell other stale = none ⇒ stale
+
+abbrev pub writeCell : Role → ColourState → Cell
+writeCell own empty = none ⇒ dirty
+writeCell own present = none ⇒ dirty
+writeCell own dirty = none ⇒ dirty
+writeCell own stale = purge ⇒ dirty
+writeCell other empty = none ⇒ empty
+writeCell other present = none ⇒ stale
+writeCell other dirty = flush ⇒ empty
+writeCell other stale = none ⇒ stale
+
+-- ---- transfers, the same for every colour
+
+-- memory to device
+abbrev pub deviceReadCell : ColourState → Cell
+deviceReadCell empty = none ⇒ empty
+deviceReadCell present = none ⇒ present
+deviceReadCell dirty = flush ⇒ empty
+deviceReadCell stale = none ⇒ stale
+
+-- device to memory
+abbrev pub deviceWriteCell : ColourState → Cell
+deviceWriteCell empty = none ⇒ empty
+deviceWriteCell present = none ⇒ stale
+deviceWriteCell dirty = purge ⇒ empty
+deviceWriteCell stale = none ⇒ stale
+
+-- ---- a step
+
+-- A processor's step goes through a colour; a transfer concerns all colours alike.
+pub data Step : Type 0 where
+  read write : ℕ → Step
+  deviceRead deviceWrite : Step
+
+abbrev pub roleIf : Bool → Role
+roleIf true = own
+roleIf false = other
+
+-- the cell at colour k, which is in state s
+abbrev pub cellAt : Step → ℕ → ColourState → Cell
+cellAt (read c) k s = readCell (roleIf (eqb c k)) s
+cellAt (write c) k s = writeCell (roleIf (eqb c k)) s
+cellAt deviceRead k s = deviceReadCell s
+cellAt deviceWrite k s = deviceWriteCell s

@@ -1,0 +1,194 @@
+// The page model: a frame's record, and what each step makes of it.
+ghost use mathlib.Core.Path.{_≡_};
+ghost use mathlib.Core.Bool.{true, _&&_, cond};
+ghost use mathlib.Core.List.{_++_};
+ghost use lib.Count.{trailingZeros};
+ghost use lib.Dec.{eqb};
+ghost use Rattle.bits.specs.Mask.{bit};
+ghost use Prim.Native.Nat.{_<_};
+ghost use Rattle.board.specs.Board.{board01};
+ghost use Rattle.page_model.specs.Record.{keepsRules};
+ghost use Rattle.page_model.specs.Step.{stepped, steppedTo, firstTwo, opList};
+ghost use Rattle.page_model.specs.Table.{read, write, deviceRead, deviceWrite};
+
+// An operation that the cache is to carry out on one colour of a frame: document 01's order.
+pub enum Op {
+    None,
+    Flush(usize),
+    Purge(usize),
+}
+
+// The operations of one step, in order; None stands last.
+pub struct Ops {
+    pub first: Op,
+    pub second: Op,
+}
+
+// What is known of a frame in the cache: bit c of a mask stands for colour c, and dirty is 0 or 1.
+pub struct FrameRecord {
+    pub held: u8,
+    pub stale: u8,
+    pub dirty: u8,
+}
+
+// The record after a step, and the operations that come first.
+pub struct Stepped {
+    pub next: FrameRecord,
+    pub ops: Ops,
+}
+
+impl FrameRecord {
+    // Whether the record keeps the rules: no bit in both masks, and with the flag set one held bit.
+    pub fn keeps_rules(self) -> bool
+        ensures { λ r. ⌜ r ≡ keepsRules (board01 .colours) self ⌝ }
+    {
+        if self.held & self.stale != 0 {
+            return false;
+        }
+        if self.dirty == 0 {
+            return true;
+        }
+        self.dirty == 1 && u8::count_ones(self.held) == 1
+    }
+
+    // The processor reads through a colour.
+    pub fn read(self, colour: usize) -> Stepped
+        requires { ⌜ (keepsRules (board01 .colours) self ≡ true) × (colour < board01 .colours) ⌝ }
+        ensures { λ r. ⌜ r ≡ stepped (board01 .colours) (read colour) self ⌝ }
+    {
+        if bits::has(self.held, colour) {
+            return Stepped::to(self.held, self.stale, self.dirty, Op::None, Op::None);
+        }
+        let held = bits::with(self.clean(), colour);
+        let stale = bits::without(self.stale, colour);
+        Stepped::to(held, stale, 0, self.flush_dirty(), self.purge_stale(colour))
+    }
+
+    // The processor writes through a colour.
+    pub fn write(self, colour: usize) -> Stepped
+        requires { ⌜ (keepsRules (board01 .colours) self ≡ true) × (colour < board01 .colours) ⌝ }
+        ensures { λ r. ⌜ r ≡ stepped (board01 .colours) (write colour) self ⌝ }
+    {
+        if self.is_dirty(colour) {
+            return Stepped::to(self.held, self.stale, self.dirty, Op::None, Op::None);
+        }
+        let held = bits::with(0, colour);
+        let stale = bits::without(self.stale | self.clean(), colour);
+        Stepped::to(held, stale, 1, self.flush_dirty(), self.purge_stale(colour))
+    }
+
+    // A device reads the frame's page from memory.
+    pub fn device_read(self) -> Stepped
+        requires { ⌜ keepsRules (board01 .colours) self ≡ true ⌝ }
+        ensures { λ r. ⌜ r ≡ stepped (board01 .colours) deviceRead self ⌝ }
+    {
+        Stepped::to(self.clean(), self.stale, 0, self.flush_dirty(), Op::None)
+    }
+
+    // A device writes the frame's page in memory.
+    pub fn device_write(self) -> Stepped
+        requires { ⌜ keepsRules (board01 .colours) self ≡ true ⌝ }
+        ensures { λ r. ⌜ r ≡ stepped (board01 .colours) deviceWrite self ⌝ }
+    {
+        Stepped::to(
+            0,
+            self.stale | self.clean(),
+            0,
+            Op::None,
+            self.purge_dirty(),
+        )
+    }
+
+    // Whether a colour is dirty.
+    fn is_dirty(self, colour: usize) -> bool
+        requires { ⌜ colour < board01 .colours ⌝ }
+        ensures { λ r. ⌜ r ≡ (eqb (self .dirty) 1 && bit (self .held) colour) ⌝ }
+    {
+        if self.dirty == 1 {
+            bits::has(self.held, colour)
+        } else {
+            false
+        }
+    }
+
+    // The colours that are present: those held, unless the one held is dirty.
+    fn clean(self) -> u8
+        ensures { λ r. ⌜ r ≡ cond (eqb (self .dirty) 1) 0 (self .held) ⌝ }
+    {
+        if self.dirty == 1 { 0 } else { self.held }
+    }
+
+    // The colour that is held, where one is dirty.
+    fn dirty_colour(self) -> usize
+        ensures { λ r. ⌜ r ≡ trailingZeros 8 (self .held) ⌝ }
+    {
+        u8::trailing_zeros(self.held) as usize
+    }
+
+    // The flush of the dirty colour, if there is one.
+    fn flush_dirty(self) -> Op
+        ensures { λ r. ⌜ r ≡ cond (eqb (self .dirty) 1) (Op.Flush (trailingZeros 8 (self .held))) Op.None ⌝ }
+    {
+        if self.dirty == 1 {
+            Op::Flush(self.dirty_colour())
+        } else {
+            Op::None
+        }
+    }
+
+    // The purge of the dirty colour, if there is one.
+    fn purge_dirty(self) -> Op
+        ensures { λ r. ⌜ r ≡ cond (eqb (self .dirty) 1) (Op.Purge (trailingZeros 8 (self .held))) Op.None ⌝ }
+    {
+        if self.dirty == 1 {
+            Op::Purge(self.dirty_colour())
+        } else {
+            Op::None
+        }
+    }
+
+    // The purge of a colour, if it is stale.
+    fn purge_stale(self, colour: usize) -> Op
+        requires { ⌜ colour < board01 .colours ⌝ }
+        ensures { λ r. ⌜ r ≡ cond (bit (self .stale) colour) (Op.Purge colour) Op.None ⌝ }
+    {
+        if bits::has(self.stale, colour) {
+            Op::Purge(colour)
+        } else {
+            Op::None
+        }
+    }
+}
+
+impl Stepped {
+    // The record of two masks and a flag, after at most a flush and a purge.
+    fn to(held: u8, stale: u8, dirty: u8, flush: Op, purge: Op) -> Stepped
+        ensures { λ r. ⌜ r ≡ steppedTo held stale dirty flush purge ⌝ }
+    {
+        let ops = in_order(flush, purge);
+        Stepped {
+            next: FrameRecord { held, stale, dirty },
+            ops,
+        }
+    }
+}
+
+// Two operations, either of which may be None, in order.
+fn in_order(flush: Op, purge: Op) -> Ops
+    ensures { λ r. ⌜ r ≡ firstTwo (opList flush ++ opList purge) ⌝ }
+{
+    match flush {
+        Op::None => Ops {
+            first: purge,
+            second: Op::None,
+        },
+        Op::Flush(c) => Ops {
+            first: Op::Flush(c),
+            second: purge,
+        },
+        Op::Purge(c) => Ops {
+            first: Op::Purge(c),
+            second: purge,
+        },
+    }
+}
