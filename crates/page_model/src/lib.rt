@@ -57,11 +57,13 @@ impl FrameRecord {
         ensures { λ r. ⌜ r ≡ stepped (board01 .colours) (read colour) self ⌝ }
     {
         if bits::has(self.held, colour) {
-            return Stepped::to(self.held, self.stale, self.dirty, Op::None, Op::None);
+            return self.unchanged();
         }
+        let flush = self.if_dirty(Op::Flush(self.dirty_colour()));
+        let purge = self.purge_stale(colour);
         let held = bits::with(self.clean(), colour);
         let stale = bits::without(self.stale, colour);
-        Stepped::to(held, stale, 0, self.flush_dirty(), self.purge_stale(colour))
+        Stepped::to(held, stale, 0, flush, purge)
     }
 
     // The processor writes through a colour.
@@ -70,11 +72,13 @@ impl FrameRecord {
         ensures { λ r. ⌜ r ≡ stepped (board01 .colours) (write colour) self ⌝ }
     {
         if self.is_dirty(colour) {
-            return Stepped::to(self.held, self.stale, self.dirty, Op::None, Op::None);
+            return self.unchanged();
         }
+        let flush = self.if_dirty(Op::Flush(self.dirty_colour()));
+        let purge = self.purge_stale(colour);
         let held = bits::with(0, colour);
         let stale = bits::without(self.stale | self.clean(), colour);
-        Stepped::to(held, stale, 1, self.flush_dirty(), self.purge_stale(colour))
+        Stepped::to(held, stale, 1, flush, purge)
     }
 
     // A device reads the frame's page from memory.
@@ -82,7 +86,9 @@ impl FrameRecord {
         requires { ⌜ keepsRules (board01 .colours) self ≡ true ⌝ }
         ensures { λ r. ⌜ r ≡ stepped (board01 .colours) deviceRead self ⌝ }
     {
-        Stepped::to(self.clean(), self.stale, 0, self.flush_dirty(), Op::None)
+        let dirty = self.dirty_colour();
+        let flush = self.if_dirty(Op::Flush(dirty));
+        Stepped::to(self.clean(), self.stale, 0, flush, Op::None)
     }
 
     // A device writes the frame's page in memory.
@@ -90,13 +96,16 @@ impl FrameRecord {
         requires { ⌜ keepsRules (board01 .colours) self ≡ true ⌝ }
         ensures { λ r. ⌜ r ≡ stepped (board01 .colours) deviceWrite self ⌝ }
     {
-        Stepped::to(
-            0,
-            self.stale | self.clean(),
-            0,
-            Op::None,
-            self.purge_dirty(),
-        )
+        let dirty = self.dirty_colour();
+        let purge = self.if_dirty(Op::Purge(dirty));
+        Stepped::to(0, self.stale | self.clean(), 0, Op::None, purge)
+    }
+
+    // No operation, and the record as it is.
+    fn unchanged(self) -> Stepped
+        ensures { λ r. ⌜ r ≡ steppedTo (self .held) (self .stale) (self .dirty) Op.None Op.None ⌝ }
+    {
+        Stepped::to(self.held, self.stale, self.dirty, Op::None, Op::None)
     }
 
     // Whether a colour is dirty.
@@ -125,26 +134,11 @@ impl FrameRecord {
         u8::trailing_zeros(self.held) as usize
     }
 
-    // The flush of the dirty colour, if there is one.
-    fn flush_dirty(self) -> Op
-        ensures { λ r. ⌜ r ≡ cond (eqb (self .dirty) 1) (Op.Flush (trailingZeros 8 (self .held))) Op.None ⌝ }
+    // An operation on the dirty colour, if there is one.
+    fn if_dirty(self, op: Op) -> Op
+        ensures { λ r. ⌜ r ≡ cond (eqb (self .dirty) 1) op Op.None ⌝ }
     {
-        if self.dirty == 1 {
-            Op::Flush(self.dirty_colour())
-        } else {
-            Op::None
-        }
-    }
-
-    // The purge of the dirty colour, if there is one.
-    fn purge_dirty(self) -> Op
-        ensures { λ r. ⌜ r ≡ cond (eqb (self .dirty) 1) (Op.Purge (trailingZeros 8 (self .held))) Op.None ⌝ }
-    {
-        if self.dirty == 1 {
-            Op::Purge(self.dirty_colour())
-        } else {
-            Op::None
-        }
+        if self.dirty == 1 { op } else { Op::None }
     }
 
     // The purge of a colour, if it is stale.

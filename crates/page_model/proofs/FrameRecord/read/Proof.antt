@@ -1,6 +1,6 @@
 -- `page_model::read` meets its contract.
-use mathlib.Core.Path.{sym, _∙_}
 use Rattle.page_model.proofs.Rules.{keeps}
+use Rattle.page_model.specs.Table.{read}
 use Rattle.page_model.proofs.Steps.{idle-step, read-idle, read-step}
 use borrow.Author.Needs.{needs}
 use Rattle.page_model.proofs.FrameRecord.read.Statement.{statement}
@@ -9,11 +9,22 @@ use Rattle.page_model.proofs.FrameRecord.read.Tie as tie
 has-requires : tie.Need-has-requires
 has-requires c κs = search needs
 
-to-requires : tie.Need-to-requires
-to-requires c κs = search needs
+unchanged-requires : tie.Need-unchanged-requires
+unchanged-requires c κs = search needs
 
 returns : tie.Need-returns
-returns c = c .to .ensures ∙ idle-step 8 _ _ (read-idle 8 _ (keeps 8 _ (c .before .before .before .pre .0)) _ (c .before .before .before .pre .1) (sym (c .before .before .has .ensures) ∙ c .before .if1 .taken))
+returns c =
+    let s = c .before .before .before in
+    cc (idle-step 8 (read (s .args .colour)) (s .args .self) (read-idle 8 _ (keeps 8 _ (s .pre .0)) _ (s .pre .1) (cc)))
+
+dirty-colour-requires : tie.Need-dirty-colour-requires
+dirty-colour-requires c κs = search needs
+
+if-dirty-requires : tie.Need-if-dirty-requires
+if-dirty-requires c κs = search needs
+
+purge-stale-requires : tie.Need-purge-stale-requires
+purge-stale-requires c κs = search needs
 
 clean-requires : tie.Need-clean-requires
 clean-requires c κs = search needs
@@ -24,29 +35,26 @@ with-requires c κs = search needs
 without-requires : tie.Need-without-requires
 without-requires c κs = search needs
 
-flush-dirty-requires : tie.Need-flush-dirty-requires
-flush-dirty-requires c κs = search needs
-
-purge-stale-requires : tie.Need-purge-stale-requires
-purge-stale-requires c κs = search needs
-
-to-requires-2 : tie.Need-to-requires-2
-to-requires-2 c κs = search needs
+to-requires : tie.Need-to-requires
+to-requires c κs = search needs
 
 returns-2 : tie.Need-returns-2
-returns-2 c = c .to2 .ensures ∙ rw (c .before .purge-stale .ensures, c .before .before .flush-dirty .ensures, c .before .before .before .without .ensures, c .before .before .before .before .with .ensures, c .before .before .before .before .before .clean .ensures) (read-step 8 _ (keeps 8 _ (c .before .before .before .before .before .before .before .before .pre .0)) _ (c .before .before .before .before .before .before .before .before .pre .1) (sym (c .before .before .before .before .before .before .before .has .ensures) ∙ c .before .before .before .before .before .before .if1 .left))
+returns-2 c =
+    let s = c .before .before .before .before .before .before .before .before .before in
+    cc (read-step 8 (s .args .self) (keeps 8 _ (s .pre .0)) (s .args .colour) (s .pre .1) (cc))
 
 pub read-spec : {M : Type 1} → statement M
 read-spec =
     tie.close
     (tie.spec
     has-requires
-    to-requires
+    unchanged-requires
     returns
+    dirty-colour-requires
+    if-dirty-requires
+    purge-stale-requires
     clean-requires
     with-requires
     without-requires
-    flush-dirty-requires
-    purge-stale-requires
-    to-requires-2
+    to-requires
     returns-2)
