@@ -1,4 +1,5 @@
 -- `page_model::device_read` meets its contract.
+use mathlib.Core.Path.{_∙_}
 use Rattle.page_model.proofs.Rules.{keeps}
 use Rattle.page_model.proofs.Steps.{device-read-step}
 use borrow.Author.Needs.{needs}
@@ -19,8 +20,9 @@ to-requires c κs = search needs
 
 returns : tie.Need-returns
 returns c =
-    let s = c .before .before .before .before in
-    cc (device-read-step 8 (s .args .self) (keeps 8 _ (s .pre)))
+    let at-if = c .before .before in
+    let s = at-if .before .before in
+    c .to .ensures ∙ simp (c .before .clean .ensures, at-if .if-dirty .ensures, at-if .before .dirty-colour .ensures) (device-read-step 8 _ (keeps 8 _ (s .pre)))
 
 pub device-read-spec : {M : Type 1} → statement M
 device-read-spec =

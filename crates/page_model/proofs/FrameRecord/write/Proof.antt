@@ -1,6 +1,6 @@
 -- `page_model::FrameRecord::write` meets its contract.
+use mathlib.Core.Path.{sym, _∙_}
 use borrow.Author.Needs.{needs}
-use Rattle.page_model.specs.Table.{write}
 use Rattle.page_model.proofs.Rules.{keeps}
 use Rattle.page_model.proofs.Steps.{idle-step, write-idle, write-step}
 use Rattle.page_model.proofs.FrameRecord.write.Statement.{statement}
@@ -15,7 +15,7 @@ unchanged-requires c κs = search needs
 returns : tie.Need-returns
 returns c =
     let s = c .before .before .before in
-    cc (idle-step 8 (write (s .args .colour)) (s .args .self) (write-idle 8 _ (keeps 8 _ (s .pre .0)) _ (s .pre .1) (cc)))
+    c .unchanged .ensures ∙ idle-step 8 _ _ (write-idle 8 _ (keeps 8 _ (s .pre .0)) _ (s .pre .1) (sym (c .before .before .is-dirty .ensures) ∙ c .before .if1 .taken))
 
 dirty-colour-requires : tie.Need-dirty-colour-requires
 dirty-colour-requires c κs = search needs
@@ -40,8 +40,18 @@ to-requires c κs = search needs
 
 returns-2 : tie.Need-returns-2
 returns-2 c =
-    let s = c .before .before .before .before .before .before .before .before .before .before in
-    cc (write-step 8 (s .args .self) (keeps 8 _ (s .pre .0)) (s .args .colour) (s .pre .1) (cc))
+    let at-without = c .before in
+    let at-clean = at-without .before .before in
+    let at-with = at-clean .before in
+    let at-purge = at-with .before in
+    let at-if = at-purge .before in
+    let at-colour = at-if .before in
+    let at-else = at-colour .before in
+    let s = at-else .before .before in
+    c .to .ensures
+    ∙ simp
+    (at-without .without .ensures, at-clean .clean .ensures, at-with .with .ensures, at-purge .purge-stale .ensures, at-if .if-dirty .ensures, at-colour .dirty-colour .ensures)
+    (write-step 8 _ (keeps 8 _ (s .pre .0)) _ (s .pre .1) (sym (at-else .before .is-dirty .ensures) ∙ at-else .if1 .left))
 
 pub write-spec : {M : Type 1} → statement M
 write-spec =
