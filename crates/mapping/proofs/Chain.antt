@@ -1,0 +1,22 @@
+-- Chains of tests.
+use mathlib.Core.Path.{_≡_, refl, sym, _∙_}
+use mathlib.Core.Bool.{Bool, true, false, _&&_, _||_}
+use Prim.Native.Nat.{ℕ, _<_}
+use Rattle.bits.specs.Mask.{all}
+use Rattle.bits.proofs.Mask.{all-at}
+
+-- a chain of tests that hold comes down to the last
+pub last : (a b c d e : Bool) → a ≡ true → b ≡ true → c ≡ true → e ≡ d → e ≡ (a && b && c && d)
+last a b c d e p q r s = simp (p, q, r) s
+
+-- one of two, where the first does not hold
+pub second : (a b : Bool) → a ≡ false → b ≡ (a || b)
+second a b p = simp p
+
+-- one place that fails makes the test of all fail
+pub all-not : (n : ℕ) (p : ℕ → Bool) (k : ℕ) → k < n → p k ≡ false → all n p ≡ false
+all-not n p k l e = go (all n p) refl
+  where
+    go : (t : Bool) → all n p ≡ t → t ≡ false
+    go true z = sym (all-at n p z k l) ∙ e
+    go false z = refl

@@ -1,0 +1,2 @@
+-- What the functions' proofs and the callers cite: chains of tests, places, and the laws of the list.
+pub mod Chain

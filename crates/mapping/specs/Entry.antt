@@ -1,0 +1,40 @@
+-- Document 01, "Frame records and mapping list": one mapping, and the mapping at a place of the list.
+use mathlib.Core.Bool.{Bool, _&&_, _||_}
+use Prim.Native.Nat.{ℕ}
+use lib.Dec.{eqb, ltb}
+use lib.ListN.{getD}
+use Rattle.board.specs.Board.{Board, spaces, pages}
+use Rattle.mapping.specs.declared.Mapping.{Mapping}
+use Rattle.mapping.specs.declared.MappingList.{MappingList}
+
+-- how many records the list has
+abbrev pub capacity : ℕ
+capacity = 256
+
+-- the two rights
+abbrev pub readOnly : ℕ
+readOnly = 1
+
+abbrev pub readWrite : ℕ
+readWrite = 2
+
+-- the record of a place that holds no mapping
+abbrev pub zeroMapping : Mapping
+zeroMapping = record { space = 0; page = 0; frame = 0; rights = 0 }
+
+-- whether space, page, frame and rights lie in their ranges
+unfoldable pub inRange : Board → Mapping → Bool
+inRange b m =
+    ltb (m .space) spaces && ltb (m .page) pages && ltb (m .frame) (b .frames) && (eqb (m .rights) readOnly || eqb (m .rights) readWrite)
+
+-- whether all fields are 0
+unfoldable pub isZero : Mapping → Bool
+isZero m = eqb (m .space) 0 && eqb (m .page) 0 && eqb (m .frame) 0 && eqb (m .rights) 0
+
+-- whether m maps this page of this space
+unfoldable pub isAt : Mapping → ℕ → ℕ → Bool
+isAt m space page = eqb (m .space) space && eqb (m .page) page
+
+-- the record at place i, all 0 past the last
+abbrev pub mappingAt : MappingList → ℕ → Mapping
+mappingAt l i = getD (l .items) i zeroMapping
