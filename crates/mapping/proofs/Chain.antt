@@ -1,6 +1,6 @@
--- Chains of tests.
+-- Tests: chains of them, the case that one picks, and the test of all places.
 use mathlib.Core.Path.{_≡_, refl, sym, _∙_}
-use mathlib.Core.Bool.{Bool, true, false, _&&_, _||_}
+use mathlib.Core.Bool.{Bool, true, false, cond, _&&_, _||_}
 use Prim.Native.Nat.{ℕ, _<_}
 use Rattle.bits.specs.Mask.{all}
 use Rattle.bits.proofs.Mask.{all-at}
@@ -12,6 +12,13 @@ last a b c d e p q r s = simp (p, q, r) s
 -- one of two, where the first does not hold
 pub second : (a b : Bool) → a ≡ false → b ≡ (a || b)
 second a b p = simp p
+
+-- the case that a test picks
+pub cond-true : {A : Type 0} (t : Bool) (x y : A) → t ≡ true → cond t x y ≡ x
+cond-true t x y e = simp e
+
+pub cond-false : {A : Type 0} (t : Bool) (x y : A) → t ≡ false → cond t x y ≡ y
+cond-false t x y e = simp e
 
 -- one place that fails makes the test of all fail
 pub all-not : (n : ℕ) (p : ℕ → Bool) (k : ℕ) → k < n → p k ≡ false → all n p ≡ false

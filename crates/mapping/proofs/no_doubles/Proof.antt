@@ -1,4 +1,14 @@
--- `mapping::no_doubles` meets its contract.
+-- `mapping::no_doubles` meets its contract. The loop's invariant: every place passed is fresh.
+use Prim.Native.Nat.{ℕ, _≤_, _<_, _-_}
+use mathlib.Core.Path.{_≡_, sym, _∙_}
+use mathlib.Core.Bool.{true}
+use native.Mathlib.Omega.{arith}
+use borrow.Author.Needs.{needs}
+use borrow.Author.Count.{below-none, below-more}
+use borrow.Author.Tests.{not-true, not-false}
+use Rattle.bits.proofs.Mask.{all-of}
+use Rattle.mapping.specs.Rules.{fresh, noDoubles}
+use Rattle.mapping.proofs.Chain.{all-not}
 use Rattle.mapping.proofs.no_doubles.Statement.{statement}
 use Rattle.mapping.proofs.no_doubles.Tie as tie
 use Rattle.mapping.proofs.no_doubles.Reads as reads
@@ -6,38 +16,40 @@ use Rattle.mapping.proofs.no_doubles.Lts as lts
 use Rattle.mapping.proofs.fresh.Reads as fresh-reads
 
 abbrev Inv-loop : tie.InvT-loop
-Inv-loop list i₀ i = ?
+Inv-loop list i₀ i = (i ≤ list .count) × ((k : ℕ) → k < i → fresh list k ≡ true)
 
 abbrev μ-loop : tie.MeasureT-loop
-μ-loop list i₀ i = ?
+μ-loop list i₀ i = list .count - i
 
 -- src/lib.rt:195:5
 loop-holds : tie.Need-loop-holds Inv-loop μ-loop
-loop-holds c = ?
+loop-holds c = (search needs, below-none _)
 
 -- src/lib.rt:196:13
 fresh-requires : tie.Need-fresh-requires Inv-loop μ-loop
-fresh-requires c κs = ?
+fresh-requires c κs = search needs
 
 -- src/lib.rt:197:13
 returns : tie.Need-returns Inv-loop μ-loop
-returns c = ?
+unfolding noDoubles
+returns c = sym (all-not _ _ (c .before .before .before .before .loop .i) (search needs) (sym (c .before .fresh .ensures) ∙ not-true _ (c .if2 .taken)))
 
 -- src/lib.rt:199:9
 add-i : tie.Need-add-i Inv-loop μ-loop
-add-i c = ?
+add-i c = search needs
 
 -- src/lib.rt:195:5
 loop-less : tie.Need-loop-less Inv-loop μ-loop
-loop-less c = ?
+loop-less c = search needs
 
 -- src/lib.rt:195:5
 loop-again : tie.Need-loop-again Inv-loop μ-loop
-loop-again c = ?
+loop-again c = (search needs, below-more _ _ (c .before .before .before .before .loop .inv .1) (sym (c .before .fresh .ensures) ∙ not-false _ (c .if2 .left)))
 
 -- src/lib.rt:190:1
 returns-2 : tie.Need-returns-2 Inv-loop μ-loop
-returns-2 c = ?
+unfolding noDoubles
+returns-2 c = sym (all-of _ _ (λ k l. c .before .before .loop .inv .1 k (omega arith)))
 
 pub no-doubles-spec : {M : Type 1} → statement M
 no-doubles-spec =
