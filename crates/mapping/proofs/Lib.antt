@@ -1,2 +1,3 @@
 -- What the functions' proofs and the callers cite: chains of tests, places, and the laws of the list.
 pub mod Chain
+pub mod First
