@@ -1,6 +1,7 @@
 -- Tests: chains of them, the case that one picks, and the test of all places.
 use mathlib.Core.Path.{_≡_, refl, sym, _∙_}
-use mathlib.Core.Bool.{Bool, true, false, cond, _&&_, _||_}
+use mathlib.Core.Bool.{Bool, true, false, cond, _&&_, _||_, false≢true}
+use mathlib.Core.Logic.{_⊎_, inl, inr}
 use Prim.Native.Nat.{ℕ, _<_}
 use Rattle.bits.specs.Mask.{all}
 use Rattle.bits.proofs.Mask.{all-at}
@@ -12,6 +13,15 @@ last a b c d e p q r s = simp (p, q, r) s
 -- one of two, where the first does not hold
 pub second : (a b : Bool) → a ≡ false → b ≡ (a || b)
 second a b p = simp p
+
+-- both of two hold, one of two holds
+pub and-both : (a b : Bool) → (a && b) ≡ true → (a ≡ true) × (b ≡ true)
+and-both true b e = (refl, e)
+and-both false b e = absurd (false≢true e)
+
+pub or-either : (a b : Bool) → (a || b) ≡ true → (a ≡ true) ⊎ (b ≡ true)
+or-either true b e = inl refl
+or-either false b e = inr e
 
 -- the case that a test picks
 pub cond-true : {A : Type 0} (t : Bool) (x y : A) → t ≡ true → cond t x y ≡ x

@@ -1,3 +1,6 @@
 -- What the functions' proofs and the callers cite: chains of tests, places, and the laws of the list.
 pub mod Chain
+pub mod Entry
 pub mod First
+pub mod Without
+pub mod Change

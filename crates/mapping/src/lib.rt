@@ -123,6 +123,17 @@ pub fn lookup(list: MappingList, space: u8, page: u16) -> Found
     Found::Nothing
 }
 
+// The record at place i, all 0 past the last.
+pub fn at(list: MappingList, i: usize) -> Mapping
+    ensures { λ r. ⌜ r ≡ mappingAt list i ⌝ }
+{
+    if i < CAPACITY {
+        list.items[i]
+    } else {
+        Mapping::zero()
+    }
+}
+
 // The list at the start: no mapping is listed.
 pub fn empty() -> MappingList
     ensures { λ r. ⌜ r ≡ empty ⌝ }

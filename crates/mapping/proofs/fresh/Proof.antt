@@ -11,9 +11,6 @@ use Rattle.mapping.specs.Rules.{fresh}
 use Rattle.mapping.proofs.Chain.{all-not}
 use Rattle.mapping.proofs.fresh.Statement.{statement}
 use Rattle.mapping.proofs.fresh.Tie as tie
-use Rattle.mapping.proofs.fresh.Reads as reads
-use Rattle.mapping.proofs.fresh.Lts as lts
-use Rattle.mapping.proofs.Mapping.is_at.Reads as is-at-reads
 
 abbrev Inv-loop : tie.InvT-loop
 Inv-loop i list m j₀ j = (j ≤ i) × ((k : ℕ) → k < j → not (isAt (mappingAt list k) (m .space) (m .page)) ≡ true)
@@ -21,48 +18,37 @@ Inv-loop i list m j₀ j = (j ≤ i) × ((k : ℕ) → k < j → not (isAt (mapp
 abbrev μ-loop : tie.MeasureT-loop
 μ-loop i list m j₀ j = i - j
 
--- src/lib.rt:209:13
 mul-m : tie.Need-mul-m Inv-loop μ-loop
 mul-m c = search needs
 
--- src/lib.rt:209:13
 element-copy-out-m : tie.Need-element-copy-out-m Inv-loop μ-loop
 element-copy-out-m c = search needs
 
--- src/lib.rt:211:5
 loop-holds : tie.Need-loop-holds Inv-loop μ-loop
 loop-holds c = (search needs, below-none _)
 
--- src/lib.rt:212:23
 mul-earlier : tie.Need-mul-earlier Inv-loop μ-loop
 mul-earlier c = search needs
 
--- src/lib.rt:212:23
 element-copy-out-earlier : tie.Need-element-copy-out-earlier Inv-loop μ-loop
 element-copy-out-earlier c = search needs
 
--- src/lib.rt:213:12
 is-at-requires : tie.Need-is-at-requires Inv-loop μ-loop
 is-at-requires c κs = search needs
 
--- src/lib.rt:214:13
 returns : tie.Need-returns Inv-loop μ-loop
 unfolding fresh
 returns c = sym (all-not _ _ (c .before .before .before .before .loop .j) (search needs) (ap not (sym (c .before .is-at .ensures) ∙ c .if1 .taken)))
 
--- src/lib.rt:216:9
 add-j : tie.Need-add-j Inv-loop μ-loop
 add-j c = search needs
 
--- src/lib.rt:211:5
 loop-less : tie.Need-loop-less Inv-loop μ-loop
 loop-less c = search needs
 
--- src/lib.rt:211:5
 loop-again : tie.Need-loop-again Inv-loop μ-loop
 loop-again c = (search needs, below-more _ _ (c .before .before .before .before .loop .inv .1) (ap not (sym (c .before .is-at .ensures) ∙ c .if1 .left)))
 
--- src/lib.rt:205:1
 returns-2 : tie.Need-returns-2 Inv-loop μ-loop
 unfolding fresh
 returns-2 c = sym (all-of _ _ (λ k l. c .before .loop .inv .1 k (omega arith)))

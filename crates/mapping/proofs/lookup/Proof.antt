@@ -12,9 +12,6 @@ use Rattle.mapping.specs.Lookup.{lookup}
 use Rattle.mapping.proofs.First.{first-at, first-nothing}
 use Rattle.mapping.proofs.lookup.Statement.{statement}
 use Rattle.mapping.proofs.lookup.Tie as tie
-use Rattle.mapping.proofs.lookup.Reads as reads
-use Rattle.mapping.proofs.lookup.Lts as lts
-use Rattle.mapping.proofs.Mapping.is_at.Reads as is-at-reads
 
 abbrev Inv-loop : tie.InvT-loop
 Inv-loop space page list n i₀ i = (i ≤ n) × (n ≡ min (list .count) capacity) × ((k : ℕ) → k < i → isAt (mappingAt list k) space page ≡ false)
@@ -22,23 +19,18 @@ Inv-loop space page list n i₀ i = (i ≤ n) × (n ≡ min (list .count) capaci
 abbrev μ-loop : tie.MeasureT-loop
 μ-loop space page list n i₀ i = n - i
 
--- src/lib.rt:116:5
 loop-holds : tie.Need-loop-holds Inv-loop μ-loop
 loop-holds c = (search needs, ⊎-elim (λ w. omega arith) (λ w. omega arith) (c .if1 .came), below-none _)
 
--- src/lib.rt:117:17
 mul-m : tie.Need-mul-m Inv-loop μ-loop
 mul-m c = search needs
 
--- src/lib.rt:117:17
 element-copy-out-m : tie.Need-element-copy-out-m Inv-loop μ-loop
 element-copy-out-m c = search needs
 
--- src/lib.rt:118:12
 is-at-requires : tie.Need-is-at-requires Inv-loop μ-loop
 is-at-requires c κs = search needs
 
--- src/lib.rt:119:13
 returns : tie.Need-returns Inv-loop μ-loop
 unfolding lookup
 returns c = 
@@ -46,21 +38,17 @@ returns c =
     let long : length (at .before .before .args .t1 .items) ≡ capacity = simp length-map at (at .before .before .good .0 .1 .1 .0 .1 .0 .1) in
     sym (first-at _ _ (at .loop .i) (record { below = omega arith; picked = sym (c .before .is-at .ensures) ∙ c .if2 .taken; earlier = at .loop .inv .2 }))
 
--- src/lib.rt:121:9
 add-i : tie.Need-add-i Inv-loop μ-loop
 add-i c = search needs
 
--- src/lib.rt:116:5
 loop-less : tie.Need-loop-less Inv-loop μ-loop
 loop-less c = search needs
 
--- src/lib.rt:116:5
 loop-again : tie.Need-loop-again Inv-loop μ-loop
 loop-again c = 
     let at = c .before .before .before .before in
     (search needs, at .loop .inv .1, below-more _ _ (at .loop .inv .2) (sym (c .before .is-at .ensures) ∙ c .if2 .left))
 
--- src/lib.rt:107:1
 returns-2 : tie.Need-returns-2 Inv-loop μ-loop
 unfolding lookup
 returns-2 c = 

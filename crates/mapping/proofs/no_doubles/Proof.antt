@@ -11,9 +11,6 @@ use Rattle.mapping.specs.Rules.{fresh, noDoubles}
 use Rattle.mapping.proofs.Chain.{all-not}
 use Rattle.mapping.proofs.no_doubles.Statement.{statement}
 use Rattle.mapping.proofs.no_doubles.Tie as tie
-use Rattle.mapping.proofs.no_doubles.Reads as reads
-use Rattle.mapping.proofs.no_doubles.Lts as lts
-use Rattle.mapping.proofs.fresh.Reads as fresh-reads
 
 abbrev Inv-loop : tie.InvT-loop
 Inv-loop list i₀ i = (i ≤ list .count) × ((k : ℕ) → k < i → fresh list k ≡ true)
@@ -21,32 +18,25 @@ Inv-loop list i₀ i = (i ≤ list .count) × ((k : ℕ) → k < i → fresh lis
 abbrev μ-loop : tie.MeasureT-loop
 μ-loop list i₀ i = list .count - i
 
--- src/lib.rt:195:5
 loop-holds : tie.Need-loop-holds Inv-loop μ-loop
 loop-holds c = (search needs, below-none _)
 
--- src/lib.rt:196:13
 fresh-requires : tie.Need-fresh-requires Inv-loop μ-loop
 fresh-requires c κs = search needs
 
--- src/lib.rt:197:13
 returns : tie.Need-returns Inv-loop μ-loop
 unfolding noDoubles
 returns c = sym (all-not _ _ (c .before .before .before .before .loop .i) (search needs) (sym (c .before .fresh .ensures) ∙ not-true _ (c .if2 .taken)))
 
--- src/lib.rt:199:9
 add-i : tie.Need-add-i Inv-loop μ-loop
 add-i c = search needs
 
--- src/lib.rt:195:5
 loop-less : tie.Need-loop-less Inv-loop μ-loop
 loop-less c = search needs
 
--- src/lib.rt:195:5
 loop-again : tie.Need-loop-again Inv-loop μ-loop
 loop-again c = (search needs, below-more _ _ (c .before .before .before .before .loop .inv .1) (sym (c .before .fresh .ensures) ∙ not-false _ (c .if2 .left)))
 
--- src/lib.rt:190:1
 returns-2 : tie.Need-returns-2 Inv-loop μ-loop
 unfolding noDoubles
 returns-2 c = sym (all-of _ _ (λ k l. c .before .before .loop .inv .1 k (omega arith)))

@@ -1,87 +1,95 @@
--- `mapping::remove` meets its contract.
+-- `mapping::remove` meets its contract. The loop's invariant: the places passed are as in the list without place i.
+use Prim.Native.Nat.{ℕ, _≤_, _<_, _-_}
+use mathlib.Core.List.{List}
+use mathlib.Core.Path.{_≡_, sym, ap, ap₂, _∙_}
+use native.Mathlib.Omega.{arith}
+use lib.ListN.{length, getD, set, length-map, length-set}
+use borrow.Author.Needs.{needs}
+use Rattle.mapping.specs.Entry.{capacity, zeroMapping, mappingAt}
+use Rattle.mapping.specs.declared.Mapping.{Mapping}
+use Rattle.mapping.specs.declared.MappingList.{MappingList}
+use Rattle.mapping.specs.Change.{without}
+use Rattle.mapping.proofs.Change.{remove-unlisted, remove-over, remove-listed}
+use Rattle.mapping.proofs.Without.{without-earlier, move-one, move-last}
 use Rattle.mapping.proofs.remove.Statement.{statement}
 use Rattle.mapping.proofs.remove.Tie as tie
-use Rattle.mapping.proofs.remove.Reads as reads
-use Rattle.mapping.proofs.remove.Lts as lts
-use Rattle.mapping.proofs.Mapping.zero.Reads as zero-reads
 
 abbrev Inv-loop : tie.InvT-loop
-Inv-loop i list n next₀ j₀ next j = ?
+Inv-loop i list n next₀ j₀ next j =
+    (i ≤ j) × (j < capacity) × (length (next .items) ≡ capacity)
+    × ((k : ℕ) → k < j → mappingAt next k ≡ getD (without (list .items) i) k zeroMapping)
 
 abbrev μ-loop : tie.MeasureT-loop
-μ-loop i list n next₀ j₀ next j = ?
+μ-loop i list n next₀ j₀ next j = capacity - j
 
--- src/lib.rt:156:9
 returns : tie.Need-returns Inv-loop μ-loop
-returns c = ?
+returns c = sym (remove-unlisted _ _ (c .if1 .taken))
 
--- src/lib.rt:159:9
 returns-2 : tie.Need-returns-2 Inv-loop μ-loop
-returns-2 c = ?
+returns-2 c = sym (remove-over _ _ (c .if2 .taken))
 
--- src/lib.rt:163:5
 loop-holds : tie.Need-loop-holds Inv-loop μ-loop
-loop-holds c = ?
+loop-holds c = 
+    let a = c .before .before in
+    let long : length (a .args .t1 .items) ≡ capacity = simp length-map at (a .good .0 .1 .1 .0 .1 .0 .1) in
+    (omega arith, omega arith, long, λ k l. sym (without-earlier (a .args .t1 .items) (a .args .i) (omega arith) k l))
 
--- src/lib.rt:163:15
 sub-loop : tie.Need-sub-loop Inv-loop μ-loop
-sub-loop c = ?
+sub-loop c = search needs
 
--- src/lib.rt:164:28
 add-m : tie.Need-add-m Inv-loop μ-loop
-add-m c = ?
+add-m c = search needs
 
--- src/lib.rt:164:17
 mul-m : tie.Need-mul-m Inv-loop μ-loop
-mul-m c = ?
+mul-m c = search needs
 
--- src/lib.rt:164:17
 element-copy-out-m : tie.Need-element-copy-out-m Inv-loop μ-loop
-element-copy-out-m c = ?
+element-copy-out-m c = search needs
 
--- src/lib.rt:165:9
 mul-m-2 : tie.Need-mul-m-2 Inv-loop μ-loop
-mul-m-2 c = ?
+mul-m-2 c = search needs
 
--- src/lib.rt:165:9
 element-set-from-m : tie.Need-element-set-from-m Inv-loop μ-loop
-element-set-from-m c = ?
+element-set-from-m c = search needs
 
--- src/lib.rt:166:9
 add-j : tie.Need-add-j Inv-loop μ-loop
-add-j c = ?
+add-j c = search needs
 
--- src/lib.rt:163:5
 loop-less : tie.Need-loop-less Inv-loop μ-loop
-loop-less c = ?
+loop-less c = search needs
 
--- src/lib.rt:163:5
 loop-again : tie.Need-loop-again Inv-loop μ-loop
-loop-again c = ?
+loop-again c = 
+    let at = c .before .before in
+    let a = at .before .before .before in
+    let long : length (a .args .t1 .items) ≡ capacity = simp length-map at (a .good .0 .1 .1 .0 .1 .0 .1) in
+    (omega arith, omega arith, simp length-set (at .loop .inv .2), move-one (a .args .t1 .items) (a .args .i) (omega arith) (at .loop .next .items) (at .loop .j) (omega arith) (omega arith) (at .loop .inv .3))
 
--- src/lib.rt:168:32
 zero-requires : tie.Need-zero-requires Inv-loop μ-loop
-zero-requires c κs = ?
+zero-requires c κs = search needs
 
--- src/lib.rt:168:16
 sub-t19 : tie.Need-sub-t19 Inv-loop μ-loop
-sub-t19 c = ?
+sub-t19 c = search needs
 
--- src/lib.rt:168:5
 mul-t20 : tie.Need-mul-t20 Inv-loop μ-loop
-mul-t20 c = ?
+mul-t20 c = search needs
 
--- src/lib.rt:168:5
 element-set-from-next : tie.Need-element-set-from-next Inv-loop μ-loop
-element-set-from-next c = ?
+element-set-from-next c = search needs
 
--- src/lib.rt:169:18
 sub-next : tie.Need-sub-next Inv-loop μ-loop
-sub-next c = ?
+sub-next c = search needs
 
--- src/lib.rt:151:1
 returns-3 : tie.Need-returns-3 Inv-loop μ-loop
-returns-3 c = ?
+returns-3 c = 
+    let at = c .before .before in
+    let a = at .before .before .before in
+    let long : length (a .args .t1 .items) ≡ capacity = simp length-map at (a .good .0 .1 .1 .0 .1 .0 .1) in
+    let e : set (at .loop .next .items) 255 zeroMapping ≡ without (a .args .t1 .items) (a .args .i) = move-last (a .args .t1 .items) (a .args .i) (omega arith) (at .loop .next .items) 255 long (at .loop .inv .2) (λ k l. at .loop .inv .3 k (omega arith)) in
+    ap (λ (z : Mapping). made (set (at .loop .next .items) 255 z) (a .args .t1 .count - 1)) (c .zero .ensures) ∙ ap (λ (xs : List Mapping). made xs (a .args .t1 .count - 1)) e ∙ sym (remove-listed _ _ (omega arith) (omega arith))
+  where
+    made : List Mapping → ℕ → MappingList
+    made xs n = record { items = xs; count = n }
 
 pub remove-spec : {M : Type 1} → statement M
 remove-spec =

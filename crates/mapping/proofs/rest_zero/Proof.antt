@@ -14,9 +14,6 @@ use Rattle.mapping.specs.Rules.{restZero}
 use Rattle.mapping.proofs.Chain.{all-not}
 use Rattle.mapping.proofs.rest_zero.Statement.{statement}
 use Rattle.mapping.proofs.rest_zero.Tie as tie
-use Rattle.mapping.proofs.rest_zero.Reads as reads
-use Rattle.mapping.proofs.rest_zero.Lts as lts
-use Rattle.mapping.proofs.Mapping.is_zero.Reads as is-zero-reads
 
 abbrev Inv-loop : tie.InvT-loop
 Inv-loop list i₀ i = (list .count ≤ i) × ((k : ℕ) → k < i → (ltb k (list .count) || isZero (mappingAt list k)) ≡ true)
@@ -24,23 +21,18 @@ Inv-loop list i₀ i = (list .count ≤ i) × ((k : ℕ) → k < i → (ltb k (l
 abbrev μ-loop : tie.MeasureT-loop
 μ-loop list i₀ i = capacity - i
 
--- src/lib.rt:226:5
 loop-holds : tie.Need-loop-holds Inv-loop μ-loop
 loop-holds c = (search needs, λ k l. rw (lt-ltb k _ l))
 
--- src/lib.rt:227:17
 mul-m : tie.Need-mul-m Inv-loop μ-loop
 mul-m c = search needs
 
--- src/lib.rt:227:17
 element-copy-out-m : tie.Need-element-copy-out-m Inv-loop μ-loop
 element-copy-out-m c = search needs
 
--- src/lib.rt:228:13
 is-zero-requires : tie.Need-is-zero-requires Inv-loop μ-loop
 is-zero-requires c κs = search needs
 
--- src/lib.rt:229:13
 returns : tie.Need-returns Inv-loop μ-loop
 unfolding restZero
 returns c = 
@@ -48,21 +40,17 @@ returns c =
     let long : length (at .before .args .t1 .items) ≡ capacity = simp length-map at (at .before .good .0 .1 .1 .0 .1 .0 .1) in
     sym (all-not _ _ (at .loop .i) (omega arith) (ap₂ _||_ (le-ltb _ _ (at .loop .inv .0)) (sym (c .before .is-zero .ensures) ∙ not-true _ (c .if1 .taken))))
 
--- src/lib.rt:231:9
 add-i : tie.Need-add-i Inv-loop μ-loop
 add-i c = search needs
 
--- src/lib.rt:226:5
 loop-less : tie.Need-loop-less Inv-loop μ-loop
 loop-less c = search needs
 
--- src/lib.rt:226:5
 loop-again : tie.Need-loop-again Inv-loop μ-loop
 loop-again c = 
     let at = c .before .before .before .before in
     (search needs, below-more _ _ (at .loop .inv .1) (ap₂ _||_ (le-ltb _ _ (at .loop .inv .0)) (sym (c .before .is-zero .ensures) ∙ not-false _ (c .if1 .left))))
 
--- src/lib.rt:222:1
 returns-2 : tie.Need-returns-2 Inv-loop μ-loop
 unfolding restZero
 returns-2 c = 

@@ -1,0 +1,29 @@
+-- `mapping::at` meets its contract.
+use mathlib.Core.Path.{_≡_, sym, _∙_}
+use native.Mathlib.Omega.{arith}
+use lib.ListN.{length, length-map, List·getD-eq-default}
+use borrow.Author.Needs.{needs}
+use Rattle.mapping.specs.Entry.{capacity, zeroMapping}
+use Rattle.mapping.proofs.at.Statement.{statement}
+use Rattle.mapping.proofs.at.Tie as tie
+
+mul-result : tie.Need-mul-result
+mul-result c = search needs
+
+element-copy-out-result : tie.Need-element-copy-out-result
+element-copy-out-result c = search needs
+
+zero-requires : tie.Need-zero-requires
+zero-requires c κs = search needs
+
+returns : tie.Need-returns
+returns c = search needs
+
+returns-2 : tie.Need-returns-2
+returns-2 c = 
+    let a = c .before .before in
+    let long : length (a .args .t1 .items) ≡ capacity = simp length-map at (a .good .0 .1 .1 .0 .1 .0 .1) in
+    c .zero .ensures ∙ sym (List·getD-eq-default (a .args .t1 .items) zeroMapping (omega arith))
+
+pub at-spec : {M : Type 1} → statement M
+at-spec = tie.close (tie.spec mul-result element-copy-out-result zero-requires returns returns-2)
