@@ -2,7 +2,9 @@
 use mathlib.Core.Path.{_≡_, refl, sym, _∙_}
 use mathlib.Core.Bool.{Bool, true, false, cond, _&&_, _||_, false≢true}
 use mathlib.Core.Logic.{_⊎_, inl, inr}
-use Prim.Native.Nat.{ℕ, _<_}
+use Prim.Native.Nat.{ℕ, _≤_, _<_}
+use lib.Dec.{ltb}
+use borrow.Author.Tests.{ltb-true, ltb-false}
 use Rattle.bits.specs.Mask.{all}
 use Rattle.bits.proofs.Mask.{all-at}
 
@@ -37,3 +39,11 @@ all-not n p k l e = go (all n p) refl
     go : (t : Bool) → all n p ≡ t → t ≡ false
     go true z = sym (all-at n p z k l) ∙ e
     go false z = refl
+
+-- two numbers, by their order
+pub lt-or-le : (i j : ℕ) → (i < j) ⊎ (j ≤ i)
+lt-or-le i j = go (ltb i j) refl
+  where
+    go : (t : Bool) → ltb i j ≡ t → (i < j) ⊎ (j ≤ i)
+    go true z = inl (ltb-true i j z)
+    go false z = inr (ltb-false i j z)

@@ -5,17 +5,11 @@ use mathlib.Core.Logic.{_⊎_, inl, inr, ⊎-elim}
 use Prim.Native.Nat.{ℕ, _<_}
 use lib.Dec.{eqb, ltb}
 use borrow.Author.Tests.{ltb-true, lt-ltb, eqb-true, eqb-false, eq-eqb}
-use Rattle.board.specs.Board.{Board, spaces, pages}
+use Rattle.board.specs.Board.{Board}
 use Rattle.mapping.specs.declared.Mapping.{Mapping}
 use Rattle.mapping.specs.Entry.{readOnly, readWrite, zeroMapping, inRange, isZero, isAt}
+use Rattle.mapping.specs.Facts.{InRange, MapsTo}
 use Rattle.mapping.proofs.Chain.{and-both, or-either, last}
-
--- a mapping whose fields lie in their ranges
-pub record InRange (b : Board) (m : Mapping) : Type 0 where
-  pub space-lt : m .space < spaces
-  pub page-lt : m .page < pages
-  pub frame-lt : m .frame < b .frames
-  pub rights-of : (m .rights ≡ readOnly) ⊎ (m .rights ≡ readWrite)
 
 module _ (b : Board) (m : Mapping) where
   pub in-range : inRange b m ≡ true → InRange b m
@@ -54,20 +48,21 @@ unfolding isZero
 zero-is = refl
 
 -- the mapping of a page of a space
-pub is-at : (m : Mapping) (s p : ℕ) → isAt m s p ≡ true → (m .space ≡ s) × (m .page ≡ p)
-unfolding isAt
-is-at m s p e = let b = and-both _ _ e in (eqb-true _ _ (b .0), eqb-true _ _ (b .1))
+module _ (m : Mapping) (s p : ℕ) where
+  pub is-at : isAt m s p ≡ true → MapsTo m s p
+  unfolding isAt
+  is-at e = let b = and-both _ _ e in (eqb-true _ _ (b .0), eqb-true _ _ (b .1))
 
-pub at-is : (m : Mapping) (s p : ℕ) → m .space ≡ s → m .page ≡ p → isAt m s p ≡ true
-unfolding isAt
-at-is m s p e f = ap₂ _&&_ (eq-eqb _ _ e) (eq-eqb _ _ f)
+  pub at-is : MapsTo m s p → isAt m s p ≡ true
+  unfolding isAt
+  at-is h = ap₂ _&&_ (eq-eqb _ _ (h .0)) (eq-eqb _ _ (h .1))
 
-pub not-at : (m : Mapping) (s p : ℕ) → isAt m s p ≡ false → m .space ≡ s → m .page ≡ p → ⊥
-not-at m s p e f g = false≢true (sym e ∙ at-is m s p f g)
+  pub not-at : isAt m s p ≡ false → MapsTo m s p → ⊥
+  not-at e h = false≢true (sym e ∙ at-is h)
 
-pub at-not : (m : Mapping) (s p : ℕ) → (m .space ≡ s → m .page ≡ p → ⊥) → isAt m s p ≡ false
-at-not m s p h = go (isAt m s p) refl
-  where
-    go : (t : Bool) → isAt m s p ≡ t → t ≡ false
-    go true z = let e = is-at m s p z in absurd (h (e .0) (e .1))
-    go false z = refl
+  pub at-not : (MapsTo m s p → ⊥) → isAt m s p ≡ false
+  at-not h = go (isAt m s p) refl
+    where
+      go : (t : Bool) → isAt m s p ≡ t → t ≡ false
+      go true z = absurd (h (is-at z))
+      go false z = refl

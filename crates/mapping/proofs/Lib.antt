@@ -1,6 +1,9 @@
 -- What the functions' proofs and the callers cite: chains of tests, places, and the laws of the list.
 pub mod Chain
 pub mod Entry
+pub mod Rules
 pub mod First
+pub mod Lookups
 pub mod Without
 pub mod Change
+pub mod After

@@ -1,5 +1,6 @@
--- The mapping list: one mapping, the rules of the list, lookup, and how the list changes.
+-- The mapping list: one mapping, the rules of the list, lookup, how the list changes, and the facts that the laws state.
 pub mod Entry
 pub mod Rules
 pub mod Lookup
 pub mod Change
+pub mod Facts

@@ -1,0 +1,75 @@
+-- The laws of lookup: what it says of the list, and what it finds in a list that keeps its rules.
+use mathlib.Core.Path.{_≡_, refl, sym, ap, _∙_}
+use mathlib.Core.Logic.{_⊎_, inl, inr, ⊎-elim}
+use mathlib.Core.Option.{none, some}
+use Prim.Native.Nat.{ℕ, min, _<_}
+use native.Mathlib.Omega.{arith}
+use lib.ListN.{length}
+use Rattle.board.specs.Board.{Board}
+use Rattle.mapping.specs.declared.MappingList.{MappingList}
+use Rattle.mapping.specs.declared.Found.the-variants.{At, Nothing}
+use Rattle.mapping.specs.Entry.{isAt, mappingAt}
+use Rattle.mapping.specs.Lookup.{lookup, mappingFound, mappingOf}
+use Rattle.mapping.specs.Facts.{MapsTo, Rules, FoundAt, Unlisted}
+use Rattle.mapping.proofs.Entry.{is-at, at-is, not-at, at-not}
+use Rattle.mapping.proofs.Rules.{count-length}
+use Rattle.mapping.proofs.First.{First, first-at, first-nothing, first-or-none, at-first, nothing-first}
+
+-- ---- any list
+
+module _ (l : MappingList) (s p : ℕ) where
+  found : (i : ℕ) → First (min (l .count) (length (l .items))) (λ k. isAt (mappingAt l k) s p) i → FoundAt l s p i
+  found i f = record { listed = omega arith; inside = omega arith; maps = is-at _ _ _ (f .picked); first = λ k h. not-at _ _ _ (f .earlier k h) }
+
+  pub lookup-at : (i : ℕ) → lookup l s p ≡ At i → FoundAt l s p i
+  unfolding lookup
+  lookup-at i e = found i (at-first _ _ i e)
+
+  pub at-lookup : (i : ℕ) → FoundAt l s p i → lookup l s p ≡ At i
+  unfolding lookup
+  at-lookup i f = first-at _ _ i (record { below = omega arith; picked = at-is _ _ _ (f .maps); earlier = λ k h. at-not _ _ _ (f .first k h) })
+
+  pub lookup-nothing : lookup l s p ≡ Nothing → Unlisted l s p
+  unfolding lookup
+  lookup-nothing e i h k = not-at _ _ _ (nothing-first _ _ e i (omega arith))
+
+  pub nothing-lookup : Unlisted l s p → lookup l s p ≡ Nothing
+  unfolding lookup
+  nothing-lookup h = first-nothing _ _ (λ k j. at-not _ _ _ (h k (omega arith) (omega arith)))
+
+  -- a page of a space is found at a first place, or is not listed
+  pub found-or-not : ((i : ℕ) × FoundAt l s p i) ⊎ Unlisted l s p
+  found-or-not = ⊎-elim (λ f. inl (f .0, found (f .0) (f .1))) (λ h. inr (λ k i j. not-at _ _ _ (h k (omega arith)))) (first-or-none (min (l .count) (length (l .items))) (λ k. isAt (mappingAt l k) s p))
+
+  -- the mapping that is found
+  pub mappingOf-at : (i : ℕ) → lookup l s p ≡ At i → mappingOf l s p ≡ some (mappingAt l i)
+  unfolding mappingOf
+  mappingOf-at i e = ap (mappingFound l) e
+
+  pub mappingOf-nothing : lookup l s p ≡ Nothing → mappingOf l s p ≡ none
+  unfolding mappingOf
+  mappingOf-nothing e = ap (mappingFound l) e
+
+-- ---- a list that keeps its rules
+
+module _ (b : Board) (l : MappingList) (rules : Rules b l) where
+  -- a listed mapping is found at its own place
+  pub listed-found : (i s p : ℕ) → i < l .count → MapsTo (mappingAt l i) s p → FoundAt l s p i
+  listed-found i s p h m =
+      let n = count-length b l rules in
+      record {
+        listed = h;
+        inside = omega arith;
+        maps = m;
+        first = λ k j e. let f = rules .distinct k i (omega arith) h (e .0 ∙ sym (m .0), e .1 ∙ sym (m .1)) in omega arith
+      }
+
+  pub lookup-listed : (i : ℕ) → i < l .count → lookup l (mappingAt l i .space) (mappingAt l i .page) ≡ At i
+  lookup-listed i h = at-lookup l _ _ i (listed-found i _ _ h (refl, refl))
+
+  pub mappingOf-listed : (i s p : ℕ) → i < l .count → MapsTo (mappingAt l i) s p → mappingOf l s p ≡ some (mappingAt l i)
+  mappingOf-listed i s p h m = mappingOf-at l s p i (at-lookup l s p i (listed-found i s p h m))
+
+  -- where no listed mapping has the space and page there is none
+  pub mappingOf-unlisted : (s p : ℕ) → ((i : ℕ) → i < l .count → MapsTo (mappingAt l i) s p → ⊥) → mappingOf l s p ≡ none
+  mappingOf-unlisted s p h = mappingOf-nothing l s p (nothing-lookup l s p (λ i j k. h i j))

@@ -1,0 +1,80 @@
+-- The test of the list's rules and the facts that it says, for any board and any list.
+use mathlib.Core.Path.{_≡_, refl, sym, ap, subst, _∙_}
+use mathlib.Core.Bool.{Bool, true, false, not, _&&_, _||_, or-true, false≢true}
+use mathlib.Core.Logic.{_⊎_, inl, inr, ⊎-elim}
+use Prim.Native.Nat.{ℕ, _≤_, _<_}
+use native.Mathlib.Omega.{arith}
+use native.Mathlib.Nat.{eq-or-lt-of-le, le-refl}
+use lib.Dec.{leb, ltb}
+use lib.ListN.{length, List·getD-eq-default}
+use borrow.Author.Tests.{not-true, leb-true, le-leb, lt-ltb, le-ltb}
+use Rattle.bits.proofs.Mask.{all-at, all-of}
+use Rattle.board.specs.Board.{Board}
+use Rattle.mapping.specs.declared.Mapping.{Mapping}
+use Rattle.mapping.specs.declared.MappingList.{MappingList}
+use Rattle.mapping.specs.Entry.{capacity, zeroMapping, isZero, isAt, mappingAt}
+use Rattle.mapping.specs.Rules.{allInRange, fresh, noDoubles, restZero, keepsRules}
+use Rattle.mapping.specs.Facts.{InRange, MapsTo, Rules}
+use Rattle.mapping.proofs.Chain.{last, and-both, or-either, lt-or-le}
+use Rattle.mapping.proofs.Entry.{in-range, range-in, is-zero, zero-is, not-at, at-not}
+
+module _ (b : Board) (l : MappingList) where
+  -- ---- from the test to the facts
+
+  -- an earlier place has not the space and page of a listed one
+  apart : noDoubles l ≡ true → (i j : ℕ) → i < j → j < l .count → MapsTo (mappingAt l i) (mappingAt l j .space) (mappingAt l j .page) → ⊥
+  unfolding noDoubles fresh
+  apart e i j h k = not-at _ _ _ (not-true _ (all-at j _ (all-at _ _ e j k) i h))
+
+  zero-past : restZero l ≡ true → (i : ℕ) → l .count ≤ i → mappingAt l i ≡ zeroMapping
+  unfolding restZero
+  zero-past e i h = ⊎-elim inside (λ k. List·getD-eq-default (l .items) zeroMapping k) (lt-or-le i (length (l .items)))
+    where
+      inside : i < length (l .items) → mappingAt l i ≡ zeroMapping
+      inside k = is-zero _ (ap (λ (t : Bool). t || isZero (mappingAt l i)) (sym (le-ltb _ _ h)) ∙ all-at _ _ e i k)
+
+  -- what a list that passes the test keeps
+  pub rules-of : keepsRules b l ≡ true → Rules b l
+  unfolding keepsRules allInRange
+  rules-of e =
+      let s = and-both _ _ e in
+      let t = and-both _ _ (s .0) in
+      let u = and-both _ _ (t .0) in
+      record {
+        count-le = leb-true _ _ (u .0);
+        in-range = λ i h. in-range b _ (all-at _ _ (u .1) i h);
+        distinct = λ i j h k m. ⊎-elim (λ o. absurd (apart (t .1) i j o k m)) (λ o. ⊎-elim sym (λ o. absurd (apart (t .1) j i o h (sym (m .0), sym (m .1)))) (eq-or-lt-of-le o)) (lt-or-le i j);
+        rest-zero = zero-past (s .1)
+      }
+
+  -- ---- from the facts to the test
+
+  all-fresh : Rules b l → noDoubles l ≡ true
+  unfolding noDoubles fresh
+  all-fresh r = all-of _ _ (λ j k. all-of _ _ (λ i h. ap not (at-not _ _ _ (λ m. let e = r .distinct i j (omega arith) k m in omega arith))))
+
+  all-zero : Rules b l → restZero l ≡ true
+  unfolding restZero
+  all-zero r = all-of _ _ (λ i h. ⊎-elim listed rest (lt-or-le i (l .count)))
+    where
+      test : ℕ → Bool
+      test i = ltb i (l .count) || isZero (mappingAt l i)
+      listed : {i : ℕ} → i < l .count → test i ≡ true
+      listed {i} k = ap (λ (t : Bool). t || isZero (mappingAt l i)) (lt-ltb _ _ k)
+      rest : {i : ℕ} → l .count ≤ i → test i ≡ true
+      rest {i} k = ap (λ (t : Bool). ltb i (l .count) || t) (ap isZero (r .rest-zero i k) ∙ zero-is) ∙ or-true (ltb i (l .count))
+
+  pub keeps-of : Rules b l → keepsRules b l ≡ true
+  unfolding keepsRules allInRange
+  keeps-of r = sym (last _ _ _ _ true (le-leb _ _ (r .count-le)) (all-of _ _ (λ i h. range-in b _ (r .in-range i h))) (all-fresh r) (sym (all-zero r)))
+
+  -- ---- the count and the number of records
+
+  -- past the last record there is no mapping, so none is listed there
+  pub count-length : Rules b l → l .count ≤ length (l .items)
+  count-length r = ⊎-elim past (λ h. h) (lt-or-le (length (l .items)) (l .count))
+    where
+      past : length (l .items) < l .count → l .count ≤ length (l .items)
+      past h =
+          let e = ap (λ (m : Mapping). m .rights) (List·getD-eq-default (l .items) zeroMapping (le-refl (length (l .items)))) in
+          ⊎-elim (λ f. absurd (omega arith)) (λ f. absurd (omega arith)) (r .in-range (length (l .items)) h .rights-of)
