@@ -1,5 +1,5 @@
 -- What the tests of one mapping say.
-use mathlib.Core.Path.{_≡_, refl, sym, ap, ap₂, _∙_}
+use mathlib.Core.Path.{_≡_, refl, sym, ap, ap₂, subst, _∙_}
 use mathlib.Core.Bool.{Bool, true, false, _&&_, _||_, or-true, false≢true}
 use mathlib.Core.Logic.{_⊎_, inl, inr, ⊎-elim}
 use Prim.Native.Nat.{ℕ, _<_}
@@ -22,7 +22,7 @@ module _ (b : Board) (m : Mapping) where
         space-lt = ltb-true _ _ (u .0);
         page-lt = ltb-true _ _ (u .1);
         frame-lt = ltb-true _ _ (t .1);
-        rights-of = ⊎-elim (λ r. inl (eqb-true _ _ r)) (λ r. inr (eqb-true _ _ r)) (or-either _ _ (s .1))
+        rights-of = ⊎-elim (λ r. inl (eqb-true _ _ r)) (λ r. inr (eqb-true _ _ r)) (or-either _ _ (s .1));
       }
 
   pub range-in : InRange b m → inRange b m ≡ true
@@ -66,3 +66,10 @@ module _ (m : Mapping) (s p : ℕ) where
       go : (t : Bool) → isAt m s p ≡ t → t ≡ false
       go true z = absurd (h (is-at z))
       go false z = refl
+
+-- mappings for others that they equal
+pub same : {m n : Mapping} {s p : ℕ} → m ≡ n → MapsTo m s p → MapsTo n s p
+same {s = s} {p = p} e = subst (λ (x : Mapping). MapsTo x s p) e
+
+pub alike : {m m′ n n′ : Mapping} → m ≡ m′ → n ≡ n′ → MapsTo m (n .space) (n .page) → MapsTo m′ (n′ .space) (n′ .page)
+alike p q e = (cc, cc)

@@ -43,6 +43,7 @@ first-or-none (suc n) p = ⊎-elim (λ s. inl (s .0, further (s .0) (s .1))) (λ
   where
     further : (i : ℕ) → First n p i → First (suc n) p i
     further i f = record { below = omega arith; picked = f .picked; earlier = f .earlier }
+
     last : (t : Bool) → p n ≡ t → ((k : ℕ) → k < n → p k ≡ false) → ((i : ℕ) × First (suc n) p i) ⊎ ((k : ℕ) → k < suc n → p k ≡ false)
     last true z h = inl (n, record { below = omega arith; picked = z; earlier = h })
     last false z h = inr (λ k l. ⊎-elim (λ e. rw e z) (λ m. h k m) (last-or-below k n l))
@@ -52,6 +53,7 @@ at-first n p i e = ⊎-elim found none (first-or-none n p)
   where
     found : (j : ℕ) × First n p j → First n p i
     found s = let f = first-at n p (s .0) (s .1) in let z : s .0 ≡ i = cc in subst (First n p) z (s .1)
+
     none : ((k : ℕ) → k < n → p k ≡ false) → First n p i
     none h = let f = first-nothing n p h in let z : _≡_ {A = ℕ} 0 1 = cc in absurd (omega arith)
 

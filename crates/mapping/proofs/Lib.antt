@@ -6,4 +6,6 @@ pub mod First
 pub mod Lookups
 pub mod Without
 pub mod Change
-pub mod After
+pub mod Start
+pub mod Appended
+pub mod Removed

@@ -61,7 +61,7 @@ module _ (b : Board) (l : MappingList) (rules : Rules b l) where
         listed = h;
         inside = omega arith;
         maps = m;
-        first = λ k j e. let f = rules .distinct k i (omega arith) h (e .0 ∙ sym (m .0), e .1 ∙ sym (m .1)) in omega arith
+        first = λ k j e. let f = rules .distinct k i (omega arith) h (e .0 ∙ sym (m .0), e .1 ∙ sym (m .1)) in omega arith;
       }
 
   pub lookup-listed : (i : ℕ) → i < l .count → lookup l (mappingAt l i .space) (mappingAt l i .page) ≡ At i

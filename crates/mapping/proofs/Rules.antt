@@ -44,7 +44,7 @@ module _ (b : Board) (l : MappingList) where
         count-le = leb-true _ _ (u .0);
         in-range = λ i h. in-range b _ (all-at _ _ (u .1) i h);
         distinct = λ i j h k m. ⊎-elim (λ o. absurd (apart (t .1) i j o k m)) (λ o. ⊎-elim sym (λ o. absurd (apart (t .1) j i o h (sym (m .0), sym (m .1)))) (eq-or-lt-of-le o)) (lt-or-le i j);
-        rest-zero = zero-past (s .1)
+        rest-zero = zero-past (s .1);
       }
 
   -- ---- from the facts to the test
@@ -59,8 +59,10 @@ module _ (b : Board) (l : MappingList) where
     where
       test : ℕ → Bool
       test i = ltb i (l .count) || isZero (mappingAt l i)
+
       listed : {i : ℕ} → i < l .count → test i ≡ true
       listed {i} k = ap (λ (t : Bool). t || isZero (mappingAt l i)) (lt-ltb _ _ k)
+
       rest : {i : ℕ} → l .count ≤ i → test i ≡ true
       rest {i} k = ap (λ (t : Bool). ltb i (l .count) || t) (ap isZero (r .rest-zero i k) ∙ zero-is) ∙ or-true (ltb i (l .count))
 

@@ -20,7 +20,7 @@ returns : tie.Need-returns
 returns c = search needs
 
 returns-2 : tie.Need-returns-2
-returns-2 c = 
+returns-2 c =
     let a = c .before .before in
     let long : length (a .args .t1 .items) ≡ capacity = simp length-map at (a .good .0 .1 .1 .0 .1 .0 .1) in
     c .zero .ensures ∙ sym (List·getD-eq-default (a .args .t1 .items) zeroMapping (omega arith))

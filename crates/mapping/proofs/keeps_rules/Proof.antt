@@ -23,7 +23,7 @@ no-doubles-requires c κs = search needs
 
 returns-3 : tie.Need-returns-3
 unfolding keepsRules
-returns-3 c = 
+returns-3 c =
     let at2 = c .before .before in
     simp (le-leb _ _ (at2 .before .before .if1 .left), sym (at2 .before .all-in-range .ensures) ∙ not-false _ (at2 .if2 .left), sym (c .before .no-doubles .ensures) ∙ not-true _ (c .if3 .taken))
 
@@ -32,7 +32,7 @@ rest-zero-requires c κs = search needs
 
 returns-4 : tie.Need-returns-4
 unfolding keepsRules
-returns-4 c = 
+returns-4 c =
     let at3 = c .before in
     let at2 = at3 .before .before in
     last _ _ _ _ _ (le-leb _ _ (at2 .before .before .if1 .left)) (sym (at2 .before .all-in-range .ensures) ∙ not-false _ (at2 .if2 .left)) (sym (at3 .before .no-doubles .ensures) ∙ not-false _ (at3 .if3 .left))

@@ -33,7 +33,7 @@ is-at-requires c κs = search needs
 
 returns : tie.Need-returns Inv-loop μ-loop
 unfolding lookup
-returns c = 
+returns c =
     let at = c .before .before .before .before in
     let long : length (at .before .before .args .t1 .items) ≡ capacity = simp length-map at (at .before .before .good .0 .1 .1 .0 .1 .0 .1) in
     sym (first-at _ _ (at .loop .i) (record { below = omega arith; picked = sym (c .before .is-at .ensures) ∙ c .if2 .taken; earlier = at .loop .inv .2 }))
@@ -45,13 +45,13 @@ loop-less : tie.Need-loop-less Inv-loop μ-loop
 loop-less c = search needs
 
 loop-again : tie.Need-loop-again Inv-loop μ-loop
-loop-again c = 
+loop-again c =
     let at = c .before .before .before .before in
     (search needs, at .loop .inv .1, below-more _ _ (at .loop .inv .2) (sym (c .before .is-at .ensures) ∙ c .if2 .left))
 
 returns-2 : tie.Need-returns-2 Inv-loop μ-loop
 unfolding lookup
-returns-2 c = 
+returns-2 c =
     let long : length (c .before .before .before .args .t1 .items) ≡ capacity = simp length-map at (c .before .before .before .good .0 .1 .1 .0 .1 .0 .1) in
     sym (first-nothing _ _ (λ k l. c .before .loop .inv .2 k (omega arith)))
 

@@ -29,7 +29,7 @@ returns-2 : tie.Need-returns-2 Inv-loop μ-loop
 returns-2 c = sym (remove-over _ _ (c .if2 .taken))
 
 loop-holds : tie.Need-loop-holds Inv-loop μ-loop
-loop-holds c = 
+loop-holds c =
     let a = c .before .before in
     let long : length (a .args .t1 .items) ≡ capacity = simp length-map at (a .good .0 .1 .1 .0 .1 .0 .1) in
     (omega arith, omega arith, long, λ k l. sym (without-earlier (a .args .t1 .items) (a .args .i) (omega arith) k l))
@@ -59,7 +59,7 @@ loop-less : tie.Need-loop-less Inv-loop μ-loop
 loop-less c = search needs
 
 loop-again : tie.Need-loop-again Inv-loop μ-loop
-loop-again c = 
+loop-again c =
     let at = c .before .before in
     let a = at .before .before .before in
     let long : length (a .args .t1 .items) ≡ capacity = simp length-map at (a .good .0 .1 .1 .0 .1 .0 .1) in
@@ -81,7 +81,7 @@ sub-next : tie.Need-sub-next Inv-loop μ-loop
 sub-next c = search needs
 
 returns-3 : tie.Need-returns-3 Inv-loop μ-loop
-returns-3 c = 
+returns-3 c =
     let at = c .before .before in
     let a = at .before .before .before in
     let long : length (a .args .t1 .items) ≡ capacity = simp length-map at (a .good .0 .1 .1 .0 .1 .0 .1) in

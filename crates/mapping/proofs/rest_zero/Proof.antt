@@ -35,7 +35,7 @@ is-zero-requires c κs = search needs
 
 returns : tie.Need-returns Inv-loop μ-loop
 unfolding restZero
-returns c = 
+returns c =
     let at = c .before .before .before .before in
     let long : length (at .before .args .t1 .items) ≡ capacity = simp length-map at (at .before .good .0 .1 .1 .0 .1 .0 .1) in
     sym (all-not _ _ (at .loop .i) (omega arith) (ap₂ _||_ (le-ltb _ _ (at .loop .inv .0)) (sym (c .before .is-zero .ensures) ∙ not-true _ (c .if1 .taken))))
@@ -47,13 +47,13 @@ loop-less : tie.Need-loop-less Inv-loop μ-loop
 loop-less c = search needs
 
 loop-again : tie.Need-loop-again Inv-loop μ-loop
-loop-again c = 
+loop-again c =
     let at = c .before .before .before .before in
     (search needs, below-more _ _ (at .loop .inv .1) (ap₂ _||_ (le-ltb _ _ (at .loop .inv .0)) (sym (c .before .is-zero .ensures) ∙ not-false _ (c .if1 .left))))
 
 returns-2 : tie.Need-returns-2 Inv-loop μ-loop
 unfolding restZero
-returns-2 c = 
+returns-2 c =
     let long : length (c .before .before .args .t1 .items) ≡ capacity = simp length-map at (c .before .before .good .0 .1 .1 .0 .1 .0 .1) in
     sym (all-of _ _ (λ k l. c .before .loop .inv .1 k (omega arith)))
 
