@@ -1,21 +1,21 @@
 -- The test of the list's rules and the facts that it says, for any board and any list.
-use mathlib.Core.Path.{_≡_, refl, sym, ap, subst, _∙_}
-use mathlib.Core.Bool.{Bool, true, false, not, _&&_, _||_, or-true, false≢true}
-use mathlib.Core.Logic.{_⊎_, inl, inr, ⊎-elim}
+use mathlib.Core.Path.{_≡_, sym, ap, _∙_}
+use mathlib.Core.Bool.{Bool, true, not, _||_, or-true}
+use mathlib.Core.Logic.{⊎-elim}
 use Prim.Native.Nat.{ℕ, _≤_, _<_}
 use native.Mathlib.Omega.{arith}
 use native.Mathlib.Nat.{eq-or-lt-of-le, le-refl}
-use lib.Dec.{leb, ltb}
+use lib.Dec.{ltb}
 use lib.ListN.{length, List·getD-eq-default}
 use borrow.Author.Tests.{not-true, leb-true, le-leb, lt-ltb, le-ltb}
 use Rattle.bits.proofs.Mask.{all-at, all-of}
 use Rattle.board.specs.Board.{Board}
 use Rattle.mapping.specs.declared.Mapping.{Mapping}
 use Rattle.mapping.specs.declared.MappingList.{MappingList}
-use Rattle.mapping.specs.Entry.{capacity, zeroMapping, isZero, isAt, mappingAt}
+use Rattle.mapping.specs.Entry.{zeroMapping, isZero, mappingAt}
 use Rattle.mapping.specs.Rules.{allInRange, fresh, noDoubles, restZero, keepsRules}
-use Rattle.mapping.specs.Facts.{InRange, MapsTo, Rules}
-use Rattle.mapping.proofs.Chain.{last, and-both, or-either, lt-or-le}
+use Rattle.mapping.specs.Facts.{MapsTo, Rules}
+use Rattle.mapping.proofs.Chain.{last, and-both, lt-or-le}
 use Rattle.mapping.proofs.Entry.{in-range, range-in, is-zero, zero-is, not-at, at-not}
 
 module _ (b : Board) (l : MappingList) where

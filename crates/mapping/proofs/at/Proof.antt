@@ -1,9 +1,10 @@
 -- `mapping::at` meets its contract.
-use mathlib.Core.Path.{_≡_, sym, _∙_}
+use mathlib.Core.Path.{sym, _∙_}
 use native.Mathlib.Omega.{arith}
-use lib.ListN.{length, length-map, List·getD-eq-default}
+use lib.ListN.{List·getD-eq-default}
 use borrow.Author.Needs.{needs}
-use Rattle.mapping.specs.Entry.{capacity, zeroMapping}
+use Rattle.mapping.specs.Entry.{zeroMapping}
+use Rattle.mapping.proofs.Records.{items-length}
 use Rattle.mapping.proofs.at.Statement.{statement}
 use Rattle.mapping.proofs.at.Tie as tie
 
@@ -22,7 +23,7 @@ returns c = search needs
 returns-2 : tie.Need-returns-2
 returns-2 c =
     let a = c .before .before in
-    let long : length (a .args .t1 .items) ≡ capacity = simp length-map at (a .good .0 .1 .1 .0 .1 .0 .1) in
+    let long = items-length (a .args .t1) _ (a .good .0) in
     c .zero .ensures ∙ sym (List·getD-eq-default (a .args .t1 .items) zeroMapping (omega arith))
 
 pub at-spec : {M : Type 1} → statement M

@@ -6,7 +6,7 @@ use native.Mathlib.Omega.{arith}
 use borrow.Author.Needs.{needs}
 use borrow.Author.Count.{below-none, below-more}
 use Rattle.bits.proofs.Mask.{all-of}
-use Rattle.mapping.specs.Entry.{capacity, isAt, mappingAt}
+use Rattle.mapping.specs.Entry.{isAt, mappingAt}
 use Rattle.mapping.specs.Rules.{fresh}
 use Rattle.mapping.proofs.Chain.{all-not}
 use Rattle.mapping.proofs.fresh.Statement.{statement}

@@ -1,7 +1,9 @@
 -- `mapping::keeps_rules` meets its contract.
 use mathlib.Core.Path.{sym, _∙_}
+use native.Mathlib.Omega.{arith}
 use borrow.Author.Needs.{needs}
 use borrow.Author.Tests.{le-leb, lt-leb, not-true, not-false}
+use Rattle.mapping.specs.Entry.{capacity}
 use Rattle.mapping.specs.Rules.{keepsRules}
 use Rattle.mapping.proofs.Chain.{last}
 use Rattle.mapping.proofs.keeps_rules.Statement.{statement}
@@ -9,7 +11,7 @@ use Rattle.mapping.proofs.keeps_rules.Tie as tie
 
 returns : tie.Need-returns
 unfolding keepsRules
-returns c = simp (lt-leb _ _ (c .if1 .taken))
+returns c = simp (lt-leb (c .before .before .args .list .count) capacity (omega arith))
 
 all-in-range-requires : tie.Need-all-in-range-requires
 all-in-range-requires c κs = search needs

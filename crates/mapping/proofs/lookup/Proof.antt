@@ -4,12 +4,12 @@ use mathlib.Core.Path.{_≡_, sym, _∙_}
 use mathlib.Core.Bool.{false}
 use mathlib.Core.Logic.{⊎-elim}
 use native.Mathlib.Omega.{arith}
-use lib.ListN.{length, length-map}
 use borrow.Author.Needs.{needs}
 use borrow.Author.Count.{below-none, below-more}
 use Rattle.mapping.specs.Entry.{capacity, isAt, mappingAt}
 use Rattle.mapping.specs.Lookup.{lookup}
 use Rattle.mapping.proofs.First.{first-at, first-nothing}
+use Rattle.mapping.proofs.Records.{items-length}
 use Rattle.mapping.proofs.lookup.Statement.{statement}
 use Rattle.mapping.proofs.lookup.Tie as tie
 
@@ -35,7 +35,7 @@ returns : tie.Need-returns Inv-loop μ-loop
 unfolding lookup
 returns c =
     let at = c .before .before .before .before in
-    let long : length (at .before .before .args .t1 .items) ≡ capacity = simp length-map at (at .before .before .good .0 .1 .1 .0 .1 .0 .1) in
+    let long = items-length (at .before .before .args .t1) _ (at .before .before .good .0) in
     sym (first-at _ _ (at .loop .i) (record { below = omega arith; picked = sym (c .before .is-at .ensures) ∙ c .if2 .taken; earlier = at .loop .inv .2 }))
 
 add-i : tie.Need-add-i Inv-loop μ-loop
@@ -52,7 +52,7 @@ loop-again c =
 returns-2 : tie.Need-returns-2 Inv-loop μ-loop
 unfolding lookup
 returns-2 c =
-    let long : length (c .before .before .before .args .t1 .items) ≡ capacity = simp length-map at (c .before .before .before .good .0 .1 .1 .0 .1 .0 .1) in
+    let long = items-length (c .before .before .before .args .t1) _ (c .before .before .before .good .0) in
     sym (first-nothing _ _ (λ k l. c .before .loop .inv .2 k (omega arith)))
 
 pub lookup-spec : {M : Type 1} → statement M

@@ -1,9 +1,9 @@
 -- `mapping::remove` meets its contract. The loop's invariant: the places passed are as in the list without place i.
 use Prim.Native.Nat.{ℕ, _≤_, _<_, _-_}
 use mathlib.Core.List.{List}
-use mathlib.Core.Path.{_≡_, sym, ap, ap₂, _∙_}
+use mathlib.Core.Path.{_≡_, sym, ap, _∙_}
 use native.Mathlib.Omega.{arith}
-use lib.ListN.{length, getD, set, length-map, length-set}
+use lib.ListN.{length, getD, set, length-set}
 use borrow.Author.Needs.{needs}
 use Rattle.mapping.specs.Entry.{capacity, zeroMapping, mappingAt}
 use Rattle.mapping.specs.declared.Mapping.{Mapping}
@@ -11,6 +11,7 @@ use Rattle.mapping.specs.declared.MappingList.{MappingList}
 use Rattle.mapping.specs.Change.{without}
 use Rattle.mapping.proofs.Change.{remove-unlisted, remove-over, remove-listed}
 use Rattle.mapping.proofs.Without.{without-earlier, move-one, move-last}
+use Rattle.mapping.proofs.Records.{items-length}
 use Rattle.mapping.proofs.remove.Statement.{statement}
 use Rattle.mapping.proofs.remove.Tie as tie
 
@@ -31,7 +32,7 @@ returns-2 c = sym (remove-over _ _ (c .if2 .taken))
 loop-holds : tie.Need-loop-holds Inv-loop μ-loop
 loop-holds c =
     let a = c .before .before in
-    let long : length (a .args .t1 .items) ≡ capacity = simp length-map at (a .good .0 .1 .1 .0 .1 .0 .1) in
+    let long = items-length (a .args .t1) _ (a .good .0) in
     (omega arith, omega arith, long, λ k l. sym (without-earlier (a .args .t1 .items) (a .args .i) (omega arith) k l))
 
 sub-loop : tie.Need-sub-loop Inv-loop μ-loop
@@ -62,7 +63,7 @@ loop-again : tie.Need-loop-again Inv-loop μ-loop
 loop-again c =
     let at = c .before .before in
     let a = at .before .before .before in
-    let long : length (a .args .t1 .items) ≡ capacity = simp length-map at (a .good .0 .1 .1 .0 .1 .0 .1) in
+    let long = items-length (a .args .t1) _ (a .good .0) in
     (omega arith, omega arith, simp length-set (at .loop .inv .2), move-one (a .args .t1 .items) (a .args .i) (omega arith) (at .loop .next .items) (at .loop .j) (omega arith) (omega arith) (at .loop .inv .3))
 
 zero-requires : tie.Need-zero-requires Inv-loop μ-loop
@@ -84,7 +85,7 @@ returns-3 : tie.Need-returns-3 Inv-loop μ-loop
 returns-3 c =
     let at = c .before .before in
     let a = at .before .before .before in
-    let long : length (a .args .t1 .items) ≡ capacity = simp length-map at (a .good .0 .1 .1 .0 .1 .0 .1) in
+    let long = items-length (a .args .t1) _ (a .good .0) in
     let e : set (at .loop .next .items) 255 zeroMapping ≡ without (a .args .t1 .items) (a .args .i) = move-last (a .args .t1 .items) (a .args .i) (omega arith) (at .loop .next .items) 255 long (at .loop .inv .2) (λ k l. at .loop .inv .3 k (omega arith)) in
     ap (λ (z : Mapping). made (set (at .loop .next .items) 255 z) (a .args .t1 .count - 1)) (c .zero .ensures) ∙ ap (λ (xs : List Mapping). made xs (a .args .t1 .count - 1)) e ∙ sym (remove-listed _ _ (omega arith) (omega arith))
   where

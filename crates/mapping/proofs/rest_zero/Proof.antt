@@ -4,7 +4,6 @@ use mathlib.Core.Path.{_≡_, sym, ap₂, _∙_}
 use mathlib.Core.Bool.{true, _||_}
 use native.Mathlib.Omega.{arith}
 use lib.Dec.{ltb}
-use lib.ListN.{length, length-map}
 use borrow.Author.Needs.{needs}
 use borrow.Author.Count.{below-more}
 use borrow.Author.Tests.{not-true, not-false, lt-ltb, le-ltb}
@@ -12,6 +11,7 @@ use Rattle.bits.proofs.Mask.{all-of}
 use Rattle.mapping.specs.Entry.{capacity, isZero, mappingAt}
 use Rattle.mapping.specs.Rules.{restZero}
 use Rattle.mapping.proofs.Chain.{all-not}
+use Rattle.mapping.proofs.Records.{items-length}
 use Rattle.mapping.proofs.rest_zero.Statement.{statement}
 use Rattle.mapping.proofs.rest_zero.Tie as tie
 
@@ -37,7 +37,7 @@ returns : tie.Need-returns Inv-loop μ-loop
 unfolding restZero
 returns c =
     let at = c .before .before .before .before in
-    let long : length (at .before .args .t1 .items) ≡ capacity = simp length-map at (at .before .good .0 .1 .1 .0 .1 .0 .1) in
+    let long = items-length (at .before .args .t1) _ (at .before .good .0) in
     sym (all-not _ _ (at .loop .i) (omega arith) (ap₂ _||_ (le-ltb _ _ (at .loop .inv .0)) (sym (c .before .is-zero .ensures) ∙ not-true _ (c .if1 .taken))))
 
 add-i : tie.Need-add-i Inv-loop μ-loop
@@ -54,7 +54,7 @@ loop-again c =
 returns-2 : tie.Need-returns-2 Inv-loop μ-loop
 unfolding restZero
 returns-2 c =
-    let long : length (c .before .before .args .t1 .items) ≡ capacity = simp length-map at (c .before .before .good .0 .1 .1 .0 .1 .0 .1) in
+    let long = items-length (c .before .before .args .t1) _ (c .before .before .good .0) in
     sym (all-of _ _ (λ k l. c .before .loop .inv .1 k (omega arith)))
 
 pub rest-zero-spec : {M : Type 1} → statement M
