@@ -14,14 +14,11 @@ use Rattle.mapping.specs.Entry.{capacity, mappingAt}
 use Rattle.mapping.specs.Lookup.{lookup, mappingOf}
 use Rattle.mapping.specs.Change.{append}
 use Rattle.mapping.specs.Facts.{InRange, MapsTo, Rules, FoundAt, Unlisted}
-use Rattle.mapping.proofs.Entry.{same, alike}
-use Rattle.mapping.proofs.Lookups.{at-lookup, lookup-nothing, nothing-lookup, found-or-not, listed-found, mappingOf-at, mappingOf-nothing}
+use Rattle.mapping.proofs.Entry.{maps-cong, maps-cong₂}
+use Rattle.mapping.proofs.Lookups.{at-lookup, lookup-nothing, nothing-lookup, lookup-cases, listed-found, mappingOf-at, mappingOf-nothing}
 use Rattle.mapping.proofs.Change.{append-count, append-length, append-at-same, append-at-other}
 
--- a mapping whose space and page are not listed, to a list with room
-
-module _ (b : Board) (l : MappingList) (m : Mapping) (rules : Rules b l) (long : length (l .items) ≡ capacity) (room : l .count < capacity)
-    (range : InRange b m) (new : lookup l (m .space) (m .page) ≡ Nothing) where
+module _ (l : MappingList) (m : Mapping) (long : length (l .items) ≡ capacity) (room : l .count < capacity) where
   -- the place of a listed mapping after the append: the last, or a place from before
   place : (i : ℕ) → i < append l m .count → (i ≡ l .count) ⊎ (i < l .count)
   place i h = eq-or-lt-of-le (let n = append-count l m room in let k : i ≤ l .count = omega arith in k)
@@ -32,33 +29,9 @@ module _ (b : Board) (l : MappingList) (m : Mapping) (rules : Rules b l) (long :
   at-earlier : (i : ℕ) → i < l .count → mappingAt (append l m) i ≡ mappingAt l i
   at-earlier i h = append-at-other l m i (λ e. omega arith)
 
-  -- the new mapping and one from before differ in space or page
-  differs : (i : ℕ) → i < l .count → MapsTo (mappingAt l i) (m .space) (m .page) → ⊥
-  differs i h = lookup-nothing l (m .space) (m .page) new i h (omega arith)
-
-  pub append-rules : Rules b (append l m)
-  append-rules = record {
-    count-le = let n = append-count l m room in omega arith;
-    in-range = λ i h. ⊎-elim (λ e. subst (InRange b) (sym (at-last i e)) range) (λ k. subst (InRange b) (sym (at-earlier i k)) (rules .in-range i k)) (place i h);
-    distinct = λ i j h k e.
-        ⊎-elim (λ p. ⊎-elim (λ q. p ∙ sym q) (λ q. let f = alike (at-last i p) (at-earlier j q) e in absurd (differs j q (sym (f .0), sym (f .1)))) (place j k))
-        (λ p. ⊎-elim (λ q. absurd (differs i p (alike (at-earlier i p) (at-last j q) e))) (λ q. rules .distinct i j p q (alike (at-earlier i p) (at-earlier j q) e)) (place j k))
-        (place i h);
-    rest-zero = λ i h. let n = append-count l m room in append-at-other l m i (λ e. omega arith) ∙ rules .rest-zero i (omega arith);
-  }
-
-  -- the new pair is found last, with the new mapping
-  pub lookup-append-same : lookup (append l m) (m .space) (m .page) ≡ At (l .count)
-  lookup-append-same =
-      let n = append-count l m room in
-      at-lookup (append l m) _ _ (l .count) (listed-found b (append l m) append-rules (l .count) _ _ (omega arith) (same (sym (at-last (l .count) refl)) (refl, refl)))
-
-  pub mappingOf-append-same : mappingOf (append l m) (m .space) (m .page) ≡ some m
-  mappingOf-append-same = mappingOf-at (append l m) _ _ (l .count) lookup-append-same ∙ ap some (at-last (l .count) refl)
-
-  -- another pair is found as before
+  -- a pair other than the new one is found as before
   pub lookup-append-other : (s p : ℕ) → (MapsTo m s p → ⊥) → lookup (append l m) s p ≡ lookup l s p
-  lookup-append-other s p h = ⊎-elim (λ f. kept (f .0) (f .1)) none-still (found-or-not l s p)
+  lookup-append-other s p h = ⊎-elim (λ f. kept (f .0) (f .1)) none-still (lookup-cases l s p)
     where
       kept : (i : ℕ) → FoundAt l s p i → lookup (append l m) s p ≡ lookup l s p
       kept i f =
@@ -67,17 +40,17 @@ module _ (b : Board) (l : MappingList) (m : Mapping) (rules : Rules b l) (long :
           at-lookup (append l m) s p i (record {
             listed = omega arith;
             inside = omega arith;
-            maps = same (sym (at-earlier i (f .listed))) (f .maps);
-            first = λ j o e. f .first j o (same (at-earlier j (omega arith)) e);
+            maps = maps-cong (sym (at-earlier i (f .listed))) (f .maps);
+            first = λ j o e. f .first j o (maps-cong (at-earlier j (omega arith)) e);
           }) ∙ sym (at-lookup l s p i f)
 
       none-still : Unlisted l s p → lookup (append l m) s p ≡ lookup l s p
       none-still u =
-          nothing-lookup (append l m) s p (λ i j k e. ⊎-elim (λ q. h (same (at-last i q) e)) (λ q. u i q (omega arith) (same (at-earlier i q) e)) (place i j))
+          nothing-lookup (append l m) s p (λ i j k e. ⊎-elim (λ q. h (maps-cong (at-last i q) e)) (λ q. u i q (omega arith) (maps-cong (at-earlier i q) e)) (place i j))
           ∙ sym (nothing-lookup l s p u)
 
   pub mappingOf-append-other : (s p : ℕ) → (MapsTo m s p → ⊥) → mappingOf (append l m) s p ≡ mappingOf l s p
-  mappingOf-append-other s p h = ⊎-elim (λ f. kept (f .0) (f .1)) none-still (found-or-not l s p)
+  mappingOf-append-other s p h = ⊎-elim (λ f. kept (f .0) (f .1)) none-still (lookup-cases l s p)
     where
       kept : (i : ℕ) → FoundAt l s p i → mappingOf (append l m) s p ≡ mappingOf l s p
       kept i f =
@@ -88,3 +61,30 @@ module _ (b : Board) (l : MappingList) (m : Mapping) (rules : Rules b l) (long :
       none-still u =
           let e = nothing-lookup l s p u in
           mappingOf-nothing (append l m) s p (lookup-append-other s p h ∙ e) ∙ sym (mappingOf-nothing l s p e)
+
+-- a mapping in range whose space and page are not listed
+module _ (b : Board) (l : MappingList) (m : Mapping) (rules : Rules b l) (long : length (l .items) ≡ capacity) (room : l .count < capacity)
+    (range : InRange b m) (new : lookup l (m .space) (m .page) ≡ Nothing) where
+  -- the new mapping and one from before differ in space or page
+  differs : (i : ℕ) → i < l .count → MapsTo (mappingAt l i) (m .space) (m .page) → ⊥
+  differs i h = lookup-nothing l (m .space) (m .page) new i h (omega arith)
+
+  pub append-rules : Rules b (append l m)
+  append-rules = record {
+    count-le = let n = append-count l m room in omega arith;
+    in-range = λ i h. ⊎-elim (λ e. subst (InRange b) (sym (at-last l m long room i e)) range) (λ k. subst (InRange b) (sym (at-earlier l m long room i k)) (rules .in-range i k)) (place l m long room i h);
+    distinct = λ i j h k e.
+        ⊎-elim (λ p. ⊎-elim (λ q. p ∙ sym q) (λ q. let f = maps-cong₂ (at-last l m long room i p) (at-earlier l m long room j q) e in absurd (differs j q (sym (f .0), sym (f .1)))) (place l m long room j k))
+        (λ p. ⊎-elim (λ q. absurd (differs i p (maps-cong₂ (at-earlier l m long room i p) (at-last l m long room j q) e))) (λ q. rules .distinct i j p q (maps-cong₂ (at-earlier l m long room i p) (at-earlier l m long room j q) e)) (place l m long room j k))
+        (place l m long room i h);
+    rest-zero = λ i h. let n = append-count l m room in append-at-other l m i (λ e. omega arith) ∙ rules .rest-zero i (omega arith);
+  }
+
+  -- the new pair is found last, with the new mapping
+  pub lookup-append-same : lookup (append l m) (m .space) (m .page) ≡ At (l .count)
+  lookup-append-same =
+      let n = append-count l m room in
+      at-lookup (append l m) _ _ (l .count) (listed-found b (append l m) append-rules (l .count) _ _ (omega arith) (maps-cong (sym (at-last l m long room (l .count) refl)) (refl, refl)))
+
+  pub mappingOf-append-same : mappingOf (append l m) (m .space) (m .page) ≡ some m
+  mappingOf-append-same = mappingOf-at (append l m) _ _ (l .count) lookup-append-same ∙ ap some (at-last l m long room (l .count) refl)

@@ -12,7 +12,7 @@ use Rattle.mapping.specs.declared.Mapping.{Mapping}
 use Rattle.mapping.specs.declared.MappingList.{MappingList}
 use Rattle.mapping.specs.Entry.{capacity, zeroMapping, mappingAt}
 use Rattle.mapping.specs.Change.{empty, append, without, remove}
-use Rattle.mapping.proofs.Chain.{cond-true, cond-false, lt-or-le}
+use Rattle.mapping.proofs.Tests.{cond-true, cond-false, lt-or-le}
 use Rattle.mapping.proofs.Without.{without-length, without-earlier, without-later}
 
 -- ---- empty
@@ -27,7 +27,10 @@ empty-length = length-replicate capacity zeroMapping
 
 pub empty-at : (i : ℕ) → mappingAt empty i ≡ zeroMapping
 unfolding empty
-empty-at i = ⊎-elim (λ h. getD-replicate capacity i zeroMapping zeroMapping h) (λ h. List·getD-eq-default (replicate capacity zeroMapping) zeroMapping {n = i} (let n = empty-length in omega arith)) (lt-or-le i capacity)
+empty-at i =
+    ⊎-elim (λ h. getD-replicate capacity i zeroMapping zeroMapping h)
+    (λ h. List·getD-eq-default (replicate capacity zeroMapping) zeroMapping {n = i} (let n = empty-length in omega arith))
+    (lt-or-le i capacity)
 
 -- ---- append
 

@@ -9,12 +9,12 @@ use Rattle.board.specs.Board.{Board}
 use Rattle.mapping.specs.declared.Mapping.{Mapping}
 use Rattle.mapping.specs.Entry.{readOnly, readWrite, zeroMapping, inRange, isZero, isAt}
 use Rattle.mapping.specs.Facts.{InRange, MapsTo}
-use Rattle.mapping.proofs.Chain.{and-both, or-either, last}
+use Rattle.mapping.proofs.Tests.{and-both, or-either, chain-last}
 
 module _ (b : Board) (m : Mapping) where
-  pub in-range : inRange b m ≡ true → InRange b m
+  pub inRange-true : inRange b m ≡ true → InRange b m
   unfolding inRange
-  in-range e =
+  inRange-true e =
       let s = and-both _ _ e in
       let t = and-both _ _ (s .0) in
       let u = and-both _ _ (t .0) in
@@ -25,16 +25,21 @@ module _ (b : Board) (m : Mapping) where
         rights-of = ⊎-elim (λ r. inl (eqb-true _ _ r)) (λ r. inr (eqb-true _ _ r)) (or-either _ _ (s .1));
       }
 
-  pub range-in : InRange b m → inRange b m ≡ true
+  pub range-inRange : InRange b m → inRange b m ≡ true
   unfolding inRange
-  range-in r =
-      sym (last _ _ _ _ true (lt-ltb _ _ (r .space-lt)) (lt-ltb _ _ (r .page-lt)) (lt-ltb _ _ (r .frame-lt))
-      (sym (⊎-elim (λ e. ap (λ (t : Bool). t || eqb (m .rights) readWrite) (eq-eqb _ _ e)) (λ e. ap (λ (t : Bool). eqb (m .rights) readOnly || t) (eq-eqb _ _ e) ∙ or-true (eqb (m .rights) readOnly)) (r .rights-of))))
+  range-inRange r =
+      sym (chain-last _ _ _ _ true (lt-ltb _ _ (r .space-lt)) (lt-ltb _ _ (r .page-lt)) (lt-ltb _ _ (r .frame-lt)) (sym (⊎-elim read write (r .rights-of))))
+    where
+      read : m .rights ≡ readOnly → (eqb (m .rights) readOnly || eqb (m .rights) readWrite) ≡ true
+      read e = ap (λ (t : Bool). t || eqb (m .rights) readWrite) (eq-eqb _ _ e)
+
+      write : m .rights ≡ readWrite → (eqb (m .rights) readOnly || eqb (m .rights) readWrite) ≡ true
+      write e = ap (λ (t : Bool). eqb (m .rights) readOnly || t) (eq-eqb _ _ e) ∙ or-true (eqb (m .rights) readOnly)
 
 -- the only mapping whose fields are all 0
-pub is-zero : (m : Mapping) → isZero m ≡ true → m ≡ zeroMapping
+pub isZero-true : (m : Mapping) → isZero m ≡ true → m ≡ zeroMapping
 unfolding isZero
-is-zero m e =
+isZero-true m e =
     let s = and-both _ _ e in
     let t = and-both _ _ (s .0) in
     let u = and-both _ _ (t .0) in
@@ -43,33 +48,33 @@ is-zero m e =
     made : {s p f r : ℕ} → s ≡ 0 → p ≡ 0 → f ≡ 0 → r ≡ 0 → _≡_ {A = Mapping} (record { space = s; page = p; frame = f; rights = r }) zeroMapping
     made a b c d = rw (a, b, c, d)
 
-pub zero-is : isZero zeroMapping ≡ true
+pub isZero-zero : isZero zeroMapping ≡ true
 unfolding isZero
-zero-is = refl
+isZero-zero = refl
 
 -- the mapping of a page of a space
 module _ (m : Mapping) (s p : ℕ) where
-  pub is-at : isAt m s p ≡ true → MapsTo m s p
+  pub isAt-true : isAt m s p ≡ true → MapsTo m s p
   unfolding isAt
-  is-at e = let b = and-both _ _ e in (eqb-true _ _ (b .0), eqb-true _ _ (b .1))
+  isAt-true e = let b = and-both _ _ e in (eqb-true _ _ (b .0), eqb-true _ _ (b .1))
 
-  pub at-is : MapsTo m s p → isAt m s p ≡ true
+  pub maps-isAt : MapsTo m s p → isAt m s p ≡ true
   unfolding isAt
-  at-is h = ap₂ _&&_ (eq-eqb _ _ (h .0)) (eq-eqb _ _ (h .1))
+  maps-isAt h = ap₂ _&&_ (eq-eqb _ _ (h .0)) (eq-eqb _ _ (h .1))
 
-  pub not-at : isAt m s p ≡ false → MapsTo m s p → ⊥
-  not-at e h = false≢true (sym e ∙ at-is h)
+  pub isAt-false : isAt m s p ≡ false → MapsTo m s p → ⊥
+  isAt-false e h = false≢true (sym e ∙ maps-isAt h)
 
-  pub at-not : (MapsTo m s p → ⊥) → isAt m s p ≡ false
-  at-not h = go (isAt m s p) refl
+  pub not-isAt : (MapsTo m s p → ⊥) → isAt m s p ≡ false
+  not-isAt h = go (isAt m s p) refl
     where
       go : (t : Bool) → isAt m s p ≡ t → t ≡ false
-      go true z = absurd (h (is-at z))
+      go true z = absurd (h (isAt-true z))
       go false z = refl
 
 -- mappings for others that they equal
-pub same : {m n : Mapping} {s p : ℕ} → m ≡ n → MapsTo m s p → MapsTo n s p
-same {s = s} {p = p} e = subst (λ (x : Mapping). MapsTo x s p) e
+pub maps-cong : {m n : Mapping} {s p : ℕ} → m ≡ n → MapsTo m s p → MapsTo n s p
+maps-cong {s = s} {p = p} e = subst (λ (x : Mapping). MapsTo x s p) e
 
-pub alike : {m m′ n n′ : Mapping} → m ≡ m′ → n ≡ n′ → MapsTo m (n .space) (n .page) → MapsTo m′ (n′ .space) (n′ .page)
-alike p q e = (cc, cc)
+pub maps-cong₂ : {m m′ n n′ : Mapping} → m ≡ m′ → n ≡ n′ → MapsTo m (n .space) (n .page) → MapsTo m′ (n′ .space) (n′ .page)
+maps-cong₂ p q e = (cc, cc)

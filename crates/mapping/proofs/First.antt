@@ -24,22 +24,22 @@ step : (n : ℕ) (p : ℕ → Bool) {f : Found} {t : Bool} → firstOf n p ≡ f
 unfolding firstOf
 step n p e z = ap₂ (λ (f : Found) (t : Bool). orElse f (cond t (At n) Nothing)) e z
 
-pub first-nothing : (n : ℕ) (p : ℕ → Bool) → ((k : ℕ) → k < n → p k ≡ false) → firstOf n p ≡ Nothing
+pub nothing-firstOf : (n : ℕ) (p : ℕ → Bool) → ((k : ℕ) → k < n → p k ≡ false) → firstOf n p ≡ Nothing
 unfolding firstOf
-first-nothing zero p h = refl
-first-nothing (suc n) p h = step n p (first-nothing n p (λ k l. h k (omega arith))) (h n (omega arith))
+nothing-firstOf zero p h = refl
+nothing-firstOf (suc n) p h = step n p (nothing-firstOf n p (λ k l. h k (omega arith))) (h n (omega arith))
 
-pub first-at : (n : ℕ) (p : ℕ → Bool) (i : ℕ) → First n p i → firstOf n p ≡ At i
-first-at zero p i f = absurd (omega arith)
-first-at (suc n) p i f =
-    ⊎-elim (λ e. rw e (step n p (first-nothing n p (rw e at (f .earlier))) (rw e at (f .picked))))
-    (λ l. step n p (first-at n p i (record { below = l; picked = f .picked; earlier = f .earlier })) refl)
+pub at-firstOf : (n : ℕ) (p : ℕ → Bool) (i : ℕ) → First n p i → firstOf n p ≡ At i
+at-firstOf zero p i f = absurd (omega arith)
+at-firstOf (suc n) p i f =
+    ⊎-elim (λ e. rw e (step n p (nothing-firstOf n p (rw e at (f .earlier))) (rw e at (f .picked))))
+    (λ l. step n p (at-firstOf n p i (record { below = l; picked = f .picked; earlier = f .earlier })) refl)
     (last-or-below i n (f .below))
 
 -- p picks a first place below n, or none
-pub first-or-none : (n : ℕ) (p : ℕ → Bool) → ((i : ℕ) × First n p i) ⊎ ((k : ℕ) → k < n → p k ≡ false)
-first-or-none zero p = inr (λ k l. absurd (omega arith))
-first-or-none (suc n) p = ⊎-elim (λ s. inl (s .0, further (s .0) (s .1))) (λ h. last (p n) refl h) (first-or-none n p)
+pub firstOf-cases : (n : ℕ) (p : ℕ → Bool) → ((i : ℕ) × First n p i) ⊎ ((k : ℕ) → k < n → p k ≡ false)
+firstOf-cases zero p = inr (λ k l. absurd (omega arith))
+firstOf-cases (suc n) p = ⊎-elim (λ s. inl (s .0, further (s .0) (s .1))) (λ h. last (p n) refl h) (firstOf-cases n p)
   where
     further : (i : ℕ) → First n p i → First (suc n) p i
     further i f = record { below = omega arith; picked = f .picked; earlier = f .earlier }
@@ -48,17 +48,17 @@ first-or-none (suc n) p = ⊎-elim (λ s. inl (s .0, further (s .0) (s .1))) (λ
     last true z h = inl (n, record { below = omega arith; picked = z; earlier = h })
     last false z h = inr (λ k l. ⊎-elim (λ e. rw e z) (λ m. h k m) (last-or-below k n l))
 
-pub at-first : (n : ℕ) (p : ℕ → Bool) (i : ℕ) → firstOf n p ≡ At i → First n p i
-at-first n p i e = ⊎-elim found none (first-or-none n p)
+pub firstOf-at : (n : ℕ) (p : ℕ → Bool) (i : ℕ) → firstOf n p ≡ At i → First n p i
+firstOf-at n p i e = ⊎-elim found none (firstOf-cases n p)
   where
     found : (j : ℕ) × First n p j → First n p i
-    found s = let f = first-at n p (s .0) (s .1) in let z : s .0 ≡ i = cc in subst (First n p) z (s .1)
+    found s = let f = at-firstOf n p (s .0) (s .1) in let z : s .0 ≡ i = cc in subst (First n p) z (s .1)
 
     none : ((k : ℕ) → k < n → p k ≡ false) → First n p i
-    none h = let f = first-nothing n p h in let z : _≡_ {A = ℕ} 0 1 = cc in absurd (omega arith)
+    none h = let f = nothing-firstOf n p h in let z : _≡_ {A = ℕ} 0 1 = cc in absurd (omega arith)
 
-pub nothing-first : (n : ℕ) (p : ℕ → Bool) → firstOf n p ≡ Nothing → (k : ℕ) → k < n → p k ≡ false
-nothing-first n p e = ⊎-elim found (λ h. h) (first-or-none n p)
+pub firstOf-nothing : (n : ℕ) (p : ℕ → Bool) → firstOf n p ≡ Nothing → (k : ℕ) → k < n → p k ≡ false
+firstOf-nothing n p e = ⊎-elim found (λ h. h) (firstOf-cases n p)
   where
     found : (j : ℕ) × First n p j → (k : ℕ) → k < n → p k ≡ false
-    found s = let f = first-at n p (s .0) (s .1) in let z : _≡_ {A = ℕ} 0 1 = cc in absurd (omega arith)
+    found s = let f = at-firstOf n p (s .0) (s .1) in let z : _≡_ {A = ℕ} 0 1 = cc in absurd (omega arith)

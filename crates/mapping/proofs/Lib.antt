@@ -1,5 +1,5 @@
--- What the functions' proofs and the callers cite: chains of tests, places, and the laws of the list.
-pub mod Chain
+-- The laws of the mapping list: Laws has those for callers, the others what leads to them and what the functions' proofs cite.
+pub mod Tests
 pub mod Records
 pub mod Entry
 pub mod Rules

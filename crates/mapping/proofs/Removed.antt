@@ -16,10 +16,10 @@ use Rattle.mapping.specs.Entry.{mappingAt}
 use Rattle.mapping.specs.Lookup.{lookup, mappingOf}
 use Rattle.mapping.specs.Change.{remove}
 use Rattle.mapping.specs.Facts.{InRange, MapsTo, Rules, FoundAt, Unlisted}
-use Rattle.mapping.proofs.Chain.{cond-true, cond-false, lt-or-le}
-use Rattle.mapping.proofs.Entry.{same, alike}
+use Rattle.mapping.proofs.Tests.{cond-true, cond-false, lt-or-le}
+use Rattle.mapping.proofs.Entry.{maps-cong, maps-cong₂}
 use Rattle.mapping.proofs.Rules.{count-length}
-use Rattle.mapping.proofs.Lookups.{at-lookup, nothing-lookup, found-or-not, mappingOf-at, mappingOf-nothing, mappingOf-listed, mappingOf-unlisted}
+use Rattle.mapping.proofs.Lookups.{at-lookup, nothing-lookup, lookup-cases, mappingOf-at, mappingOf-nothing, mappingOf-listed, mappingOf-unlisted}
 use Rattle.mapping.proofs.Change.{remove-count, remove-at-earlier, remove-at-later}
 
 -- the place in the list before a remove at i of what stands at place j after it
@@ -66,7 +66,7 @@ module _ (b : Board) (l : MappingList) (i : ℕ) (rules : Rules b l) (listed : i
   remove-rules = record {
     count-le = let n = counted in omega arith;
     in-range = λ j h. subst (InRange b) (sym (moved j)) (rules .in-range (source i j) (source-listed j h));
-    distinct = λ j k h o e. source-one i j k (rules .distinct (source i j) (source i k) (source-listed j h) (source-listed k o) (alike (moved j) (moved k) e));
+    distinct = λ j k h o e. source-one i j k (rules .distinct (source i j) (source i k) (source-listed j h) (source-listed k o) (maps-cong₂ (moved j) (moved k) e));
     rest-zero = λ j h. moved j ∙ rules .rest-zero (source i j) (rest j h);
   }
     where
@@ -76,24 +76,24 @@ module _ (b : Board) (l : MappingList) (i : ℕ) (rules : Rules b l) (listed : i
   -- the removed pair is no longer found
   pub lookup-remove-same : lookup (remove l i) (mappingAt l i .space) (mappingAt l i .page) ≡ Nothing
   lookup-remove-same =
-      nothing-lookup (remove l i) _ _ (λ j h k e. source-not i j (rules .distinct (source i j) i (source-listed j h) listed (same (moved j) e)))
+      nothing-lookup (remove l i) _ _ (λ j h k e. source-not i j (rules .distinct (source i j) i (source-listed j h) listed (maps-cong (moved j) e)))
 
   pub mappingOf-remove-same : mappingOf (remove l i) (mappingAt l i .space) (mappingAt l i .page) ≡ none
   mappingOf-remove-same = mappingOf-nothing (remove l i) _ _ lookup-remove-same
 
   -- another pair has the mapping that it had
   pub mappingOf-remove-other : (s p : ℕ) → (MapsTo (mappingAt l i) s p → ⊥) → mappingOf (remove l i) s p ≡ mappingOf l s p
-  mappingOf-remove-other s p h = ⊎-elim (λ f. kept (f .0) (f .1)) none-still (found-or-not l s p)
+  mappingOf-remove-other s p h = ⊎-elim (λ f. kept (f .0) (f .1)) none-still (lookup-cases l s p)
     where
       kept : (k : ℕ) → FoundAt l s p k → mappingOf (remove l i) s p ≡ mappingOf l s p
       kept k f =
-          let o = source-to i k (λ e. h (same (ap (mappingAt l) e) (f .maps))) in
+          let o = source-to i k (λ e. h (maps-cong (ap (mappingAt l) e) (f .maps))) in
           let e : mappingAt (remove l i) (o .0) ≡ mappingAt l k = moved (o .0) ∙ ap (mappingAt l) (o .1) in
-          mappingOf-listed b (remove l i) remove-rules (o .0) s p (listed-source (o .0) (subst (λ (x : ℕ). x < l .count) (sym (o .1)) (f .listed))) (same (sym e) (f .maps))
+          mappingOf-listed b (remove l i) remove-rules (o .0) s p (listed-source (o .0) (subst (λ (x : ℕ). x < l .count) (sym (o .1)) (f .listed))) (maps-cong (sym e) (f .maps))
           ∙ ap some e ∙ sym (mappingOf-at l s p k (at-lookup l s p k f))
 
       none-still : Unlisted l s p → mappingOf (remove l i) s p ≡ mappingOf l s p
       none-still u =
           let n = count-length b l rules in
-          mappingOf-unlisted b (remove l i) remove-rules s p (λ j o e. let q = source-listed j o in u (source i j) q (omega arith) (same (moved j) e))
+          mappingOf-unlisted b (remove l i) remove-rules s p (λ j o e. let q = source-listed j o in u (source i j) q (omega arith) (maps-cong (moved j) e))
           ∙ sym (mappingOf-nothing l s p (nothing-lookup l s p u))

@@ -15,8 +15,8 @@ use Rattle.mapping.specs.declared.MappingList.{MappingList}
 use Rattle.mapping.specs.Entry.{zeroMapping, isZero, mappingAt}
 use Rattle.mapping.specs.Rules.{allInRange, fresh, noDoubles, restZero, keepsRules}
 use Rattle.mapping.specs.Facts.{MapsTo, Rules}
-use Rattle.mapping.proofs.Chain.{last, and-both, lt-or-le}
-use Rattle.mapping.proofs.Entry.{in-range, range-in, is-zero, zero-is, not-at, at-not}
+use Rattle.mapping.proofs.Tests.{chain-last, and-both, lt-or-le}
+use Rattle.mapping.proofs.Entry.{inRange-true, range-inRange, isZero-true, isZero-zero, isAt-false, not-isAt}
 
 module _ (b : Board) (l : MappingList) where
   -- ---- from the test to the facts
@@ -24,25 +24,25 @@ module _ (b : Board) (l : MappingList) where
   -- an earlier place has not the space and page of a listed one
   apart : noDoubles l ≡ true → (i j : ℕ) → i < j → j < l .count → MapsTo (mappingAt l i) (mappingAt l j .space) (mappingAt l j .page) → ⊥
   unfolding noDoubles fresh
-  apart e i j h k = not-at _ _ _ (not-true _ (all-at j _ (all-at _ _ e j k) i h))
+  apart e i j h k = isAt-false _ _ _ (not-true _ (all-at j _ (all-at _ _ e j k) i h))
 
   zero-past : restZero l ≡ true → (i : ℕ) → l .count ≤ i → mappingAt l i ≡ zeroMapping
   unfolding restZero
   zero-past e i h = ⊎-elim inside (λ k. List·getD-eq-default (l .items) zeroMapping k) (lt-or-le i (length (l .items)))
     where
       inside : i < length (l .items) → mappingAt l i ≡ zeroMapping
-      inside k = is-zero _ (ap (λ (t : Bool). t || isZero (mappingAt l i)) (sym (le-ltb _ _ h)) ∙ all-at _ _ e i k)
+      inside k = isZero-true _ (ap (λ (t : Bool). t || isZero (mappingAt l i)) (sym (le-ltb _ _ h)) ∙ all-at _ _ e i k)
 
   -- what a list that passes the test keeps
-  pub rules-of : keepsRules b l ≡ true → Rules b l
+  pub keepsRules-true : keepsRules b l ≡ true → Rules b l
   unfolding keepsRules allInRange
-  rules-of e =
+  keepsRules-true e =
       let s = and-both _ _ e in
       let t = and-both _ _ (s .0) in
       let u = and-both _ _ (t .0) in
       record {
         count-le = leb-true _ _ (u .0);
-        in-range = λ i h. in-range b _ (all-at _ _ (u .1) i h);
+        in-range = λ i h. inRange-true b _ (all-at _ _ (u .1) i h);
         distinct = λ i j h k m. ⊎-elim (λ o. absurd (apart (t .1) i j o k m)) (λ o. ⊎-elim sym (λ o. absurd (apart (t .1) j i o h (sym (m .0), sym (m .1)))) (eq-or-lt-of-le o)) (lt-or-le i j);
         rest-zero = zero-past (s .1);
       }
@@ -51,7 +51,7 @@ module _ (b : Board) (l : MappingList) where
 
   all-fresh : Rules b l → noDoubles l ≡ true
   unfolding noDoubles fresh
-  all-fresh r = all-of _ _ (λ j k. all-of _ _ (λ i h. ap not (at-not _ _ _ (λ m. let e = r .distinct i j (omega arith) k m in omega arith))))
+  all-fresh r = all-of _ _ (λ j k. all-of _ _ (λ i h. ap not (not-isAt _ _ _ (λ m. let e = r .distinct i j (omega arith) k m in omega arith))))
 
   all-zero : Rules b l → restZero l ≡ true
   unfolding restZero
@@ -64,11 +64,11 @@ module _ (b : Board) (l : MappingList) where
       listed {i} k = ap (λ (t : Bool). t || isZero (mappingAt l i)) (lt-ltb _ _ k)
 
       rest : {i : ℕ} → l .count ≤ i → test i ≡ true
-      rest {i} k = ap (λ (t : Bool). ltb i (l .count) || t) (ap isZero (r .rest-zero i k) ∙ zero-is) ∙ or-true (ltb i (l .count))
+      rest {i} k = ap (λ (t : Bool). ltb i (l .count) || t) (ap isZero (r .rest-zero i k) ∙ isZero-zero) ∙ or-true (ltb i (l .count))
 
-  pub keeps-of : Rules b l → keepsRules b l ≡ true
+  pub rules-keepsRules : Rules b l → keepsRules b l ≡ true
   unfolding keepsRules allInRange
-  keeps-of r = sym (last _ _ _ _ true (le-leb _ _ (r .count-le)) (all-of _ _ (λ i h. range-in b _ (r .in-range i h))) (all-fresh r) (sym (all-zero r)))
+  rules-keepsRules r = sym (chain-last _ _ _ _ true (le-leb _ _ (r .count-le)) (all-of _ _ (λ i h. range-inRange b _ (r .in-range i h))) (all-fresh r) (sym (all-zero r)))
 
   -- ---- the count and the number of records
 

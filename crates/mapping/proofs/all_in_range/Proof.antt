@@ -10,7 +10,7 @@ use Rattle.bits.proofs.Mask.{all-of}
 use Rattle.board.specs.Board.{board01}
 use Rattle.mapping.specs.Entry.{inRange, mappingAt}
 use Rattle.mapping.specs.Rules.{allInRange}
-use Rattle.mapping.proofs.Chain.{all-not}
+use Rattle.mapping.proofs.Tests.{all-not}
 use Rattle.mapping.proofs.all_in_range.Statement.{statement}
 use Rattle.mapping.proofs.all_in_range.Tie as tie
 

@@ -8,7 +8,7 @@ use borrow.Author.Count.{below-none, below-more}
 use Rattle.bits.proofs.Mask.{all-of}
 use Rattle.mapping.specs.Entry.{isAt, mappingAt}
 use Rattle.mapping.specs.Rules.{fresh}
-use Rattle.mapping.proofs.Chain.{all-not}
+use Rattle.mapping.proofs.Tests.{all-not}
 use Rattle.mapping.proofs.fresh.Statement.{statement}
 use Rattle.mapping.proofs.fresh.Tie as tie
 

@@ -5,7 +5,7 @@ use borrow.Author.Needs.{needs}
 use borrow.Author.Tests.{le-leb, lt-leb, not-true, not-false}
 use Rattle.mapping.specs.Entry.{capacity}
 use Rattle.mapping.specs.Rules.{keepsRules}
-use Rattle.mapping.proofs.Chain.{last}
+use Rattle.mapping.proofs.Tests.{chain-last}
 use Rattle.mapping.proofs.keeps_rules.Statement.{statement}
 use Rattle.mapping.proofs.keeps_rules.Tie as tie
 
@@ -37,7 +37,9 @@ unfolding keepsRules
 returns-4 c =
     let at3 = c .before in
     let at2 = at3 .before .before in
-    last _ _ _ _ _ (le-leb _ _ (at2 .before .before .if1 .left)) (sym (at2 .before .all-in-range .ensures) ∙ not-false _ (at2 .if2 .left)) (sym (at3 .before .no-doubles .ensures) ∙ not-false _ (at3 .if3 .left))
+    chain-last _ _ _ _ _ (le-leb _ _ (at2 .before .before .if1 .left))
+    (sym (at2 .before .all-in-range .ensures) ∙ not-false _ (at2 .if2 .left))
+    (sym (at3 .before .no-doubles .ensures) ∙ not-false _ (at3 .if3 .left))
     (c .rest-zero .ensures)
 
 pub keeps-rules-spec : {M : Type 1} → statement M

@@ -8,7 +8,7 @@ use borrow.Author.Needs.{needs}
 use borrow.Author.Count.{below-none, below-more}
 use Rattle.mapping.specs.Entry.{capacity, isAt, mappingAt}
 use Rattle.mapping.specs.Lookup.{lookup}
-use Rattle.mapping.proofs.First.{first-at, first-nothing}
+use Rattle.mapping.proofs.First.{at-firstOf, nothing-firstOf}
 use Rattle.mapping.proofs.Records.{items-length}
 use Rattle.mapping.proofs.lookup.Statement.{statement}
 use Rattle.mapping.proofs.lookup.Tie as tie
@@ -36,7 +36,7 @@ unfolding lookup
 returns c =
     let at = c .before .before .before .before in
     let long = items-length (at .before .before .args .t1) _ (at .before .before .good .0) in
-    sym (first-at _ _ (at .loop .i) (record { below = omega arith; picked = sym (c .before .is-at .ensures) ∙ c .if2 .taken; earlier = at .loop .inv .2 }))
+    sym (at-firstOf _ _ (at .loop .i) (record { below = omega arith; picked = sym (c .before .is-at .ensures) ∙ c .if2 .taken; earlier = at .loop .inv .2 }))
 
 add-i : tie.Need-add-i Inv-loop μ-loop
 add-i c = search needs
@@ -53,7 +53,7 @@ returns-2 : tie.Need-returns-2 Inv-loop μ-loop
 unfolding lookup
 returns-2 c =
     let long = items-length (c .before .before .before .args .t1) _ (c .before .before .before .good .0) in
-    sym (first-nothing _ _ (λ k l. c .before .loop .inv .2 k (omega arith)))
+    sym (nothing-firstOf _ _ (λ k l. c .before .loop .inv .2 k (omega arith)))
 
 pub lookup-spec : {M : Type 1} → statement M
 lookup-spec =

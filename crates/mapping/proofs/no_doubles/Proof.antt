@@ -8,7 +8,7 @@ use borrow.Author.Count.{below-none, below-more}
 use borrow.Author.Tests.{not-true, not-false}
 use Rattle.bits.proofs.Mask.{all-of}
 use Rattle.mapping.specs.Rules.{fresh, noDoubles}
-use Rattle.mapping.proofs.Chain.{all-not}
+use Rattle.mapping.proofs.Tests.{all-not}
 use Rattle.mapping.proofs.no_doubles.Statement.{statement}
 use Rattle.mapping.proofs.no_doubles.Tie as tie
 

@@ -63,8 +63,12 @@ loop-again : tie.Need-loop-again Inv-loop μ-loop
 loop-again c =
     let at = c .before .before in
     let a = at .before .before .before in
-    let long = items-length (a .args .t1) _ (a .good .0) in
-    (omega arith, omega arith, simp length-set (at .loop .inv .2), move-one (a .args .t1 .items) (a .args .i) (omega arith) (at .loop .next .items) (at .loop .j) (omega arith) (omega arith) (at .loop .inv .3))
+    let long = items-length (a .args .t1) _ (a .good .0) in (
+      omega arith,
+      omega arith,
+      simp length-set (at .loop .inv .2),
+      move-one (a .args .t1 .items) (a .args .i) (omega arith) (at .loop .next .items) (at .loop .j) (omega arith) (omega arith) (at .loop .inv .3),
+    )
 
 zero-requires : tie.Need-zero-requires Inv-loop μ-loop
 zero-requires c κs = search needs
@@ -86,11 +90,15 @@ returns-3 c =
     let at = c .before .before in
     let a = at .before .before .before in
     let long = items-length (a .args .t1) _ (a .good .0) in
-    let e : set (at .loop .next .items) 255 zeroMapping ≡ without (a .args .t1 .items) (a .args .i) = move-last (a .args .t1 .items) (a .args .i) (omega arith) (at .loop .next .items) 255 long (at .loop .inv .2) (λ k l. at .loop .inv .3 k (omega arith)) in
-    ap (λ (z : Mapping). made (set (at .loop .next .items) 255 z) (a .args .t1 .count - 1)) (c .zero .ensures) ∙ ap (λ (xs : List Mapping). made xs (a .args .t1 .count - 1)) e ∙ sym (remove-listed _ _ (omega arith) (omega arith))
+    let last = capacity - 1 in
+    let n = a .args .t1 .count - 1 in
+    ap (λ (z : Mapping). listOf (set (at .loop .next .items) last z) n) (c .zero .ensures)
+    ∙ ap (λ (xs : List Mapping). listOf xs n)
+    (move-last (a .args .t1 .items) (a .args .i) (omega arith) (at .loop .next .items) last long (at .loop .inv .2) (λ k l. at .loop .inv .3 k (omega arith)))
+    ∙ sym (remove-listed _ _ (omega arith) (omega arith))
   where
-    made : List Mapping → ℕ → MappingList
-    made xs n = record { items = xs; count = n }
+    listOf : List Mapping → ℕ → MappingList
+    listOf xs n = record { items = xs; count = n }
 
 pub remove-spec : {M : Type 1} → statement M
 remove-spec =

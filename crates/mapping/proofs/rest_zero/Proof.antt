@@ -10,7 +10,7 @@ use borrow.Author.Tests.{not-true, not-false, lt-ltb, le-ltb}
 use Rattle.bits.proofs.Mask.{all-of}
 use Rattle.mapping.specs.Entry.{capacity, isZero, mappingAt}
 use Rattle.mapping.specs.Rules.{restZero}
-use Rattle.mapping.proofs.Chain.{all-not}
+use Rattle.mapping.proofs.Tests.{all-not}
 use Rattle.mapping.proofs.Records.{items-length}
 use Rattle.mapping.proofs.rest_zero.Statement.{statement}
 use Rattle.mapping.proofs.rest_zero.Tie as tie

@@ -2,7 +2,7 @@
 use borrow.Author.Needs.{needs}
 use borrow.Author.Tests.{lt-ltb, le-ltb, eq-eqb, ne-eqb}
 use Rattle.mapping.specs.Entry.{inRange}
-use Rattle.mapping.proofs.Chain.{last, second}
+use Rattle.mapping.proofs.Tests.{chain-last, or-second}
 use Rattle.mapping.proofs.Mapping.in_range.Statement.{statement}
 use Rattle.mapping.proofs.Mapping.in_range.Tie as tie
 
@@ -34,14 +34,14 @@ unfolding inRange
 returns-4 c =
     let at3 = c .before .before in
     let at2 = at3 .before .before in
-    last _ _ _ _ _ (lt-ltb _ _ (at2 .before .before .if1 .left)) (lt-ltb _ _ (at2 .if2 .left)) (lt-ltb _ _ (at3 .if3 .left)) (simp (eq-eqb _ _ (c .if4 .taken)))
+    chain-last _ _ _ _ _ (lt-ltb _ _ (at2 .before .before .if1 .left)) (lt-ltb _ _ (at2 .if2 .left)) (lt-ltb _ _ (at3 .if3 .left)) (simp (eq-eqb _ _ (c .if4 .taken)))
 
 returns-5 : tie.Need-returns-5
 unfolding inRange
 returns-5 c =
     let at3 = c .before .before .before in
     let at2 = at3 .before .before in
-    last _ _ _ _ _ (lt-ltb _ _ (at2 .before .before .if1 .left)) (lt-ltb _ _ (at2 .if2 .left)) (lt-ltb _ _ (at3 .if3 .left)) (second _ _ (ne-eqb _ _ (c .before .if4 .left)))
+    chain-last _ _ _ _ _ (lt-ltb _ _ (at2 .before .before .if1 .left)) (lt-ltb _ _ (at2 .if2 .left)) (lt-ltb _ _ (at3 .if3 .left)) (or-second _ _ (ne-eqb _ _ (c .before .if4 .left)))
 
 pub in-range-spec : {M : Type 1} → statement M
 in-range-spec =

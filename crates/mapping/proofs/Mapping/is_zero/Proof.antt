@@ -2,7 +2,7 @@
 use mathlib.Core.Path.{refl}
 use borrow.Author.Tests.{eq-eqb, ne-eqb}
 use Rattle.mapping.specs.Entry.{isZero}
-use Rattle.mapping.proofs.Chain.{last}
+use Rattle.mapping.proofs.Tests.{chain-last}
 use Rattle.mapping.proofs.Mapping.is_zero.Statement.{statement}
 use Rattle.mapping.proofs.Mapping.is_zero.Tie as tie
 
@@ -24,7 +24,7 @@ returns-4 : tie.Need-returns-4
 unfolding isZero
 returns-4 c =
     let at2 = c .before .before .before in
-    last _ _ _ _ _ (eq-eqb _ _ (at2 .before .before .if1 .left)) (eq-eqb _ _ (at2 .if2 .left)) (eq-eqb _ _ (c .before .if3 .left)) refl
+    chain-last _ _ _ _ _ (eq-eqb _ _ (at2 .before .before .if1 .left)) (eq-eqb _ _ (at2 .if2 .left)) (eq-eqb _ _ (c .before .if3 .left)) refl
 
 pub is-zero-spec : {M : Type 1} → statement M
 is-zero-spec = tie.close (tie.spec returns returns-2 returns-3 returns-4)

@@ -1,4 +1,4 @@
--- Tests: chains of them, the case that one picks, and the test of all places.
+-- Tests: a chain of them, the case that one picks, the test of every place, and the order of two numbers.
 use mathlib.Core.Path.{_≡_, refl, sym, _∙_}
 use mathlib.Core.Bool.{Bool, true, false, cond, _&&_, _||_, false≢true}
 use mathlib.Core.Logic.{_⊎_, inl, inr}
@@ -9,12 +9,12 @@ use Rattle.bits.specs.Mask.{all}
 use Rattle.bits.proofs.Mask.{all-at}
 
 -- a chain of tests that hold comes down to the last
-pub last : (a b c d e : Bool) → a ≡ true → b ≡ true → c ≡ true → e ≡ d → e ≡ (a && b && c && d)
-last a b c d e p q r s = simp (p, q, r) s
+pub chain-last : (a b c d e : Bool) → a ≡ true → b ≡ true → c ≡ true → e ≡ d → e ≡ (a && b && c && d)
+chain-last a b c d e p q r s = simp (p, q, r) s
 
 -- one of two, where the first does not hold
-pub second : (a b : Bool) → a ≡ false → b ≡ (a || b)
-second a b p = simp p
+pub or-second : (a b : Bool) → a ≡ false → b ≡ (a || b)
+or-second a b p = simp p
 
 -- both of two hold, one of two holds
 pub and-both : (a b : Bool) → (a && b) ≡ true → (a ≡ true) × (b ≡ true)
