@@ -62,29 +62,39 @@ module _ (l : MappingList) (m : Mapping) (long : length (l .items) ≡ capacity)
           let e = nothing-lookup l s p u in
           mappingOf-nothing (append l m) s p (lookup-append-other s p h ∙ e) ∙ sym (mappingOf-nothing l s p e)
 
--- a mapping in range whose space and page are not listed
-module _ (b : Board) (l : MappingList) (m : Mapping) (rules : Rules b l) (long : length (l .items) ≡ capacity) (room : l .count < capacity)
-    (range : InRange b m) (new : lookup l (m .space) (m .page) ≡ Nothing) where
-  -- the new mapping and one from before differ in space or page
-  differs : (i : ℕ) → i < l .count → MapsTo (mappingAt l i) (m .space) (m .page) → ⊥
-  differs i h = lookup-nothing l (m .space) (m .page) new i h (omega arith)
+  -- a mapping in range whose space and page are not listed
+  module _ (b : Board) (rules : Rules b l) (range : InRange b m) (new : lookup l (m .space) (m .page) ≡ Nothing) where
+    -- the new mapping and one from before differ in space or page
+    differs : (i : ℕ) → i < l .count → MapsTo (mappingAt l i) (m .space) (m .page) → ⊥
+    differs i h = lookup-nothing l (m .space) (m .page) new i h (omega arith)
 
-  pub append-rules : Rules b (append l m)
-  append-rules = record {
-    count-le = let n = append-count l m room in omega arith;
-    in-range = λ i h. ⊎-elim (λ e. subst (InRange b) (sym (at-last l m long room i e)) range) (λ k. subst (InRange b) (sym (at-earlier l m long room i k)) (rules .in-range i k)) (place l m long room i h);
-    distinct = λ i j h k e.
-        ⊎-elim (λ p. ⊎-elim (λ q. p ∙ sym q) (λ q. let f = maps-cong₂ (at-last l m long room i p) (at-earlier l m long room j q) e in absurd (differs j q (sym (f .0), sym (f .1)))) (place l m long room j k))
-        (λ p. ⊎-elim (λ q. absurd (differs i p (maps-cong₂ (at-earlier l m long room i p) (at-last l m long room j q) e))) (λ q. rules .distinct i j p q (maps-cong₂ (at-earlier l m long room i p) (at-earlier l m long room j q) e)) (place l m long room j k))
-        (place l m long room i h);
-    rest-zero = λ i h. let n = append-count l m room in append-at-other l m i (λ e. omega arith) ∙ rules .rest-zero i (omega arith);
-  }
+    in-range : (i : ℕ) → i < append l m .count → InRange b (mappingAt (append l m) i)
+    in-range i h =
+        ⊎-elim (λ e. subst (InRange b) (sym (at-last i e)) range) (λ k. subst (InRange b) (sym (at-earlier i k)) (rules .in-range i k)) (place i h)
 
-  -- the new pair is found last, with the new mapping
-  pub lookup-append-same : lookup (append l m) (m .space) (m .page) ≡ At (l .count)
-  lookup-append-same =
-      let n = append-count l m room in
-      at-lookup (append l m) _ _ (l .count) (listed-found b (append l m) append-rules (l .count) _ _ (omega arith) (maps-cong (sym (at-last l m long room (l .count) refl)) (refl, refl)))
+    distinct : (i j : ℕ) → i < append l m .count → j < append l m .count
+        → MapsTo (mappingAt (append l m) i) (mappingAt (append l m) j .space) (mappingAt (append l m) j .page) → i ≡ j
+    distinct i j h k e =
+        ⊎-elim (λ p. ⊎-elim (λ q. p ∙ sym q) (λ q. let f = maps-cong₂ (at-last i p) (at-earlier j q) e in absurd (differs j q (sym (f .0), sym (f .1)))) (place j k))
+        (λ p. ⊎-elim (λ q. absurd (differs i p (maps-cong₂ (at-earlier i p) (at-last j q) e))) (λ q. rules .distinct i j p q (maps-cong₂ (at-earlier i p) (at-earlier j q) e)) (place j k))
+        (place i h)
 
-  pub mappingOf-append-same : mappingOf (append l m) (m .space) (m .page) ≡ some m
-  mappingOf-append-same = mappingOf-at (append l m) _ _ (l .count) lookup-append-same ∙ ap some (at-last l m long room (l .count) refl)
+    pub append-rules : Rules b (append l m)
+    append-rules =
+        let n = append-count l m room in
+        record {
+          count-le = omega arith;
+          in-range = in-range;
+          distinct = distinct;
+          rest-zero = λ i h. append-at-other l m i (λ e. omega arith) ∙ rules .rest-zero i (omega arith);
+        }
+
+    -- the new pair is found last, with the new mapping
+    pub lookup-append-same : lookup (append l m) (m .space) (m .page) ≡ At (l .count)
+    lookup-append-same =
+        let n = append-count l m room in
+        at-lookup (append l m) _ _ (l .count)
+        (listed-found b (append l m) append-rules (l .count) _ _ (omega arith) (maps-cong (sym (at-last (l .count) refl)) (refl, refl)))
+
+    pub mappingOf-append-same : mappingOf (append l m) (m .space) (m .page) ≡ some m
+    mappingOf-append-same = mappingOf-at (append l m) _ _ (l .count) lookup-append-same ∙ ap some (at-last (l .count) refl)

@@ -6,6 +6,7 @@ use Prim.Native.Nat.{ℕ, min, _<_}
 use native.Mathlib.Omega.{arith}
 use lib.ListN.{length}
 use Rattle.board.specs.Board.{Board}
+use Rattle.mapping.specs.declared.Mapping.{Mapping}
 use Rattle.mapping.specs.declared.MappingList.{MappingList}
 use Rattle.mapping.specs.declared.Found.the-variants.{At, Nothing}
 use Rattle.mapping.specs.Entry.{isAt, mappingAt}
@@ -51,6 +52,22 @@ module _ (l : MappingList) (s p : ℕ) where
   pub mappingOf-nothing : lookup l s p ≡ Nothing → mappingOf l s p ≡ none
   unfolding mappingOf
   mappingOf-nothing e = ap (mappingFound l) e
+
+  -- and back: a mapping that there is stands at a listed place, and where there is none nothing is found
+  pub mappingOf-some : (m : Mapping) → mappingOf l s p ≡ some m → (i : ℕ) × FoundAt l s p i × (mappingAt l i ≡ m)
+  mappingOf-some m e = ⊎-elim (λ f. here (f .0) (f .1)) nowhere lookup-cases
+    where
+      here : (i : ℕ) → FoundAt l s p i → (i : ℕ) × FoundAt l s p i × (mappingAt l i ≡ m)
+      here i f = let g = mappingOf-at i (at-lookup i f) in (i, f, cc)
+
+      nowhere : Unlisted l s p → (i : ℕ) × FoundAt l s p i × (mappingAt l i ≡ m)
+      nowhere u = let g = mappingOf-nothing (nothing-lookup u) in let z : _≡_ {A = ℕ} 0 1 = cc in absurd (omega arith)
+
+  pub mappingOf-none : mappingOf l s p ≡ none → lookup l s p ≡ Nothing
+  mappingOf-none e = ⊎-elim (λ f. here (f .0) (f .1)) nothing-lookup lookup-cases
+    where
+      here : (i : ℕ) → FoundAt l s p i → lookup l s p ≡ Nothing
+      here i f = let g = mappingOf-at i (at-lookup i f) in let z : _≡_ {A = ℕ} 0 1 = cc in absurd (omega arith)
 
 -- ---- a list that keeps its rules
 

@@ -38,7 +38,10 @@ source-to i k h =
     (lt-or-le k i)
 
 source-one : (i j k : ℕ) → source i j ≡ source i k → j ≡ k
-source-one i j k e = ⊎-elim (λ p. ⊎-elim (λ q. omega arith) (λ q. omega arith) (source-of i k)) (λ p. ⊎-elim (λ q. omega arith) (λ q. omega arith) (source-of i k)) (source-of i j)
+source-one i j k e =
+    ⊎-elim (λ p. ⊎-elim (λ q. omega arith) (λ q. omega arith) (source-of i k))
+    (λ p. ⊎-elim (λ q. omega arith) (λ q. omega arith) (source-of i k))
+    (source-of i j)
 
 source-not : (i j : ℕ) → source i j ≡ i → ⊥
 source-not i j e = ⊎-elim (λ p. omega arith) (λ p. omega arith) (source-of i j)

@@ -43,7 +43,10 @@ module _ (b : Board) (l : MappingList) where
       record {
         count-le = leb-true _ _ (u .0);
         in-range = λ i h. inRange-true b _ (all-at _ _ (u .1) i h);
-        distinct = λ i j h k m. ⊎-elim (λ o. absurd (apart (t .1) i j o k m)) (λ o. ⊎-elim sym (λ o. absurd (apart (t .1) j i o h (sym (m .0), sym (m .1)))) (eq-or-lt-of-le o)) (lt-or-le i j);
+        distinct = λ i j h k m.
+            ⊎-elim (λ o. absurd (apart (t .1) i j o k m))
+            (λ o. ⊎-elim sym (λ o. absurd (apart (t .1) j i o h (sym (m .0), sym (m .1)))) (eq-or-lt-of-le o))
+            (lt-or-le i j);
         rest-zero = zero-past (s .1);
       }
 

@@ -27,7 +27,11 @@ returns-3 : tie.Need-returns-3
 unfolding keepsRules
 returns-3 c =
     let at2 = c .before .before in
-    simp (le-leb _ _ (at2 .before .before .if1 .left), sym (at2 .before .all-in-range .ensures) ∙ not-false _ (at2 .if2 .left), sym (c .before .no-doubles .ensures) ∙ not-true _ (c .if3 .taken))
+    simp (
+      le-leb _ _ (at2 .before .before .if1 .left),
+      sym (at2 .before .all-in-range .ensures) ∙ not-false _ (at2 .if2 .left),
+      sym (c .before .no-doubles .ensures) ∙ not-true _ (c .if3 .taken),
+    )
 
 rest-zero-requires : tie.Need-rest-zero-requires
 rest-zero-requires c κs = search needs
