@@ -7,7 +7,7 @@ ghost use lib.Dec.{eqb};
 ghost use Rattle.bits.specs.Mask.{bit};
 ghost use Prim.Native.Nat.{_<_};
 ghost use Rattle.board.specs.Board.{board01};
-ghost use Rattle.page_model.specs.Record.{keepsRules};
+ghost use Rattle.page_model.specs.Record.{keepsRules, stateOf, isHeld, isDirty};
 ghost use Rattle.page_model.specs.Step.{stepped, steppedTo, firstTwo, opList};
 ghost use Rattle.page_model.specs.Table.{read, write, deviceRead, deviceWrite};
 
@@ -99,6 +99,29 @@ impl FrameRecord {
         let dirty = self.dirty_colour();
         let purge = self.if_dirty(Op::Purge(dirty));
         Stepped::to(0, self.stale | self.clean(), 0, Op::None, purge)
+    }
+
+    // Whether a colour is present or dirty, in any record.
+    pub fn holds(self, colour: usize) -> bool
+        requires { ⌜ colour < board01 .colours ⌝ }
+        ensures { λ r. ⌜ r ≡ isHeld (stateOf self colour) ⌝ }
+    {
+        if bits::has(self.stale, colour) {
+            return false;
+        }
+        bits::has(self.held, colour)
+    }
+
+    // Whether a colour is dirty, in any record.
+    pub fn holds_dirty(self, colour: usize) -> bool
+        requires { ⌜ colour < board01 .colours ⌝ }
+        ensures { λ r. ⌜ r ≡ isDirty (stateOf self colour) ⌝ }
+    {
+        if self.dirty == 1 {
+            self.holds(colour)
+        } else {
+            false
+        }
     }
 
     // No operation, and the record as it is.

@@ -1,0 +1,111 @@
+-- What each call plans, answers and leaves in the tables. A plan changes nothing; where it is no refusal, a commit carries it out.
+use mathlib.Core.List.{List, []}
+use Prim.Native.Nat.{ℕ, zero, suc}
+use Rattle.board.specs.Board.{Board, colourOf}
+use Rattle.page_model.specs.declared.FrameRecord.{FrameRecord}
+use Rattle.page_model.specs.declared.Op.the-variants.{None}
+use Rattle.page_model.specs.declared.Ops.{Ops}
+use Rattle.page_model.specs.Step.{stepped}
+use Rattle.page_model.specs.Table.{Step, read, write, deviceRead, deviceWrite}
+use Rattle.mapping.specs.declared.Mapping.{Mapping}
+use Rattle.mapping.specs.Change.{append, remove}
+use Rattle.mapping.specs.Lookup.{lookup}
+use Rattle.manager.specs.declared.Change.{Change}
+use Rattle.manager.specs.declared.Plan.{Plan}
+use Rattle.manager.specs.declared.Plan.the-variants as step-plan
+use Rattle.manager.specs.declared.ListPlan.{ListPlan}
+use Rattle.manager.specs.declared.ListPlan.the-variants as list-plan
+use Rattle.manager.specs.Answers.{Outcome, refused, accepted}
+use Rattle.manager.specs.Refusals.{Cause, firstRefusal, placeOf, mappingOf, mapCauses, pageCauses, writeCauses, transferCauses}
+use Rattle.manager.specs.Tables.{Tables, tables, recordAt, putRecord, refill}
+
+-- ---- steps of a frame's record
+
+-- what a step makes of the record of a frame
+abbrev pub changeOf : Board → Tables → ℕ → Step → Change
+changeOf b t frame s =
+    record { frame = frame; next = stepped (b .colours) s (recordAt (t .records) frame) .next; ops = stepped (b .colours) s (recordAt (t .records) frame) .ops }
+
+-- the refusal of a number that is not 0, else the change
+abbrev pub planned : ℕ → Change → Plan
+planned zero change = step-plan.Step change
+planned (suc n) change = step-plan.Refused (suc n)
+
+abbrev pub planRead : Board → Tables → ℕ → ℕ → Plan
+planRead b t space page =
+    planned (firstRefusal (pageCauses b t space page)) (changeOf b t (mappingOf (t .list) space page .frame) (read (colourOf b page)))
+
+abbrev pub planWrite : Board → Tables → ℕ → ℕ → Plan
+planWrite b t space page =
+    planned (firstRefusal (writeCauses b t space page)) (changeOf b t (mappingOf (t .list) space page .frame) (write (colourOf b page)))
+
+abbrev pub planDeviceRead : Board → Tables → ℕ → Plan
+planDeviceRead b t frame = planned (firstRefusal (transferCauses b t frame)) (changeOf b t frame deviceRead)
+
+abbrev pub planDeviceWrite : Board → Tables → ℕ → Plan
+planDeviceWrite b t frame = planned (firstRefusal (transferCauses b t frame)) (changeOf b t frame deviceWrite)
+
+-- the tables with the changed record, and the protections that agree with it
+abbrev pub commitChange : Board → Tables → Change → Tables
+commitChange b t change = refill b (tables (t .list) (putRecord (t .records) (change .frame) (change .next)) (t .protections))
+
+-- ---- the mapping list
+
+abbrev pub placed : ℕ → ℕ → ListPlan
+placed zero place = list-plan.Place place
+placed (suc n) place = list-plan.Refused (suc n)
+
+-- the place where the mapping goes
+abbrev pub planMap : Board → Tables → ℕ → ℕ → ℕ → ℕ → ListPlan
+planMap b t space page frame rights = placed (firstRefusal (mapCauses b t space page frame rights)) (t .list .count)
+
+-- the place of the mapping that goes
+abbrev pub planUnmap : Board → Tables → ℕ → ℕ → ListPlan
+planUnmap b t space page = placed (firstRefusal (pageCauses b t space page)) (placeOf (lookup (t .list) space page))
+
+abbrev pub commitMap : Board → Tables → Mapping → Tables
+commitMap b t m = refill b (tables (append (t .list) m) (t .records) (t .protections))
+
+abbrev pub commitUnmap : Board → Tables → ℕ → Tables
+commitUnmap b t place = refill b (tables (remove (t .list) place) (t .records) (t .protections))
+
+-- ---- whole calls: the answer, and the tables after it
+
+pub record Result : Type 0 where
+  pub answer : Outcome
+  pub after : Tables
+
+abbrev pub result : Outcome → Tables → Result
+result o t = record { answer = o; after = t }
+
+-- no order
+abbrev pub noOps : Ops
+noOps = record { first = None; second = None }
+
+-- a refusal leaves the tables as they were
+abbrev pub stepResult : Board → Tables → Plan → Result
+stepResult b t (step-plan.Refused n) = result (refused n) t
+stepResult b t (step-plan.Step change) = result (accepted (change .frame) (change .ops)) (commitChange b t change)
+
+abbrev pub listResult : Tables → Tables → ListPlan → Result
+listResult t next (list-plan.Refused n) = result (refused n) t
+listResult t next (list-plan.Place place) = result (accepted 0 noOps) next
+
+abbrev pub readCall : Board → Tables → ℕ → ℕ → Result
+readCall b t space page = stepResult b t (planRead b t space page)
+
+abbrev pub writeCall : Board → Tables → ℕ → ℕ → Result
+writeCall b t space page = stepResult b t (planWrite b t space page)
+
+abbrev pub deviceReadCall : Board → Tables → ℕ → Result
+deviceReadCall b t frame = stepResult b t (planDeviceRead b t frame)
+
+abbrev pub deviceWriteCall : Board → Tables → ℕ → Result
+deviceWriteCall b t frame = stepResult b t (planDeviceWrite b t frame)
+
+abbrev pub mapCall : Board → Tables → ℕ → ℕ → ℕ → ℕ → Result
+mapCall b t space page frame rights =
+    listResult t (commitMap b t (record { space = space; page = page; frame = frame; rights = rights })) (planMap b t space page frame rights)
+
+abbrev pub unmapCall : Board → Tables → ℕ → ℕ → Result
+unmapCall b t space page = listResult t (commitUnmap b t (placeOf (lookup (t .list) space page))) (planUnmap b t space page)

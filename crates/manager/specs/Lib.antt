@@ -1,0 +1,6 @@
+-- The manager: frame records and protections in lent bytes, the causes of refusal in their order, and what each call answers and leaves.
+pub mod Tables
+pub mod Refusals
+pub mod Answers
+pub mod Calls
+pub mod Theorems

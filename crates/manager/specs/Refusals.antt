@@ -1,0 +1,83 @@
+-- Document 01, "Answers": for each call the causes of refusal, in the order of the table. The first that applies is given.
+use mathlib.Core.Bool.{Bool, true, false, not, cond, _&&_, _||_}
+use mathlib.Core.List.{List, [], _∷_, _++_}
+use Prim.Native.Nat.{ℕ}
+use lib.Dec.{eqb, leb, ltb}
+use Rattle.board.specs.Board.{Board, spaces, pages}
+use Rattle.mapping.specs.declared.Found.{Found}
+use Rattle.mapping.specs.declared.Found.the-variants.{At, Nothing}
+use Rattle.mapping.specs.declared.Mapping.{Mapping}
+use Rattle.mapping.specs.declared.MappingList.{MappingList}
+use Rattle.mapping.specs.Entry.{capacity, readOnly, readWrite, mappingAt}
+use Rattle.mapping.specs.Lookup.{lookup}
+use Rattle.manager.specs.Tables.{Tables, lengthsRight, rulesKept}
+
+-- a refusal's number, and whether its condition holds
+pub record Cause : Type 0 where
+  pub number : ℕ
+  pub applies : Bool
+
+infix 30 _if_
+
+abbrev pub _if_ : ℕ → Bool → Cause
+n if c = record { number = n; applies = c }
+
+-- the first cause that applies, or 0
+abbrev pub firstRefusal : List Cause → ℕ
+firstRefusal [] = 0
+firstRefusal (c ∷ rest) = cond (c .applies) (c .number) (firstRefusal rest)
+
+-- ---- conditions
+
+abbrev pub outOfSpace : ℕ → ℕ → Bool
+outOfSpace space page = leb spaces space || leb pages page
+
+abbrev pub isRight : ℕ → Bool
+isRight rights = eqb rights readOnly || eqb rights readWrite
+
+abbrev pub found : Found → Bool
+found (At i) = true
+found Nothing = false
+
+abbrev pub isMapped : MappingList → ℕ → ℕ → Bool
+isMapped l space page = found (lookup l space page)
+
+-- the place found, past the list where there is none
+abbrev pub placeOf : Found → ℕ
+placeOf (At i) = i
+placeOf Nothing = capacity
+
+-- the listed mapping of this space and page, all 0 where there is none
+abbrev pub mappingOf : MappingList → ℕ → ℕ → Mapping
+mappingOf l space page = mappingAt l (placeOf (lookup l space page))
+
+-- ---- the causes of each call
+
+-- what each call tests of all that it is lent
+abbrev pub tableCauses : Board → Tables → List Cause
+tableCauses b t = (1 if not (lengthsRight b t)) ∷ (2 if not (rulesKept b t)) ∷ []
+
+abbrev pub mapCauses : Board → Tables → ℕ → ℕ → ℕ → ℕ → List Cause
+mapCauses b t space page frame rights =
+    tableCauses b t
+    ++ (3 if outOfSpace space page)
+    ∷ (4 if leb (b .frames) frame)
+    ∷ (5 if not (isRight rights))
+    ∷ (7 if isMapped (t .list) space page)
+    ∷ (9 if eqb (t .list .count) capacity)
+    ∷ []
+
+-- unmap and read
+abbrev pub pageCauses : Board → Tables → ℕ → ℕ → List Cause
+pageCauses b t space page =
+    tableCauses b t
+    ++ (3 if outOfSpace space page)
+    ∷ (8 if not (isMapped (t .list) space page))
+    ∷ []
+
+abbrev pub writeCauses : Board → Tables → ℕ → ℕ → List Cause
+writeCauses b t space page = pageCauses b t space page ++ (10 if eqb (mappingOf (t .list) space page .rights) readOnly) ∷ []
+
+-- both transfers
+abbrev pub transferCauses : Board → Tables → ℕ → List Cause
+transferCauses b t frame = tableCauses b t ++ (4 if leb (b .frames) frame) ∷ []

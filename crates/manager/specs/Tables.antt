@@ -1,0 +1,72 @@
+-- Document 01, "Frame records and mapping list": what the manager is lent, and the protections that agree with it.
+use mathlib.Core.Bool.{Bool, cond, _&&_}
+use mathlib.Core.List.{List, [], _∷_}
+use Prim.Native.Nat.{ℕ, zero, suc, _+_, _*_}
+use lib.Dec.{eqb, ltb}
+use lib.ListN.{length, getD, set}
+use Rattle.bits.specs.Mask.{digit, all}
+use Rattle.board.specs.Board.{Board, colourOf}
+use Rattle.page_model.specs.declared.FrameRecord.{FrameRecord}
+use Rattle.page_model.specs.Record as record-of
+use Rattle.page_model.specs.Table.{ColourState}
+use Rattle.mapping.specs.declared.Mapping.{Mapping}
+use Rattle.mapping.specs.declared.MappingList.{MappingList}
+use Rattle.mapping.specs.Entry.{capacity, readWrite, mappingAt}
+use Rattle.mapping.specs.Rules as list-of
+
+-- the mapping list, the frame records as bytes, and the protections
+pub record Tables : Type 0 where
+  pub list : MappingList
+  pub records : List ℕ
+  pub protections : List ℕ
+
+abbrev pub tables : MappingList → List ℕ → List ℕ → Tables
+tables l rs ps = record { list = l; records = rs; protections = ps }
+
+-- ---- frame records, one after the other
+
+-- the bytes of a record: held, stale, dirty
+abbrev pub recordBytes : ℕ
+recordBytes = 3
+
+unfoldable pub recordAt : List ℕ → ℕ → FrameRecord
+recordAt rs f =
+    record { held = getD rs (f * recordBytes) 0; stale = getD rs (f * recordBytes + 1) 0; dirty = getD rs (f * recordBytes + 2) 0 }
+
+unfoldable pub putRecord : List ℕ → ℕ → FrameRecord → List ℕ
+putRecord rs f r = set (set (set rs (f * recordBytes) (r .held)) (f * recordBytes + 1) (r .stale)) (f * recordBytes + 2) (r .dirty)
+
+unfoldable pub recordsKeepRules : Board → List ℕ → Bool
+recordsKeepRules b rs = all (b .frames) (λ f. record-of.keepsRules (b .colours) (recordAt rs f))
+
+-- ---- lengths and rules
+
+unfoldable pub lengthsRight : Board → Tables → Bool
+lengthsRight b t =
+    eqb (length (t .list .items)) capacity && eqb (length (t .records)) (b .frames * recordBytes) && eqb (length (t .protections)) capacity
+
+unfoldable pub rulesKept : Board → Tables → Bool
+rulesKept b t = list-of.keepsRules b (t .list) && recordsKeepRules b (t .records)
+
+-- ---- protections: 0 none, 1 read, 2 read and write
+
+-- Read is allowed if the colour is present or dirty, write if it is dirty and the rights are to read and write.
+abbrev pub protection : ColourState → ℕ → ℕ
+protection s rights = cond (record-of.isDirty s && eqb rights readWrite) 2 (digit (record-of.isHeld s))
+
+-- the state of the colour through which a mapping goes
+unfoldable pub mappingState : Board → List ℕ → Mapping → ColourState
+mappingState b rs m = record-of.stateOf (recordAt rs (m .frame)) (colourOf b (m .page))
+
+-- the protection at place i, 0 past the count
+unfoldable pub protectionAt : Board → MappingList → List ℕ → ℕ → ℕ
+protectionAt b l rs i = cond (ltb i (l .count)) (protection (mappingState b rs (mappingAt l i)) (mappingAt l i .rights)) 0
+
+-- f at each place below n
+unfoldable pub tabulate : ℕ → (ℕ → ℕ) → List ℕ
+tabulate zero f = []
+tabulate (suc n) f = f 0 ∷ tabulate n (λ i. f (suc i))
+
+-- the tables with each protection as the list and the records say
+unfoldable pub refill : Board → Tables → Tables
+refill b t = tables (t .list) (t .records) (tabulate (length (t .protections)) (protectionAt b (t .list) (t .records)))

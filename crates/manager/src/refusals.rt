@@ -1,0 +1,158 @@
+// The causes of refusal of each call: the first that applies, or 0.
+ghost use mathlib.Core.Path.{_≡_};
+ghost use Rattle.board.specs.Board.{board01};
+ghost use Rattle.manager.specs.Tables.{tables};
+ghost use Rattle.manager.specs.Refusals.{firstRefusal, tableCauses, mapCauses, pageCauses, writeCauses, transferCauses, outOfSpace, isMapped, placeOf, mappingOf};
+ghost use Rattle.mapping.specs.Lookup.{lookup};
+
+use super::records::RECORD_BYTES;
+use super::records::records_keep_rules;
+use mapping::Found;
+use mapping::Mapping;
+use mapping::MappingList;
+
+// Of what every call is lent.
+fn tables_refusal(list: MappingList, records: &[u8], protections: &[u8]) -> u8
+    ensures { λ r. ⌜ r ≡ firstRefusal (tableCauses board01 (tables list (now (records .entry)) (now (protections .entry)))) ⌝ }
+{
+    if records.len() != board::FRAMES * RECORD_BYTES {
+        return 1;
+    }
+    if protections.len() != mapping::CAPACITY {
+        return 1;
+    }
+    if !mapping::keeps_rules(list) {
+        return 2;
+    }
+    if !records_keep_rules(records) {
+        return 2;
+    }
+    0
+}
+
+// Of `map`.
+pub fn map_refusal(
+    list: MappingList,
+    records: &[u8],
+    protections: &[u8],
+    m: Mapping,
+) -> u8
+    ensures { λ r. ⌜ r ≡ firstRefusal (mapCauses board01 (tables list (now (records .entry)) (now (protections .entry))) (m .space) (m .page) (m .frame) (m .rights)) ⌝ }
+{
+    let refusal = tables_refusal(list, records, protections);
+    if refusal != 0 {
+        return refusal;
+    }
+    if out_of_space(m.space, m.page) {
+        return 3;
+    }
+    if m.frame as usize >= board::FRAMES {
+        return 4;
+    }
+    if m.rights != mapping::READ_ONLY {
+        if m.rights != mapping::READ_WRITE {
+            return 5;
+        }
+    }
+    if is_mapped(list, m.space, m.page) {
+        return 7;
+    }
+    if list.count == mapping::CAPACITY {
+        return 9;
+    }
+    0
+}
+
+// Of `unmap` and `read`.
+pub fn page_refusal(
+    list: MappingList,
+    records: &[u8],
+    protections: &[u8],
+    space: u8,
+    page: u16,
+) -> u8
+    ensures { λ r. ⌜ r ≡ firstRefusal (pageCauses board01 (tables list (now (records .entry)) (now (protections .entry))) space page) ⌝ }
+{
+    let refusal = tables_refusal(list, records, protections);
+    if refusal != 0 {
+        return refusal;
+    }
+    if out_of_space(space, page) {
+        return 3;
+    }
+    if is_mapped(list, space, page) { 0 } else { 8 }
+}
+
+// Of `write`.
+pub fn write_refusal(
+    list: MappingList,
+    records: &[u8],
+    protections: &[u8],
+    space: u8,
+    page: u16,
+) -> u8
+    ensures { λ r. ⌜ r ≡ firstRefusal (writeCauses board01 (tables list (now (records .entry)) (now (protections .entry))) space page) ⌝ }
+{
+    let refusal = page_refusal(list, records, protections, space, page);
+    if refusal != 0 {
+        return refusal;
+    }
+    let m = mapping_of(list, space, page);
+    if m.rights == mapping::READ_ONLY {
+        return 10;
+    }
+    0
+}
+
+// Of both transfers.
+pub fn transfer_refusal(list: MappingList, records: &[u8], protections: &[u8], frame: u8) -> u8
+    ensures { λ r. ⌜ r ≡ firstRefusal (transferCauses board01 (tables list (now (records .entry)) (now (protections .entry))) frame) ⌝ }
+{
+    let refusal = tables_refusal(list, records, protections);
+    if refusal != 0 {
+        return refusal;
+    }
+    if frame as usize >= board::FRAMES {
+        return 4;
+    }
+    0
+}
+
+// The listed mapping of a page of a space, all 0 where there is none.
+pub fn mapping_of(list: MappingList, space: u8, page: u16) -> Mapping
+    ensures { λ r. ⌜ r ≡ mappingOf list space page ⌝ }
+{
+    mapping::at(list, place_of(list, space, page))
+}
+
+// The place of a page of a space in the list, past the list where there is none.
+pub fn place_of(list: MappingList, space: u8, page: u16) -> usize
+    ensures { λ r. ⌜ r ≡ placeOf (lookup list space page) ⌝ }
+{
+    let found = mapping::lookup(list, space, page);
+    match found {
+        Found::At(i) => i,
+        Found::Nothing => mapping::CAPACITY,
+    }
+}
+
+// Whether a page of a space is mapped.
+fn is_mapped(list: MappingList, space: u8, page: u16) -> bool
+    ensures { λ r. ⌜ r ≡ isMapped list space page ⌝ }
+{
+    let place = mapping::lookup(list, space, page);
+    match place {
+        Found::At(_) => true,
+        Found::Nothing => false,
+    }
+}
+
+// Whether the space or the page is past its limit.
+fn out_of_space(space: u8, page: u16) -> bool
+    ensures { λ r. ⌜ r ≡ outOfSpace space page ⌝ }
+{
+    if space as usize >= board::SPACES {
+        return true;
+    }
+    page as usize >= board::PAGES
+}
