@@ -6,26 +6,26 @@ use Rattle.page_model.specs.declared.Ops.{Ops}
 use Rattle.manager.specs.declared.Answer.{Answer}
 use Rattle.manager.specs.declared.Answer.the-variants.{Refused, Accepted}
 
--- an order of an answer: none, or on a frame and a colour
-pub data FrameOrder : Type 0 where
-  none : FrameOrder
-  flush purge : ℕ → ℕ → FrameOrder
+-- an operation on a frame and a colour, or none; document 01 calls it an order
+pub data FrameOperation : Type 0 where
+  none : FrameOperation
+  flush purge : ℕ → ℕ → FrameOperation
 
-abbrev pub orderOn : ℕ → Op → FrameOrder
-orderOn f None = none
-orderOn f (Flush c) = flush f c
-orderOn f (Purge c) = purge f c
+abbrev pub operationOn : ℕ → Op → FrameOperation
+operationOn f None = none
+operationOn f (Flush c) = flush f c
+operationOn f (Purge c) = purge f c
 
 pub record Outcome : Type 0 where
   pub number : ℕ
-  pub first : FrameOrder
-  pub second : FrameOrder
+  pub first : FrameOperation
+  pub second : FrameOperation
 
 abbrev pub refused : ℕ → Outcome
 refused n = record { number = n; first = none; second = none }
 
 abbrev pub accepted : ℕ → Ops → Outcome
-accepted f ops = record { number = 0; first = orderOn f (ops .first); second = orderOn f (ops .second) }
+accepted f ops = record { number = 0; first = operationOn f (ops .first); second = operationOn f (ops .second) }
 
 abbrev pub outcome : Answer → Outcome
 outcome (Refused n) = refused n

@@ -18,12 +18,11 @@ pub record Cause : Type 0 where
   pub applies : Bool
 
 infix 30 _if_
-
 abbrev pub _if_ : ℕ → Bool → Cause
 n if c = record { number = n; applies = c }
 
 -- the first cause that applies, or 0
-abbrev pub firstRefusal : List Cause → ℕ
+unfoldable pub firstRefusal : List Cause → ℕ
 firstRefusal [] = 0
 firstRefusal (c ∷ rest) = cond (c .applies) (c .number) (firstRefusal rest)
 
@@ -54,10 +53,11 @@ mappingOf l space page = mappingAt l (placeOf (lookup l space page))
 -- ---- the causes of each call
 
 -- what each call tests of all that it is lent
-abbrev pub tableCauses : Board → Tables → List Cause
+unfoldable pub tableCauses : Board → Tables → List Cause
 tableCauses b t = (1 if not (lengthsRight b t)) ∷ (2 if not (rulesKept b t)) ∷ []
 
-abbrev pub mapCauses : Board → Tables → ℕ → ℕ → ℕ → ℕ → List Cause
+unfoldable pub mapCauses : Board → Tables → ℕ → ℕ → ℕ → ℕ → List Cause
+unfolding tableCauses
 mapCauses b t space page frame rights =
     tableCauses b t
     ++ (3 if outOfSpace space page)
@@ -68,16 +68,19 @@ mapCauses b t space page frame rights =
     ∷ []
 
 -- unmap and read
-abbrev pub pageCauses : Board → Tables → ℕ → ℕ → List Cause
+unfoldable pub pageCauses : Board → Tables → ℕ → ℕ → List Cause
+unfolding tableCauses
 pageCauses b t space page =
     tableCauses b t
     ++ (3 if outOfSpace space page)
     ∷ (8 if not (isMapped (t .list) space page))
     ∷ []
 
-abbrev pub writeCauses : Board → Tables → ℕ → ℕ → List Cause
+unfoldable pub writeCauses : Board → Tables → ℕ → ℕ → List Cause
+unfolding pageCauses
 writeCauses b t space page = pageCauses b t space page ++ (10 if eqb (mappingOf (t .list) space page .rights) readOnly) ∷ []
 
 -- both transfers
-abbrev pub transferCauses : Board → Tables → ℕ → List Cause
+unfoldable pub transferCauses : Board → Tables → ℕ → List Cause
+unfolding tableCauses
 transferCauses b t frame = tableCauses b t ++ (4 if leb (b .frames) frame) ∷ []

@@ -51,7 +51,7 @@ rulesKept b t = list-of.keepsRules b (t .list) && recordsKeepRules b (t .records
 -- ---- protections: 0 none, 1 read, 2 read and write
 
 -- Read is allowed if the colour is present or dirty, write if it is dirty and the rights are to read and write.
-abbrev pub protection : ColourState → ℕ → ℕ
+unfoldable pub protection : ColourState → ℕ → ℕ
 protection s rights = cond (record-of.isDirty s && eqb rights readWrite) 2 (digit (record-of.isHeld s))
 
 -- the state of the colour through which a mapping goes

@@ -4,10 +4,9 @@ mod refusals;
 
 ghost use mathlib.Core.Path.{_≡_};
 ghost use Rattle.board.specs.Board.{board01};
-ghost use Rattle.manager.specs.Answers.{outcome, accepted};
+ghost use Rattle.manager.specs.Answers.{outcome, refused, accepted};
 ghost use Rattle.manager.specs.Tables.{tables};
-ghost use Rattle.manager.specs.Calls.{result, noOps, planMap, planUnmap, planRead, planWrite, planDeviceRead, planDeviceWrite, commitMap, commitUnmap, commitChange, mapCall, unmapCall, readCall, writeCall, deviceReadCall, deviceWriteCall};
-
+ghost use Rattle.manager.specs.Calls.{result, noOps, stepResult, planMap, planUnmap, planRead, planWrite, planDeviceRead, planDeviceWrite, commitMap, commitUnmap, commitChange, mapCall, unmapCall, readCall, writeCall, deviceReadCall, deviceWriteCall};
 use mapping::Mapping;
 use mapping::MappingList;
 use page_model::FrameRecord;
@@ -24,8 +23,8 @@ use refusals::place_of;
 use refusals::transfer_refusal;
 use refusals::write_refusal;
 
-// What a call orders: operations on one frame.
-pub struct Orders {
+// The operations that a call orders, on one frame.
+pub struct FrameOps {
     pub frame: u8,
     pub ops: Ops,
 }
@@ -33,7 +32,7 @@ pub struct Orders {
 // The answer of a call: the refusal's number, or the orders.
 pub enum Answer {
     Refused(u8),
-    Accepted(Orders),
+    Accepted(FrameOps),
 }
 
 // What a step makes of one frame's record.
@@ -64,29 +63,91 @@ pub struct Listed {
 // ---- the calls
 
 // Gives a page of a space its frame.
-pub fn map(
-    list: MappingList,
-    records: &[u8],
-    protections: &mut [u8],
-    m: Mapping,
-) -> Listed
+pub fn map(list: MappingList, records: &[u8], protections: &mut [u8], m: Mapping) -> Listed
     ensures { λ r. ⌜ result (outcome (r .answer)) (tables (r .list) (now (records .entry)) (now (protections .exit)))
-      ≡ mapCall board01 (tables list (now (records .entry)) (now (protections .entry))) (m .space) (m .page) (m .frame) (m .rights) ⌝ }
+        ≡ mapCall board01 (tables list (now (records .entry)) (now (protections .entry))) (m .space) (m .page) (m .frame) (m .rights) ⌝ }
 {
     let plan = plan_map(list, records, protections, m);
     match plan {
-        ListPlan::Refused(number) => Listed {
-            answer: Answer::Refused(number),
-            list,
-        },
-        ListPlan::Place(_) => {
-            let next = commit_map(list, records, protections, m);
-            Listed {
-                answer: no_orders(),
-                list: next,
-            }
-        }
+        ListPlan::Refused(number) => refused_as(list, number),
+        ListPlan::Place(_) => listed_as(commit_map(list, records, protections, m)),
     }
+}
+
+// Takes a page of a space its frame. The frame's record stays: words may lie in the cache.
+pub fn unmap(
+    list: MappingList,
+    records: &[u8],
+    protections: &mut [u8],
+    space: u8,
+    page: u16,
+) -> Listed
+    ensures { λ r. ⌜ result (outcome (r .answer)) (tables (r .list) (now (records .entry)) (now (protections .exit)))
+        ≡ unmapCall board01 (tables list (now (records .entry)) (now (protections .entry))) space page ⌝ }
+{
+    let plan = plan_unmap(list, records, protections, space, page);
+    match plan {
+        ListPlan::Refused(number) => refused_as(list, number),
+        ListPlan::Place(place) => listed_as(commit_unmap(list, records, protections, place)),
+    }
+}
+
+// The processor reads a page of a space.
+pub fn read(
+    list: MappingList,
+    records: &mut [u8],
+    protections: &mut [u8],
+    space: u8,
+    page: u16,
+) -> Answer
+    ensures { λ r. ⌜ result (outcome r) (tables list (now (records .exit)) (now (protections .exit)))
+        ≡ readCall board01 (tables list (now (records .entry)) (now (protections .entry))) space page ⌝ }
+{
+    let plan = plan_read(list, records, protections, space, page);
+    carry_out(list, records, protections, plan)
+}
+
+// The processor writes a page of a space.
+pub fn write(
+    list: MappingList,
+    records: &mut [u8],
+    protections: &mut [u8],
+    space: u8,
+    page: u16,
+) -> Answer
+    ensures { λ r. ⌜ result (outcome r) (tables list (now (records .exit)) (now (protections .exit)))
+        ≡ writeCall board01 (tables list (now (records .entry)) (now (protections .entry))) space page ⌝ }
+{
+    let plan = plan_write(list, records, protections, space, page);
+    carry_out(list, records, protections, plan)
+}
+
+// A device reads a frame from memory.
+pub fn device_read(
+    list: MappingList,
+    records: &mut [u8],
+    protections: &mut [u8],
+    frame: u8,
+) -> Answer
+    ensures { λ r. ⌜ result (outcome r) (tables list (now (records .exit)) (now (protections .exit)))
+        ≡ deviceReadCall board01 (tables list (now (records .entry)) (now (protections .entry))) frame ⌝ }
+{
+    let plan = plan_device_read(list, records, protections, frame);
+    carry_out(list, records, protections, plan)
+}
+
+// A device writes a frame in memory.
+pub fn device_write(
+    list: MappingList,
+    records: &mut [u8],
+    protections: &mut [u8],
+    frame: u8,
+) -> Answer
+    ensures { λ r. ⌜ result (outcome r) (tables list (now (records .exit)) (now (protections .exit)))
+        ≡ deviceWriteCall board01 (tables list (now (records .entry)) (now (protections .entry))) frame ⌝ }
+{
+    let plan = plan_device_write(list, records, protections, frame);
+    carry_out(list, records, protections, plan)
 }
 
 // ---- plans
@@ -100,6 +161,83 @@ pub fn plan_map(list: MappingList, records: &[u8], protections: &[u8], m: Mappin
         return ListPlan::Refused(refusal);
     }
     ListPlan::Place(list.count)
+}
+
+// Whether a page of a space is mapped, and at which place.
+pub fn plan_unmap(
+    list: MappingList,
+    records: &[u8],
+    protections: &[u8],
+    space: u8,
+    page: u16,
+) -> ListPlan
+    ensures { λ r. ⌜ r ≡ planUnmap board01 (tables list (now (records .entry)) (now (protections .entry))) space page ⌝ }
+{
+    let refusal = page_refusal(list, records, protections, space, page);
+    if refusal != 0 {
+        return ListPlan::Refused(refusal);
+    }
+    ListPlan::Place(place_of(list, space, page))
+}
+
+// What a read makes of the page's frame.
+pub fn plan_read(
+    list: MappingList,
+    records: &[u8],
+    protections: &[u8],
+    space: u8,
+    page: u16,
+) -> Plan
+    ensures { λ r. ⌜ r ≡ planRead board01 (tables list (now (records .entry)) (now (protections .entry))) space page ⌝ }
+{
+    let refusal = page_refusal(list, records, protections, space, page);
+    if refusal != 0 {
+        return Plan::Refused(refusal);
+    }
+    let m = mapping_of(list, space, page);
+    let colour = board::colour_of(page as usize);
+    step_of(m.frame, record_at(records, m.frame).read(colour))
+}
+
+// What a write makes of the page's frame.
+pub fn plan_write(
+    list: MappingList,
+    records: &[u8],
+    protections: &[u8],
+    space: u8,
+    page: u16,
+) -> Plan
+    ensures { λ r. ⌜ r ≡ planWrite board01 (tables list (now (records .entry)) (now (protections .entry))) space page ⌝ }
+{
+    let refusal = write_refusal(list, records, protections, space, page);
+    if refusal != 0 {
+        return Plan::Refused(refusal);
+    }
+    let m = mapping_of(list, space, page);
+    let colour = board::colour_of(page as usize);
+    step_of(m.frame, record_at(records, m.frame).write(colour))
+}
+
+// What a device read makes of a frame.
+pub fn plan_device_read(list: MappingList, records: &[u8], protections: &[u8], frame: u8) -> Plan
+    ensures { λ r. ⌜ r ≡ planDeviceRead board01 (tables list (now (records .entry)) (now (protections .entry))) frame ⌝ }
+{
+    let refusal = transfer_refusal(list, records, protections, frame);
+    if refusal != 0 {
+        return Plan::Refused(refusal);
+    }
+    step_of(frame, record_at(records, frame).device_read())
+}
+
+// What a device write makes of a frame.
+pub fn plan_device_write(list: MappingList, records: &[u8], protections: &[u8], frame: u8) -> Plan
+    ensures { λ r. ⌜ r ≡ planDeviceWrite board01 (tables list (now (records .entry)) (now (protections .entry))) frame ⌝ }
+{
+    let refusal = transfer_refusal(list, records, protections, frame);
+    if refusal != 0 {
+        return Plan::Refused(refusal);
+    }
+    step_of(frame, record_at(records, frame).device_write())
 }
 
 // ---- commits
@@ -118,15 +256,80 @@ pub fn commit_map(
     next
 }
 
-// The answer of an accepted call that orders nothing.
-fn no_orders() -> Answer
-    ensures { λ r. ⌜ outcome r ≡ accepted 0 noOps ⌝ }
+// Takes the mapping at a place off the list, and hands back the list.
+pub fn commit_unmap(
+    list: MappingList,
+    records: &[u8],
+    protections: &mut [u8],
+    place: usize,
+) -> MappingList
+    ensures { λ r. ⌜ tables r (now (records .entry)) (now (protections .exit)) ≡ commitUnmap board01 (tables list (now (records .entry)) (now (protections .entry))) place ⌝ }
 {
-    Answer::Accepted(Orders {
-        frame: 0,
-        ops: Ops {
-            first: Op::None,
-            second: Op::None,
-        },
-    })
+    let next = mapping::remove(list, place);
+    refill(next, records, protections);
+    next
+}
+
+// Stores a frame's changed record, and brings the protections up to it.
+pub fn commit_change(list: MappingList, records: &mut [u8], protections: &mut [u8], change: Change)
+    ensures { λ _. ⌜ tables list (now (records .exit)) (now (protections .exit)) ≡ commitChange board01 (tables list (now (records .entry)) (now (protections .entry))) change ⌝ }
+{
+    let next = change.next;
+    put_record(records, change.frame, next);
+    refill(list, records, protections);
+}
+
+// Answers a plan, and commits it if it is no refusal.
+fn carry_out(list: MappingList, records: &mut [u8], protections: &mut [u8], plan: Plan) -> Answer
+    ensures { λ r. ⌜ result (outcome r) (tables list (now (records .exit)) (now (protections .exit)))
+        ≡ stepResult board01 (tables list (now (records .entry)) (now (protections .entry))) plan ⌝ }
+{
+    match plan {
+        Plan::Refused(number) => Answer::Refused(number),
+        Plan::Step(change) => {
+            commit_change(list, records, protections, change);
+            let ops = change.ops;
+            Answer::Accepted(FrameOps {
+                frame: change.frame,
+                ops,
+            })
+        }
+    }
+}
+
+// ---- what answers are made of
+
+// The plan of a step of one frame's record.
+fn step_of(frame: u8, stepped: Stepped) -> Plan
+    ensures { λ r. ⌜ r ≡ Plan.Step (record { frame = frame; next = stepped .next; ops = stepped .ops }) ⌝ }
+{
+    let next = stepped.next;
+    let ops = stepped.ops;
+    Plan::Step(Change { frame, next, ops })
+}
+
+// A refusal leaves the list as it was.
+fn refused_as(list: MappingList, number: u8) -> Listed
+    ensures { λ r. ⌜ (outcome (r .answer) ≡ refused number) × (r .list ≡ list) ⌝ }
+{
+    Listed {
+        answer: Answer::Refused(number),
+        list,
+    }
+}
+
+// The next list, with no orders.
+fn listed_as(list: MappingList) -> Listed
+    ensures { λ r. ⌜ (outcome (r .answer) ≡ accepted 0 noOps) × (r .list ≡ list) ⌝ }
+{
+    Listed {
+        answer: Answer::Accepted(FrameOps {
+            frame: 0,
+            ops: Ops {
+                first: Op::None,
+                second: Op::None,
+            },
+        }),
+        list,
+    }
 }

@@ -3,7 +3,6 @@ ghost use mathlib.Core.Path.{_≡_};
 ghost use lib.ListN.{length, getD, set};
 ghost use Rattle.board.specs.Board.{board01};
 ghost use Rattle.manager.specs.Tables.{recordAt, putRecord, recordsKeepRules, mappingState, protection, protectionAt, tabulate};
-
 use mapping::Mapping;
 use mapping::MappingList;
 use page_model::FrameRecord;
@@ -68,12 +67,13 @@ fn protection_of(records: &[u8], m: Mapping) -> u8
 {
     let r = record_at(records, m.frame);
     let colour = board::colour_of(m.page as usize);
-    if m.rights == mapping::READ_WRITE {
-        if r.holds_dirty(colour) {
-            return 2;
-        }
+    if !r.holds(colour) {
+        return 0;
     }
-    if r.holds(colour) { 1 } else { 0 }
+    if m.rights != mapping::READ_WRITE {
+        return 1;
+    }
+    if r.holds_dirty(colour) { 2 } else { 1 }
 }
 
 // The protection at a place of the list, 0 past the count.

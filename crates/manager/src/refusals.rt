@@ -2,9 +2,8 @@
 ghost use mathlib.Core.Path.{_≡_};
 ghost use Rattle.board.specs.Board.{board01};
 ghost use Rattle.manager.specs.Tables.{tables};
-ghost use Rattle.manager.specs.Refusals.{firstRefusal, tableCauses, mapCauses, pageCauses, writeCauses, transferCauses, outOfSpace, isMapped, placeOf, mappingOf};
+ghost use Rattle.manager.specs.Refusals.{firstRefusal, tableCauses, mapCauses, pageCauses, writeCauses, transferCauses, outOfSpace, isRight, isMapped, placeOf, mappingOf};
 ghost use Rattle.mapping.specs.Lookup.{lookup};
-
 use super::records::RECORD_BYTES;
 use super::records::records_keep_rules;
 use mapping::Found;
@@ -31,12 +30,7 @@ fn tables_refusal(list: MappingList, records: &[u8], protections: &[u8]) -> u8
 }
 
 // Of `map`.
-pub fn map_refusal(
-    list: MappingList,
-    records: &[u8],
-    protections: &[u8],
-    m: Mapping,
-) -> u8
+pub fn map_refusal(list: MappingList, records: &[u8], protections: &[u8], m: Mapping) -> u8
     ensures { λ r. ⌜ r ≡ firstRefusal (mapCauses board01 (tables list (now (records .entry)) (now (protections .entry))) (m .space) (m .page) (m .frame) (m .rights)) ⌝ }
 {
     let refusal = tables_refusal(list, records, protections);
@@ -49,10 +43,8 @@ pub fn map_refusal(
     if m.frame as usize >= board::FRAMES {
         return 4;
     }
-    if m.rights != mapping::READ_ONLY {
-        if m.rights != mapping::READ_WRITE {
-            return 5;
-        }
+    if !is_right(m.rights) {
+        return 5;
     }
     if is_mapped(list, m.space, m.page) {
         return 7;
@@ -80,7 +72,10 @@ pub fn page_refusal(
     if out_of_space(space, page) {
         return 3;
     }
-    if is_mapped(list, space, page) { 0 } else { 8 }
+    if !is_mapped(list, space, page) {
+        return 8;
+    }
+    0
 }
 
 // Of `write`.
@@ -145,6 +140,16 @@ fn is_mapped(list: MappingList, space: u8, page: u16) -> bool
         Found::At(_) => true,
         Found::Nothing => false,
     }
+}
+
+// Whether rights are to read, or to read and write.
+fn is_right(rights: u8) -> bool
+    ensures { λ r. ⌜ r ≡ isRight rights ⌝ }
+{
+    if rights == mapping::READ_ONLY {
+        return true;
+    }
+    rights == mapping::READ_WRITE
 }
 
 // Whether the space or the page is past its limit.

@@ -1,0 +1,74 @@
+-- Laws of the lent tables: a table of f's values, and what a protection is by three tests.
+use mathlib.Core.Path.{_≡_, refl, sym, ap, ap₂, subst, _∙_}
+use mathlib.Core.Bool.{Bool, true, false, cond, _&&_, and-false, false≢true}
+use mathlib.Core.List.{List, [], _∷_}
+use Prim.Native.Nat.{ℕ, zero, suc, _+_, _≤_, _<_}
+use native.Mathlib.Omega.{arith}
+use borrow.Author.Count.{below-more}
+use native.Mathlib.Nat.{lt-irrefl}
+use lib.Dec.{eqb}
+use lib.ListN.{length, getD, set}
+use lib.Seq.{ext-getD, getD-set-same, getD-set-other}
+use Rattle.bits.specs.Mask.{digit}
+use Rattle.board.specs.Board.{Board, colourOf}
+use Rattle.page_model.specs.declared.FrameRecord.{FrameRecord}
+use Rattle.page_model.specs.Record.{stateOf, isHeld, isDirty}
+use Rattle.page_model.specs.Table.{ColourState, empty, present, dirty, stale}
+use Rattle.mapping.specs.declared.Mapping.{Mapping}
+use Rattle.mapping.specs.Entry.{readWrite}
+use Rattle.manager.specs.Tables.{recordAt, protection, mappingState, tabulate}
+
+-- ---- f at each place below n
+
+pub length-tabulate : (n : ℕ) (f : ℕ → ℕ) → length (tabulate n f) ≡ n
+unfolding tabulate
+length-tabulate zero f = refl
+length-tabulate (suc n) f = ap suc (length-tabulate n (λ i. f (suc i)))
+
+pub getD-tabulate : (n : ℕ) (f : ℕ → ℕ) (k : ℕ) → k < n → getD (tabulate n f) k 0 ≡ f k
+unfolding tabulate
+getD-tabulate zero f k l = absurd (omega arith)
+getD-tabulate (suc n) f zero l = refl
+getD-tabulate (suc n) f (suc k) l = getD-tabulate n (λ i. f (suc i)) k (omega arith)
+
+-- a list of f's values is the table of them
+pub is-tabulate : (l : List ℕ) (n : ℕ) (f : ℕ → ℕ) → length l ≡ n → ((k : ℕ) → k < n → getD l k 0 ≡ f k) → l ≡ tabulate n f
+is-tabulate l n f e h =
+    ext-getD 0 l (tabulate n f) (e ∙ sym (length-tabulate n f)) (λ i li. let j : i < n = omega arith in h i j ∙ sym (getD-tabulate n f i j))
+
+-- one more value of f stored
+pub set-more : (l : List ℕ) (i v : ℕ) (f : ℕ → ℕ) → i < length l → ((k : ℕ) → k < i → getD l k 0 ≡ f k) → v ≡ f i
+    → (k : ℕ) → k < i + 1 → getD (set l i v) k 0 ≡ f k
+set-more l i v f li h e =
+    below-more (λ k. getD (set l i v) k 0 ≡ f k) i
+      (λ k lk. getD-set-other l i k v 0 (λ q. let z : i < i = subst (λ (j : ℕ). j < i) q lk in lt-irrefl i z) ∙ h k lk)
+      (getD-set-same l i v 0 li ∙ e)
+
+-- ---- protections
+
+-- a colour that is not held lets nothing pass
+pub protection-none : (s : ColourState) (rights : ℕ) → isHeld s ≡ false → 0 ≡ protection s rights
+unfolding protection
+protection-none empty rights e = refl
+protection-none present rights e = absurd (false≢true (sym e))
+protection-none dirty rights e = absurd (false≢true (sym e))
+protection-none stale rights e = refl
+
+-- a held one lets a read pass, and a write too if it is dirty and the rights allow it
+pub protection-rights : (s : ColourState) (rights : ℕ) → isHeld s ≡ true → eqb rights readWrite ≡ false → 1 ≡ protection s rights
+unfolding protection
+protection-rights s rights h w = sym (ap₂ (λ (t u : Bool). cond (isDirty s && t) 2 (digit u)) w h ∙ ap (λ (t : Bool). cond t 2 1) (and-false (isDirty s)))
+
+pub protection-clean : (s : ColourState) (rights : ℕ) → isHeld s ≡ true → isDirty s ≡ false → 1 ≡ protection s rights
+unfolding protection
+protection-clean s rights h d = sym (ap₂ (λ (t u : Bool). cond (t && eqb rights readWrite) 2 (digit u)) d h)
+
+pub protection-write : (s : ColourState) (rights : ℕ) → isDirty s ≡ true → eqb rights readWrite ≡ true → 2 ≡ protection s rights
+unfolding protection
+protection-write s rights d w = sym (ap₂ (λ (t u : Bool). cond (t && u) 2 (digit (isHeld s))) d w)
+
+-- the state of the colour through which a mapping goes, from its record and its colour
+pub state-at : (b : Board) (rs : List ℕ) (m : Mapping) {r : FrameRecord} {k : ℕ} → r ≡ recordAt rs (m .frame) → k ≡ colourOf b (m .page)
+    → stateOf r k ≡ mappingState b rs m
+unfolding mappingState
+state-at b rs m er ek = ap₂ stateOf er ek

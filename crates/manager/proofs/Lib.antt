@@ -1,0 +1,3 @@
+-- The manager's laws and theorems.
+pub mod Laws
+pub mod CauseLaws

@@ -1,0 +1,40 @@
+-- `manager::carry_out` meets its contract.
+use borrow.Author.Needs.{needs}
+use Rattle.manager.proofs.carry_out.Statement.{statement}
+use Rattle.manager.proofs.carry_out.Tie as tie
+use Rattle.manager.proofs.carry_out.Reads as reads
+use Rattle.manager.proofs.carry_out.Lts as lts
+use Rattle.manager.proofs.commit_change.Reads as commit-change-reads
+
+enum-known-plan : tie.Need-enum-known-plan
+enum-known-plan c = search needs
+
+enum-known-plan-2 : tie.Need-enum-known-plan-2
+enum-known-plan-2 c = search needs
+
+commit-change-requires : tie.Need-commit-change-requires
+commit-change-requires c κs = search needs
+
+returns : tie.Need-returns
+returns c = ?
+
+same-length : tie.Need-same-length
+same-length c = search needs
+
+same-length-2 : tie.Need-same-length-2
+same-length-2 c = search needs
+
+returns-2 : tie.Need-returns-2
+returns-2 c = ?
+
+pub carry-out-spec : {M : Type 1} → statement M
+carry-out-spec =
+    tie.close
+    (tie.spec
+    enum-known-plan
+    enum-known-plan-2
+    commit-change-requires
+    returns
+    same-length
+    same-length-2
+    returns-2)

@@ -1,0 +1,55 @@
+-- `manager::map` meets its contract.
+use borrow.Author.Needs.{needs}
+use Rattle.manager.proofs.map.Statement.{statement}
+use Rattle.manager.proofs.map.Tie as tie
+use Rattle.manager.proofs.map.Reads as reads
+use Rattle.manager.proofs.map.Lts as lts
+use Rattle.manager.proofs.commit_map.Reads as commit-map-reads
+use Rattle.manager.proofs.listed_as.Reads as listed-as-reads
+use Rattle.manager.proofs.plan_map.Reads as plan-map-reads
+use Rattle.manager.proofs.refused_as.Reads as refused-as-reads
+
+plan-map-requires : tie.Need-plan-map-requires
+plan-map-requires c κs = search needs
+
+enum-known-plan : tie.Need-enum-known-plan
+enum-known-plan c = search needs
+
+refused-as-requires : tie.Need-refused-as-requires
+refused-as-requires c κs = search needs
+
+enum-told : tie.Need-enum-told
+enum-told c = search needs
+
+commit-map-requires : tie.Need-commit-map-requires
+commit-map-requires c κs = search needs
+
+listed-as-requires : tie.Need-listed-as-requires
+listed-as-requires c κs = search needs
+
+same-length : tie.Need-same-length
+same-length c = search needs
+
+returns : tie.Need-returns
+returns c = ?
+
+same-length-2 : tie.Need-same-length-2
+same-length-2 c = search needs
+
+returns-2 : tie.Need-returns-2
+returns-2 c = ?
+
+pub map-spec : {M : Type 1} → statement M
+map-spec =
+    tie.close
+    (tie.spec
+    plan-map-requires
+    enum-known-plan
+    refused-as-requires
+    enum-told
+    commit-map-requires
+    listed-as-requires
+    same-length
+    returns
+    same-length-2
+    returns-2)

@@ -1,0 +1,63 @@
+-- `manager::map_refusal` meets its contract.
+use borrow.Author.Needs.{needs}
+use Rattle.manager.proofs.refusals.map_refusal.Statement.{statement}
+use Rattle.manager.proofs.refusals.map_refusal.Tie as tie
+use Rattle.manager.proofs.refusals.map_refusal.Reads as reads
+use Rattle.manager.proofs.refusals.map_refusal.Lts as lts
+use Rattle.manager.proofs.refusals.is_mapped.Reads as is-mapped-reads
+use Rattle.manager.proofs.refusals.is_right.Reads as is-right-reads
+use Rattle.manager.proofs.refusals.out_of_space.Reads as out-of-space-reads
+use Rattle.manager.proofs.refusals.tables_refusal.Reads as tables-refusal-reads
+
+tables-refusal-requires : tie.Need-tables-refusal-requires
+tables-refusal-requires c κs = search needs
+
+returns : tie.Need-returns
+returns c = ?
+
+out-of-space-requires : tie.Need-out-of-space-requires
+out-of-space-requires c κs = search needs
+
+returns-2 : tie.Need-returns-2
+returns-2 c = ?
+
+cast-if3 : tie.Need-cast-if3
+cast-if3 c = search needs
+
+returns-3 : tie.Need-returns-3
+returns-3 c = ?
+
+is-right-requires : tie.Need-is-right-requires
+is-right-requires c κs = search needs
+
+returns-4 : tie.Need-returns-4
+returns-4 c = ?
+
+is-mapped-requires : tie.Need-is-mapped-requires
+is-mapped-requires c κs = search needs
+
+returns-5 : tie.Need-returns-5
+returns-5 c = ?
+
+returns-6 : tie.Need-returns-6
+returns-6 c = ?
+
+returns-7 : tie.Need-returns-7
+returns-7 c = ?
+
+pub map-refusal-spec : {M : Type 1} → statement M
+map-refusal-spec =
+    tie.close
+    (tie.spec
+    tables-refusal-requires
+    returns
+    out-of-space-requires
+    returns-2
+    cast-if3
+    returns-3
+    is-right-requires
+    returns-4
+    is-mapped-requires
+    returns-5
+    returns-6
+    returns-7)

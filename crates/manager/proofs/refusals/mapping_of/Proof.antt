@@ -1,0 +1,18 @@
+-- `manager::mapping_of` meets its contract.
+use mathlib.Core.Path.{ap, _∙_}
+use Rattle.mapping.specs.Entry.{mappingAt}
+use borrow.Author.Needs.{needs}
+use Rattle.manager.proofs.refusals.mapping_of.Statement.{statement}
+use Rattle.manager.proofs.refusals.mapping_of.Tie as tie
+
+place-of-requires : tie.Need-place-of-requires
+place-of-requires c κs = search needs
+
+at-requires : tie.Need-at-requires
+at-requires c κs = search needs
+
+returns : tie.Need-returns
+returns c = c .at .ensures ∙ ap (mappingAt (c .before .before .args .list)) (c .before .place-of .ensures)
+
+pub mapping-of-spec : {M : Type 1} → statement M
+mapping-of-spec = tie.close (tie.spec place-of-requires at-requires returns)
