@@ -1,15 +1,15 @@
 -- The laws of the board's geometry, for any board whose line divides its page.
 use mathlib.Core.Path.{_≡_, refl, sym, ap, ap₂, _∙_, subst, subst⁻¹}
-use Prim.Native.Nat.{ℕ, zero, suc, _+_, _*_, _/_, _%_, _≤_, _<_}
+use Prim.Native.Nat.{ℕ, zero, suc, _+_, _-_, _*_, _/_, _%_, _≤_, _<_}
 use native.Mathlib.Omega.{arith}
 use native.Mathlib.Nat.{mod-lt, mul-assoc, mul-le-mul-right, add-mul, add-assoc, div-add-mod', div-lt-iff-lt-mul, suc-mul}
 use lib.Arith.{digits-lt, digits-div, digits-mod}
-use Rattle.board.specs.Board.{Board, Regular, board01, pageLines, lines, cacheWords, memoryWords, colourOf, lineOf, lineAt, cacheAt, lineColour, lineOffset, frameAt, memoryAt}
+use Rattle.board.specs.Board.{Board, Regular, board01, pageLines, lines, cacheWords, memoryWords, colourOf, lineOf, colourLine, lineAt, cacheAt, lineColour, lineOffset, frameAt, memoryAt}
 
 -- document 01's board
 pub board01-regular : Regular board01
 unfolding pageLines
-board01-regular = record { line-words = omega arith; page-words = omega arith; has-colours = omega arith; divides = refl }
+board01-regular = record { line-words = omega arith; page-words = omega arith; has-colours = omega arith; divides = refl; few-frames = omega arith }
 
 -- a row of w words below the last of n ends within n rows
 after : (i n w : ℕ) → i < n → i * w + w ≤ n * w
@@ -25,7 +25,7 @@ module _ (b : Board) (reg : Regular b) where
   -- ---- a line and the offsets in it
 
   -- which of a page's lines an offset lies in
-  offset-line-lt : (o : ℕ) → o < b .pageWords → o / b .lineWords < pageLines b
+  pub offset-line-lt : (o : ℕ) → o < b .pageWords → o / b .lineWords < pageLines b
   offset-line-lt o h = div-lt-iff-lt-mul (reg .line-words) .1 (subst (λ (w : ℕ). o < w) (sym (reg .divides)) h)
 
   pub lineOf-lt : (c o : ℕ) → c < b .colours → o < b .pageWords → lineOf b c o < lines b
@@ -60,6 +60,28 @@ module _ (b : Board) (reg : Regular b) where
   pub cacheAt-line : (n i : ℕ) → i < b .lineWords → cacheAt b (lineColour b n) (lineOffset b n + i) ≡ lineAt b n + i
   unfolding cacheAt lineOffset
   cacheAt-line n i h = ap₂ (λ (x y : ℕ). lineAt b x + y) (lineOf-line n i h) (digits-mod (n % pageLines b) h)
+
+  -- ---- the lines of a colour
+
+  pub colourLine-lt : (c i : ℕ) → c < b .colours → i < pageLines b → colourLine b c i < lines b
+  unfolding colourLine lines
+  colourLine-lt c i hc hi = digits-lt hc hi
+
+  pub colourLine-colour : (c i : ℕ) → i < pageLines b → lineColour b (colourLine b c i) ≡ c
+  unfolding colourLine lineColour
+  colourLine-colour c i h = digits-div c h
+
+  -- a line is one of its colour's
+  pub colourLine-index : (n : ℕ) → n % pageLines b < pageLines b
+  colourLine-index n = mod-lt n pageLines-pos
+
+  pub colourLine-split : (n : ℕ) → colourLine b (lineColour b n) (n % pageLines b) ≡ n
+  unfolding colourLine lineColour
+  colourLine-split n = div-add-mod' n (pageLines b)
+
+  pub colourLine-inj : (c i j : ℕ) → colourLine b c i ≡ colourLine b c j → i ≡ j
+  unfolding colourLine
+  colourLine-inj c i j e = omega arith
 
   -- ---- words of the cache and of memory
 
@@ -101,3 +123,41 @@ module _ (b : Board) (reg : Regular b) where
   pub memoryAt-split : (i : ℕ) → memoryAt b (i / b .pageWords) (i % b .pageWords) ≡ i
   unfolding memoryAt
   memoryAt-split i = div-add-mod' i (b .pageWords)
+
+  -- ---- the words of a line and of a frame
+
+  -- a place in a row of w words is that row's
+  in-row : (i j r w : ℕ) → i * w ≤ j * w + r → j * w + r < i * w + w → r < w → j ≡ i
+  in-row i j r w low high h =
+      let k : ℕ = j * w + r - i * w in
+      sym (digits-div j h) ∙ ap (λ (x : ℕ). x / w) (omega arith) ∙ digits-div i {m = w} {r = k} (omega arith)
+
+  -- a word of the cache that lies in line n is a word of line n
+  pub cacheAt-within : (n c o : ℕ) → lineAt b n ≤ cacheAt b c o → cacheAt b c o < lineAt b n + b .lineWords → lineOf b c o ≡ n
+  unfolding cacheAt lineAt
+  cacheAt-within n c o low high = in-row n (lineOf b c o) (o % b .lineWords) (b .lineWords) low high (mod-lt o (reg .line-words))
+
+  -- a word of memory that lies in frame g is of frame g
+  pub frameAt-within : (g f o : ℕ) → o < b .pageWords → frameAt b g ≤ memoryAt b f o → memoryAt b f o < frameAt b g + b .pageWords → f ≡ g
+  unfolding memoryAt frameAt
+  frameAt-within g f o ho low high = in-row g f o (b .pageWords) low high ho
+
+  -- line n's words of a frame lie in memory one after another
+  pub memoryAt-line : (f n i : ℕ) → memoryAt b f (lineOffset b n) + i ≡ memoryAt b f (lineOffset b n + i)
+  unfolding memoryAt
+  memoryAt-line f n i = omega arith
+
+  pub memoryAt-line-end : (f n : ℕ) → f < b .frames → memoryAt b f (lineOffset b n) + b .lineWords ≤ memoryWords b
+  unfolding memoryAt
+  memoryAt-line-end f n h = omega (arith, frameAt-end f h, lineOffset-end n)
+
+  -- and no other word of memory lies among them
+  pub memoryAt-within-frame : (g n f o : ℕ) → o < b .pageWords → memoryAt b g (lineOffset b n) ≤ memoryAt b f o → memoryAt b f o < memoryAt b g (lineOffset b n) + b .lineWords → f ≡ g
+  unfolding memoryAt
+  memoryAt-within-frame g n f o ho low high = frameAt-within g f o ho (omega arith) (omega (arith, lineOffset-end n))
+
+  pub memoryAt-within-line : (f n o : ℕ) → memoryAt b f (lineOffset b n) ≤ memoryAt b f o → memoryAt b f o < memoryAt b f (lineOffset b n) + b .lineWords → lineOf b (lineColour b n) o ≡ n
+  unfolding memoryAt
+  memoryAt-within-line f n o low high =
+      let i : ℕ = o - lineOffset b n in
+      ap (λ (x : ℕ). lineOf b (lineColour b n) x) (omega arith) ∙ lineOf-line n i (omega arith)

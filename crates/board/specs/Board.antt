@@ -1,5 +1,5 @@
 -- Document 01, "The board as modelled": the four numbers, and which line, word and colour belong to which page and offset.
-use Prim.Native.Nat.{ℕ, _+_, _*_, _/_, _%_, _<_}
+use Prim.Native.Nat.{ℕ, _+_, _*_, _/_, _%_, _<_, _≤_}
 use mathlib.Core.Path.{_≡_}
 
 -- a board by its four numbers
@@ -47,6 +47,11 @@ unfoldable pub lineOf : Board → ℕ → ℕ → ℕ
 unfolding pageLines
 lineOf b c o = c * pageLines b + o / b .lineWords
 
+-- line i of the lines of colour c, in rising order
+unfoldable pub colourLine : Board → ℕ → ℕ → ℕ
+unfolding pageLines
+colourLine b c i = c * pageLines b + i
+
 -- the first word of line n in the cache
 unfoldable pub lineAt : Board → ℕ → ℕ
 lineAt b n = n * b .lineWords
@@ -75,9 +80,10 @@ memoryAt b f o = frameAt b f + o
 
 -- ---- the boards of which the laws hold
 
--- a board has words and colours, and its line divides its page
+-- a board has words and colours, its line divides its page, and a tag byte has room for its frames, clean and dirty
 pub record Regular (b : Board) : Type 0 where
   pub line-words : 0 < b .lineWords
   pub page-words : 0 < b .pageWords
   pub has-colours : 0 < b .colours
   pub divides : pageLines b * b .lineWords ≡ b .pageWords
+  pub few-frames : b .frames < 128

@@ -1,0 +1,119 @@
+-- The laws of tags: what a clean, a dirty and an empty tag says, and what a tag that keeps the rules can be.
+use mathlib.Core.Path.{_≡_, refl, sym, ap, _∙_, subst}
+use mathlib.Core.Bool.{Bool, true, false, _&&_, _||_, cond, or-true, true≢false, false≢true}
+use mathlib.Core.Logic.{_≢_, _⊎_, inl, inr}
+use mathlib.Core.List.{List, [], _∷_}
+use Prim.Native.Nat.{ℕ, zero, suc, _+_, _-_, _≤_, _<_}
+use native.Mathlib.Omega.{arith}
+use lib.Dec.{eqb, leb, ltb}
+use lib.ListN.{length, getD, set}
+use borrow.Author.Tests.{le-leb, lt-leb, leb-true, leb-false, eq-eqb, ne-eqb, eqb-true, eqb-false, lt-ltb, ltb-true}
+use Rattle.board.specs.Board.{Board, Regular}
+use Rattle.cache.specs.Tag.{emptyTag, cleanTag, dirtyTag, isDirty, names, frameOf, tagKeepsRules, tagsKeepRules}
+
+and-left : (a b : Bool) → (a && b) ≡ true → a ≡ true
+and-left true b e = refl
+and-left false b e = e
+
+and-right : (a b : Bool) → (a && b) ≡ true → b ≡ true
+and-right true b e = e
+and-right false b e = absurd (false≢true e)
+
+-- ---- what a tag says
+
+pub isDirty-dirty : (f : ℕ) → isDirty (dirtyTag f) ≡ true
+unfolding isDirty
+isDirty-dirty f = le-leb 129 (129 + f) (omega arith)
+
+pub frameOf-dirty : (f : ℕ) → frameOf (dirtyTag f) ≡ f
+unfolding frameOf
+frameOf-dirty f = rw (isDirty-dirty f) (omega arith)
+
+-- a dirty tag is that of its frame
+pub dirty-frame : (tag : ℕ) → isDirty tag ≡ true → tag ≡ dirtyTag (frameOf tag)
+unfolding isDirty frameOf
+dirty-frame tag e = let h = leb-true 129 tag e in rw e (omega arith)
+
+pub names-clean : (f : ℕ) → names (cleanTag f) f ≡ true
+unfolding names
+names-clean f = rw (eq-eqb (1 + f) (1 + f) refl)
+
+pub names-dirty : (f : ℕ) → names (dirtyTag f) f ≡ true
+unfolding names
+names-dirty f = rw (eq-eqb (129 + f) (129 + f) refl, or-true)
+
+pub names-empty : (f : ℕ) → names emptyTag f ≡ false
+unfolding names
+names-empty f = rw (ne-eqb 0 (1 + f) (omega arith), ne-eqb 0 (129 + f) (omega arith))
+
+-- a tag that names f is its clean or its dirty one
+pub names-cases : (tag f : ℕ) → names tag f ≡ true → (tag ≡ cleanTag f) ⊎ (tag ≡ dirtyTag f)
+unfolding names
+names-cases tag f e = go (eqb tag (1 + f)) refl
+  where
+    go : (t : Bool) → eqb tag (1 + f) ≡ t → (tag ≡ cleanTag f) ⊎ (tag ≡ dirtyTag f)
+    go true h = inl (eqb-true tag (1 + f) h)
+    go false h = inr (eqb-true tag (129 + f) (rw h at e))
+
+module _ (b : Board) (reg : Regular b) where
+  pub isDirty-clean : (f : ℕ) → f < b .frames → isDirty (cleanTag f) ≡ false
+  unfolding isDirty
+  isDirty-clean f h = let few = reg .few-frames in lt-leb 129 (1 + f) (omega arith)
+
+  -- a tag names one frame of the board
+  pub names-one : (tag f g : ℕ) → f < b .frames → g < b .frames → names tag f ≡ true → names tag g ≡ true → f ≡ g
+  names-one tag f g hf hg ef eg = go (names-cases tag f ef) (names-cases tag g eg)
+    where
+      go : (tag ≡ cleanTag f) ⊎ (tag ≡ dirtyTag f) → (tag ≡ cleanTag g) ⊎ (tag ≡ dirtyTag g) → f ≡ g
+      go (inl p) (inl q) = omega arith
+      go (inl p) (inr q) = let few = reg .few-frames in omega arith
+      go (inr p) (inl q) = let few = reg .few-frames in omega arith
+      go (inr p) (inr q) = omega arith
+
+  -- ---- which tags keep the rules
+
+  pub rules-empty : tagKeepsRules b emptyTag ≡ true
+  unfolding tagKeepsRules
+  rules-empty = refl
+
+  pub rules-clean : (f : ℕ) → f < b .frames → tagKeepsRules b (cleanTag f) ≡ true
+  unfolding tagKeepsRules
+  rules-clean f h = rw (isDirty-clean f h, lt-ltb (1 + f - 1) (b .frames) (omega arith), or-true)
+
+  pub rules-dirty : (f : ℕ) → f < b .frames → tagKeepsRules b (dirtyTag f) ≡ true
+  unfolding tagKeepsRules
+  rules-dirty f h = rw (isDirty-dirty f, lt-ltb (129 + f - 129) (b .frames) (omega arith), or-true)
+
+  -- a dirty tag that keeps the rules names a frame of the board
+  pub rules-frame : (tag : ℕ) → tagKeepsRules b tag ≡ true → isDirty tag ≡ true → frameOf tag < b .frames
+  unfolding tagKeepsRules isDirty
+  rules-frame tag e d =
+      let h = leb-true 129 tag d in
+      ltb-true (frameOf tag) (b .frames) (rw (ne-eqb tag 0 (omega arith)) at e)
+
+  rules-head : (tag : ℕ) (tags : List ℕ) → tagsKeepRules b (tag ∷ tags) ≡ true → tagKeepsRules b tag ≡ true
+  unfolding tagsKeepRules
+  rules-head tag tags e = and-left (tagKeepsRules b tag) (tagsKeepRules b tags) e
+
+  rules-tail : (tag : ℕ) (tags : List ℕ) → tagsKeepRules b (tag ∷ tags) ≡ true → tagsKeepRules b tags ≡ true
+  unfolding tagsKeepRules
+  rules-tail tag tags e = and-right (tagKeepsRules b tag) (tagsKeepRules b tags) e
+
+  rules-cons : (tag : ℕ) (tags : List ℕ) → tagKeepsRules b tag ≡ true → tagsKeepRules b tags ≡ true → tagsKeepRules b (tag ∷ tags) ≡ true
+  unfolding tagsKeepRules
+  rules-cons tag tags p q = rw (p, q)
+
+  pub rules-at : (tags : List ℕ) (n : ℕ) → tagsKeepRules b tags ≡ true → tagKeepsRules b (getD tags n 0) ≡ true
+  rules-at [] n e = rules-empty
+  rules-at (tag ∷ tags) zero e = rules-head tag tags e
+  rules-at (tag ∷ tags) (suc n) e = rules-at tags n (rules-tail tag tags e)
+
+  pub rules-all : (tags : List ℕ) → ((k : ℕ) → k < length tags → tagKeepsRules b (getD tags k 0) ≡ true) → tagsKeepRules b tags ≡ true
+  unfolding tagsKeepRules
+  rules-all [] h = refl
+  rules-all (tag ∷ tags) h = rules-cons tag tags (h 0 (omega arith)) (rules-all tags (λ k l. h (suc k) (omega arith)))
+
+  pub rules-set : (tags : List ℕ) (n tag : ℕ) → tagsKeepRules b tags ≡ true → tagKeepsRules b tag ≡ true → tagsKeepRules b (set tags n tag) ≡ true
+  rules-set [] n tag e k = e
+  rules-set (t ∷ tags) zero tag e k = rules-cons tag tags k (rules-tail t tags e)
+  rules-set (t ∷ tags) (suc n) tag e k = rules-cons t (set tags n tag) (rules-head t tags e) (rules-set tags n tag (rules-tail t tags e) k)

@@ -1,0 +1,5 @@
+-- The cache: what a tag says, the hardware's state, and what each operation does to it.
+pub mod Part
+pub mod Tag
+pub mod Store
+pub mod Cache
