@@ -161,3 +161,11 @@ module _ (b : Board) (reg : Regular b) where
   memoryAt-within-line f n o low high =
       let i : ℕ = o - lineOffset b n in
       ap (λ (x : ℕ). lineOf b (lineColour b n) x) (omega arith) ∙ lineOf-line n i (omega arith)
+
+  -- a word of the cache is of one line, and in one colour of one offset
+  pub cacheAt-line-inj : (c o d p : ℕ) → cacheAt b c o ≡ cacheAt b d p → lineOf b c o ≡ lineOf b d p
+  unfolding cacheAt
+  cacheAt-line-inj c o d p e = cacheAt-within (lineOf b d p) c o (omega arith) (omega (arith, mod-lt p (reg .line-words)))
+
+  pub cacheAt-offset-inj : (c o p : ℕ) → cacheAt b c o ≡ cacheAt b c p → o ≡ p
+  cacheAt-offset-inj c o p e = omega (arith, cacheAt-flat c o, cacheAt-flat c p)

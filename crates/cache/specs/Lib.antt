@@ -3,3 +3,4 @@ pub mod Part
 pub mod Tag
 pub mod Store
 pub mod Cache
+pub mod Trial

@@ -1,0 +1,164 @@
+-- The laws of the two orders, flush and purge of a frame in a colour.
+use mathlib.Core.Path.{_≡_, refl, sym, ap, _∙_, subst, subst⁻¹}
+use mathlib.Core.Bool.{Bool, true, false}
+use mathlib.Core.Logic.{_≢_}
+use mathlib.Core.List.{List}
+use Prim.Native.Nat.{ℕ, _≤_, _<_}
+use lib.ListN.{getD}
+use Rattle.board.specs.Board.{Board, Regular, lines, pageLines, lineOf, cacheAt, lineColour}
+use Rattle.board.proofs.Geometry.{lineOf-lt, lineOf-colour}
+use Rattle.cache.specs.Store.{Store, WellFormed, tagAt, wordAt, memoryWord, when}
+use Rattle.cache.specs.Tag.{emptyTag, dirtyTag, names}
+use Rattle.cache.specs.Cache.{empty, evict, sweep, flushLine, purgeLine, flush, purge}
+use Rattle.cache.proofs.Tag.{names-dirty, names-one}
+use Rattle.cache.proofs.Line.{dirty-frame-lt, empty-kept, empty-tag-same, empty-tag-other, empty-words, empty-memory, evict-kept, evict-tag-same, evict-tag-other, evict-words, evict-memory-same, evict-memory-other}
+use Rattle.cache.proofs.Sweep.{Empties, Apart, sweep-kept, sweep-same, sweep-turn, sweep-tag-same, sweep-tag-left, sweep-tag-other, sweep-names}
+
+-- what holds of the store as it is, and of the outcome under the test, holds of both
+when-cases : (P : Store → Type 0) (t : Bool) (g : Store → Store) (s : Store) → (t ≡ false → P s) → (t ≡ true → P (g s)) → P (when t g s)
+when-cases P true g s fails holds = holds refl
+when-cases P false g s fails holds = fails refl
+
+-- ---- one line
+
+module _ (b : Board) (reg : Regular b) (f : ℕ) where
+  flushLine-named : (n : ℕ) (s : Store) → names (tagAt s n) f ≡ true → flushLine b f n s ≡ evict b n s
+  unfolding flushLine
+  flushLine-named n s e = rw e
+
+  flushLine-other : (n : ℕ) (s : Store) → names (tagAt s n) f ≡ false → flushLine b f n s ≡ s
+  unfolding flushLine
+  flushLine-other n s e = rw e
+
+  flushLine-cases : (P : Store → Type 0) (n : ℕ) (s : Store) → P s → (names (tagAt s n) f ≡ true → P (evict b n s)) → P (flushLine b f n s)
+  unfolding flushLine
+  flushLine-cases P n s other named = when-cases P (names (tagAt s n) f) (evict b n) s (λ e. other) named
+
+  flushLine-empties : Empties b f (flushLine b f)
+  flushLine-empties =
+      record {
+        kept = λ n s h w. flushLine-cases (WellFormed b) n s w (λ e. evict-kept b reg s w n h);
+        tag-same = λ n s h w e. rw (flushLine-named n s e) (evict-tag-same b reg s w n h);
+        tag-left = λ n s e. rw (flushLine-other n s e);
+        tag-other = λ n s h w m ne. flushLine-cases (λ t. tagAt t m ≡ tagAt s m) n s refl (λ e. evict-tag-other b reg s w n h m ne);
+      }
+
+  purgeLine-named : (n : ℕ) (s : Store) → names (tagAt s n) f ≡ true → purgeLine f n s ≡ empty n s
+  unfolding purgeLine
+  purgeLine-named n s e = rw e
+
+  purgeLine-other : (n : ℕ) (s : Store) → names (tagAt s n) f ≡ false → purgeLine f n s ≡ s
+  unfolding purgeLine
+  purgeLine-other n s e = rw e
+
+  purgeLine-cases : (P : Store → Type 0) (n : ℕ) (s : Store) → P s → P (empty n s) → P (purgeLine f n s)
+  unfolding purgeLine
+  purgeLine-cases P n s other named = when-cases P (names (tagAt s n) f) (empty n) s (λ e. other) (λ e. named)
+
+  purgeLine-empties : Empties b f (purgeLine f)
+  purgeLine-empties =
+      record {
+        kept = λ n s h w. purgeLine-cases (WellFormed b) n s w (empty-kept b reg s w n);
+        tag-same = λ n s h w e. rw (purgeLine-named n s e) (empty-tag-same b reg s w n h);
+        tag-left = λ n s e. rw (purgeLine-other n s e);
+        tag-other = λ n s h w m ne. purgeLine-cases (λ t. tagAt t m ≡ tagAt s m) n s refl (empty-tag-other b reg s w n m ne);
+      }
+
+-- ---- flush
+
+module _ (b : Board) (reg : Regular b) (f c : ℕ) (hf : f < b .frames) (hc : c < b .colours) (s : Store) (wf : WellFormed b s) where
+  pub flush-kept : WellFormed b (flush b f c s)
+  unfolding flush
+  flush-kept = sweep-kept b reg f (flushLine b f) (flushLine-empties b reg f) c hc s wf
+
+  pub flush-tag-same : (n : ℕ) → n < lines b → lineColour b n ≡ c → names (tagAt s n) f ≡ true → tagAt (flush b f c s) n ≡ emptyTag
+  unfolding flush
+  flush-tag-same = sweep-tag-same b reg f (flushLine b f) (flushLine-empties b reg f) c hc s wf
+
+  pub flush-tag-left : (n : ℕ) → lineColour b n ≡ c → names (tagAt s n) f ≡ false → tagAt (flush b f c s) n ≡ tagAt s n
+  unfolding flush
+  flush-tag-left = sweep-tag-left b reg f (flushLine b f) (flushLine-empties b reg f) c hc s wf
+
+  pub flush-tag-other : (n : ℕ) → lineColour b n ≢ c → tagAt (flush b f c s) n ≡ tagAt s n
+  unfolding flush
+  flush-tag-other = sweep-tag-other b reg f (flushLine b f) (flushLine-empties b reg f) c hc s wf
+
+  pub flush-names : (n : ℕ) → n < lines b → lineColour b n ≡ c → names (tagAt (flush b f c s) n) f ≡ false
+  unfolding flush
+  flush-names = sweep-names b reg f (flushLine b f) (flushLine-empties b reg f) c hc s wf
+
+  pub flush-words : flush b f c s .words ≡ s .words
+  unfolding flush
+  flush-words =
+      sweep-same b reg f (flushLine b f) (flushLine-empties b reg f) c hc s wf (λ t. t .words)
+      (λ m t h e w. flushLine-cases b reg f (λ u. u .words ≡ t .words) m t refl (λ _. evict-words b reg t w m h))
+
+  -- a word of memory at offset o is changed by the turn of the line of colour c that covers o alone
+  memory-apart : (g o : ℕ) → o < b .pageWords → Apart b (flushLine b f) c (lineOf b c o) (λ t. memoryWord b t g o)
+  memory-apart g o ho m t h e w ne =
+      flushLine-cases b reg f (λ u. memoryWord b u g o ≡ memoryWord b t g o) m t refl
+      (λ _. evict-memory-other b reg t w m h g o ho (λ l _. ne (sym l ∙ ap (λ (x : ℕ). lineOf b x o) e)))
+
+  tag-apart : (n : ℕ) → Apart b (flushLine b f) c n (λ t. tagAt t n)
+  tag-apart n m t h e w ne = flushLine-empties b reg f .tag-other m t h w n (λ q. ne (sym q))
+
+  pub flush-memory-same : (o : ℕ) → o < b .pageWords → tagAt s (lineOf b c o) ≡ dirtyTag f → memoryWord b (flush b f c s) f o ≡ wordAt b s c o
+  unfolding flush
+  flush-memory-same o ho d =
+      let n : ℕ = lineOf b c o in
+      let turn = sweep-turn b reg f (flushLine b f) (flushLine-empties b reg f) c hc s wf n (lineOf-colour b reg c o ho) in
+      let dirty : tagAt (turn .now) n ≡ dirtyTag f = turn .before (λ t. tagAt t n) (tag-apart n) ∙ d in
+      turn .after (λ t. memoryWord b t f o) (memory-apart f o ho)
+      ∙ ap (λ (t : Store). memoryWord b t f o) (flushLine-named b reg f n (turn .now) (ap (λ (t : ℕ). names t f) dirty ∙ names-dirty f))
+      ∙ evict-memory-same b reg (turn .now) (turn .kept) n (lineOf-lt b reg c o hc ho) f c o ho refl dirty
+      ∙ turn .before (λ t. wordAt b t c o) (λ m t h e w ne. flushLine-cases b reg f (λ u. wordAt b u c o ≡ wordAt b t c o) m t refl (λ _. ap (λ (l : List ℕ). getD l (cacheAt b c o) 0) (evict-words b reg t w m h)))
+
+  pub flush-memory-other : (g o : ℕ) → o < b .pageWords → (g ≡ f → tagAt s (lineOf b c o) ≡ dirtyTag f → ⊥) → memoryWord b (flush b f c s) g o ≡ memoryWord b s g o
+  unfolding flush
+  flush-memory-other g o ho out =
+      let n : ℕ = lineOf b c o in
+      let turn = sweep-turn b reg f (flushLine b f) (flushLine-empties b reg f) c hc s wf n (lineOf-colour b reg c o ho) in
+      let was = turn .before (λ t. tagAt t n) (tag-apart n) in
+      turn .after (λ t. memoryWord b t g o) (memory-apart g o ho)
+      ∙ flushLine-cases b reg f (λ u. memoryWord b u g o ≡ memoryWord b (turn .now) g o) n (turn .now) refl
+      (λ named. evict-memory-other b reg (turn .now) (turn .kept) n (lineOf-lt b reg c o hc ho) g o ho
+      (λ _ d.
+      let hg : g < b .frames = dirty-frame-lt b reg (turn .now) (turn .kept) n g d in
+      let e : g ≡ f = names-one b reg (tagAt (turn .now) n) g f hg hf (ap (λ (t : ℕ). names t g) d ∙ names-dirty g) named in
+      out e (sym was ∙ d ∙ ap dirtyTag e)))
+      ∙ turn .before (λ t. memoryWord b t g o) (memory-apart g o ho)
+
+-- ---- purge
+
+module _ (b : Board) (reg : Regular b) (f c : ℕ) (hc : c < b .colours) (s : Store) (wf : WellFormed b s) where
+  pub purge-kept : WellFormed b (purge b f c s)
+  unfolding purge
+  purge-kept = sweep-kept b reg f (purgeLine f) (purgeLine-empties b reg f) c hc s wf
+
+  pub purge-tag-same : (n : ℕ) → n < lines b → lineColour b n ≡ c → names (tagAt s n) f ≡ true → tagAt (purge b f c s) n ≡ emptyTag
+  unfolding purge
+  purge-tag-same = sweep-tag-same b reg f (purgeLine f) (purgeLine-empties b reg f) c hc s wf
+
+  pub purge-tag-left : (n : ℕ) → lineColour b n ≡ c → names (tagAt s n) f ≡ false → tagAt (purge b f c s) n ≡ tagAt s n
+  unfolding purge
+  purge-tag-left = sweep-tag-left b reg f (purgeLine f) (purgeLine-empties b reg f) c hc s wf
+
+  pub purge-tag-other : (n : ℕ) → lineColour b n ≢ c → tagAt (purge b f c s) n ≡ tagAt s n
+  unfolding purge
+  purge-tag-other = sweep-tag-other b reg f (purgeLine f) (purgeLine-empties b reg f) c hc s wf
+
+  pub purge-names : (n : ℕ) → n < lines b → lineColour b n ≡ c → names (tagAt (purge b f c s) n) f ≡ false
+  unfolding purge
+  purge-names = sweep-names b reg f (purgeLine f) (purgeLine-empties b reg f) c hc s wf
+
+  pub purge-words : purge b f c s .words ≡ s .words
+  unfolding purge
+  purge-words =
+      sweep-same b reg f (purgeLine f) (purgeLine-empties b reg f) c hc s wf (λ t. t .words)
+      (λ m t h e w. purgeLine-cases b reg f (λ u. u .words ≡ t .words) m t refl (empty-words b reg t w m))
+
+  pub purge-memory : purge b f c s .memory ≡ s .memory
+  unfolding purge
+  purge-memory =
+      sweep-same b reg f (purgeLine f) (purgeLine-empties b reg f) c hc s wf (λ t. t .memory)
+      (λ m t h e w. purgeLine-cases b reg f (λ u. u .memory ≡ t .memory) m t refl (empty-memory b reg t w m))
