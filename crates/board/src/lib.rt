@@ -1,7 +1,7 @@
 // The board: its four numbers and the lengths that follow from them.
 ghost use mathlib.Core.Path.{_≡_};
 ghost use Prim.Native.Nat.{_<_};
-ghost use Rattle.board.specs.Board.{board01, colourOf, lineOf};
+ghost use Rattle.board.specs.Board.{board01, colourOf, lines, lineOf, lineAt, cacheAt, lineOffset, memoryAt};
 
 // Words in a page, words in a line, colours (cache pages), frames (physical pages).
 pub const PAGE_WORDS: usize = 64;
@@ -38,4 +38,35 @@ pub fn line_of(colour: usize, offset: usize) -> usize
     ensures { λ r. ⌜ r ≡ lineOf board01 colour offset ⌝ }
 {
     colour * PAGE_LINES + offset / LINE_WORDS
+}
+
+// The first word of a line in the cache.
+pub fn line_at(line: usize) -> usize
+    requires { ⌜ line < lines board01 ⌝ }
+    ensures { λ r. ⌜ r ≡ lineAt board01 line ⌝ }
+{
+    line * LINE_WORDS
+}
+
+// The word of the cache that holds an offset in a colour.
+pub fn cache_at(colour: usize, offset: usize) -> usize
+    requires { ⌜ (colour < board01 .colours) × (offset < board01 .pageWords) ⌝ }
+    ensures { λ r. ⌜ r ≡ cacheAt board01 colour offset ⌝ }
+{
+    colour * PAGE_WORDS + offset
+}
+
+// The first offset of a page that lies in a line.
+pub fn line_offset(line: usize) -> usize
+    ensures { λ r. ⌜ r ≡ lineOffset board01 line ⌝ }
+{
+    line % PAGE_LINES * LINE_WORDS
+}
+
+// The word of memory at an offset of a frame.
+pub fn memory_at(frame: usize, offset: usize) -> usize
+    requires { ⌜ (frame < board01 .frames) × (offset < board01 .pageWords) ⌝ }
+    ensures { λ r. ⌜ r ≡ memoryAt board01 frame offset ⌝ }
+{
+    frame * PAGE_WORDS + offset
 }
