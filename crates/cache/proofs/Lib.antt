@@ -1,9 +1,3 @@
--- The laws of the cache.
-pub mod Part
-pub mod Tag
-pub mod Line
-pub mod Sweep
-pub mod Orders
-pub mod Access
-pub mod Device
+-- The laws of the cache's operations, and the two trial claims.
+pub mod Laws
 pub mod Trial

@@ -9,7 +9,7 @@ use Rattle.board.specs.Board.{Board, Regular, memoryWords, frameAt, memoryAt}
 use Rattle.board.proofs.Geometry.{frameAt-end, frameAt-within}
 use Rattle.cache.specs.Store.{Store, WellFormed, memoryWord}
 use Rattle.cache.specs.Cache.{deviceRead, deviceWrite}
-use Rattle.cache.proofs.Part.{length-part, part-at, length-overlay, overlay-inside, overlay-outside}
+use Rattle.cache.proofs.Laws.Part.{length-part, part-at, length-overlay, overlay-inside, overlay-outside}
 
 module _ (b : Board) (reg : Regular b) (f : ℕ) (hf : f < b .frames) (s : Store) (wf : WellFormed b s) where
   -- ---- memory to device

@@ -14,8 +14,8 @@ use Rattle.cache.specs.Part.{part, overlay}
 use Rattle.cache.specs.Store.{Store, store, WellFormed, tagAt, wordAt, memoryWord, withTag, withWords, when}
 use Rattle.cache.specs.Tag.{emptyTag, cleanTag, dirtyTag, isDirty, names, frameOf, tagKeepsRules}
 use Rattle.cache.specs.Cache.{lineWordsOf, copyOut, writeBack, empty, evict, fill}
-use Rattle.cache.proofs.Part.{length-part, part-at, length-overlay, overlay-inside, overlay-outside}
-use Rattle.cache.proofs.Tag.{isDirty-dirty, frameOf-dirty, dirty-frame, rules-at, rules-set, rules-frame, rules-empty, rules-clean}
+use Rattle.cache.proofs.Laws.Part.{length-part, part-at, length-overlay, overlay-inside, overlay-outside}
+use Rattle.cache.proofs.Laws.Tag.{isDirty-dirty, frameOf-dirty, dirty-frame, rules-at, rules-set, rules-frame, rules-empty, rules-clean}
 
 module _ (b : Board) (reg : Regular b) (s : Store) (wf : WellFormed b s) where
   pub tag-keeps : (n : ℕ) → tagKeepsRules b (tagAt s n) ≡ true

@@ -12,8 +12,8 @@ use Rattle.board.proofs.Geometry.{lineOf-lt, lineOf-colour, cacheAt-lt, cacheAt
 use Rattle.cache.specs.Store.{Store, WellFormed, tagAt, wordAt, memoryWord}
 use Rattle.cache.specs.Tag.{cleanTag, dirtyTag, names}
 use Rattle.cache.specs.Cache.{writeBack, fill, replace, access, readWord, putWord, writeWord}
-use Rattle.cache.proofs.Tag.{names-clean, names-dirty, rules-dirty, rules-set}
-use Rattle.cache.proofs.Line.{writeBack-kept, writeBack-tags, writeBack-words, writeBack-memory-same, writeBack-memory-other, fill-kept, fill-tag-same, fill-tag-other, fill-word-same, fill-word-other, fill-memory}
+use Rattle.cache.proofs.Laws.Tag.{names-clean, names-dirty, rules-dirty, rules-set}
+use Rattle.cache.proofs.Laws.Line.{writeBack-kept, writeBack-tags, writeBack-words, writeBack-memory-same, writeBack-memory-other, fill-kept, fill-tag-same, fill-tag-other, fill-word-same, fill-word-other, fill-memory}
 
 -- ---- a line replaced
 

@@ -11,7 +11,7 @@ use Rattle.board.proofs.Geometry.{colourLine-lt, colourLine-colour, colourLine-
 use Rattle.cache.specs.Store.{Store, WellFormed, tagAt}
 use Rattle.cache.specs.Tag.{emptyTag, names}
 use Rattle.cache.specs.Cache.{sweep}
-use Rattle.cache.proofs.Tag.{names-empty}
+use Rattle.cache.proofs.Laws.Tag.{names-empty}
 
 -- an operation that, on any line, empties it if it names f and leaves it else, and touches no other line's tag
 pub record Empties (b : Board) (f : ℕ) (op : ℕ → Store → Store) : Type 0 where

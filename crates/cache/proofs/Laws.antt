@@ -1,0 +1,8 @@
+-- The laws of each operation, named alike: what it does to the tag, the words and the memory of the same place and of another. Proofs above cite these and open no operation.
+pub mod Part
+pub mod Tag
+pub mod Line
+pub mod Sweep
+pub mod Orders
+pub mod Access
+pub mod Device

@@ -1,0 +1,1 @@
+// A processor's access to a word.

@@ -1,0 +1,1 @@
+// A device's transfer of a whole frame.

@@ -1,0 +1,1 @@
+// The two orders on a frame in a colour: flush and purge.

@@ -1,0 +1,70 @@
+// What a line's tag byte says.
+use board::FRAMES;
+ghost use mathlib.Core.Path.{_≡_};
+ghost use Prim.Native.Nat.{_<_};
+ghost use Rattle.board.specs.Board.{board01};
+ghost use Rattle.cache.specs.Tag.{cleanTag, dirtyTag, names, tagKeepsRules, tagsKeepRules};
+
+// The tag of an empty line, and those of a clean and of a dirty line of frame 0.
+pub const EMPTY: u8 = 0;
+
+pub const CLEAN: usize = 1;
+
+pub const DIRTY: usize = 129;
+
+// The tag of a clean line of a frame.
+pub fn clean_tag(frame: usize) -> u8
+    requires { ⌜ frame < board01 .frames ⌝ }
+    ensures { λ r. ⌜ r ≡ cleanTag frame ⌝ }
+{
+    (CLEAN + frame) as u8
+}
+
+// The tag of a dirty line of a frame.
+pub fn dirty_tag(frame: usize) -> u8
+    requires { ⌜ frame < board01 .frames ⌝ }
+    ensures { λ r. ⌜ r ≡ dirtyTag frame ⌝ }
+{
+    (DIRTY + frame) as u8
+}
+
+// A tag as a number.
+pub fn number(tag: u8) -> usize
+    ensures { λ r. ⌜ r ≡ tag ⌝ }
+{
+    tag as usize
+}
+
+// Whether a tag names a frame.
+pub fn names(tag: u8, frame: usize) -> bool
+    requires { ⌜ frame < board01 .frames ⌝ }
+    ensures { λ r. ⌜ r ≡ names tag frame ⌝ }
+{
+    let t = number(tag);
+    t == CLEAN + frame || t == DIRTY + frame
+}
+
+// Whether a tag is empty or names a frame of the board.
+pub fn tag_keeps_rules(tag: u8) -> bool
+    ensures { λ r. ⌜ r ≡ tagKeepsRules board01 tag ⌝ }
+{
+    let t = number(tag);
+    if t < DIRTY {
+        return t < CLEAN + FRAMES;
+    }
+    t < DIRTY + FRAMES
+}
+
+// Whether every tag keeps the rules.
+pub fn tags_keep_rules(tags: &[u8]) -> bool
+    ensures { λ r. ⌜ r ≡ tagsKeepRules board01 (now (tags .entry)) ⌝ }
+{
+    let mut i = 0;
+    while i < tags.len() {
+        if !tag_keeps_rules(tags[i]) {
+            return false;
+        }
+        i += 1;
+    }
+    true
+}
