@@ -111,6 +111,10 @@ module _ (b : Board) (reg : Regular b) where
   unfolding frameAt memoryWords
   frameAt-end f h = after f (b .frames) (b .pageWords) h
 
+  pub memoryAt-zero : (f : ℕ) → memoryAt b f 0 ≡ frameAt b f
+  unfolding memoryAt
+  memoryAt-zero f = omega arith
+
   -- a word of memory is of one frame and offset
   pub memoryAt-frame : (f o : ℕ) → o < b .pageWords → memoryAt b f o / b .pageWords ≡ f
   unfolding memoryAt

@@ -1,9 +1,9 @@
 // What is done to one line: written back, evicted, filled.
-use board::LINE_WORDS;
-use crate::tag::clean_tag;
-use crate::tag::number;
 use crate::tag::DIRTY;
 use crate::tag::EMPTY;
+use crate::tag::clean_tag;
+use crate::tag::number;
+use board::LINE_WORDS;
 ghost use mathlib.Core.Path.{_≡_};
 ghost use mathlib.Core.List.{List};
 ghost use Prim.Native.Nat.{ℕ, _<_};

@@ -40,7 +40,7 @@ pub fn names(tag: u8, frame: usize) -> bool
     requires { ⌜ frame < board01 .frames ⌝ }
     ensures { λ r. ⌜ r ≡ names tag frame ⌝ }
 {
-    let t = number(tag);
+    let t = tag as usize;
     t == CLEAN + frame || t == DIRTY + frame
 }
 
@@ -48,7 +48,7 @@ pub fn names(tag: u8, frame: usize) -> bool
 pub fn tag_keeps_rules(tag: u8) -> bool
     ensures { λ r. ⌜ r ≡ tagKeepsRules board01 tag ⌝ }
 {
-    let t = number(tag);
+    let t = tag as usize;
     if t < DIRTY {
         return t < CLEAN + FRAMES;
     }

@@ -56,7 +56,7 @@ module _ (b : Board) (reg : Regular b) (f c o : ℕ) (hf : f < b .frames) (hc : 
   unfolding access
   access-hit e = rw e
 
-  access-miss : names (tagAt s (lineOf b c o)) f ≡ false → access b f c o s ≡ replace b f (lineOf b c o) s
+  pub access-miss : names (tagAt s (lineOf b c o)) f ≡ false → access b f c o s ≡ replace b f (lineOf b c o) s
   unfolding access
   access-miss e = rw e
 

@@ -67,11 +67,11 @@ module _ (b : Board) (reg : Regular b) (s : Store) (wf : WellFormed b s) where
 
   -- ---- write back
 
-  writeBack-clean : (n : ℕ) → isDirty (tagAt s n) ≡ false → writeBack b n s ≡ s
+  pub writeBack-clean : (n : ℕ) → isDirty (tagAt s n) ≡ false → writeBack b n s ≡ s
   unfolding writeBack
   writeBack-clean n e = rw e
 
-  writeBack-dirty : (n f : ℕ) → tagAt s n ≡ dirtyTag f → writeBack b n s ≡ copyOut b f n s
+  pub writeBack-dirty : (n f : ℕ) → tagAt s n ≡ dirtyTag f → writeBack b n s ≡ copyOut b f n s
   unfolding writeBack
   writeBack-dirty n f e =
       ap (λ (t : ℕ). when (isDirty t) (copyOut b (frameOf t) n) s) e

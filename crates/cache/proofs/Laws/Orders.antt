@@ -22,11 +22,11 @@ when-cases P false g s fails holds = fails refl
 -- ---- one line
 
 module _ (b : Board) (reg : Regular b) (f : ℕ) where
-  flushLine-named : (n : ℕ) (s : Store) → names (tagAt s n) f ≡ true → flushLine b f n s ≡ evict b n s
+  pub flushLine-named : (n : ℕ) (s : Store) → names (tagAt s n) f ≡ true → flushLine b f n s ≡ evict b n s
   unfolding flushLine
   flushLine-named n s e = rw e
 
-  flushLine-other : (n : ℕ) (s : Store) → names (tagAt s n) f ≡ false → flushLine b f n s ≡ s
+  pub flushLine-other : (n : ℕ) (s : Store) → names (tagAt s n) f ≡ false → flushLine b f n s ≡ s
   unfolding flushLine
   flushLine-other n s e = rw e
 
@@ -34,7 +34,7 @@ module _ (b : Board) (reg : Regular b) (f : ℕ) where
   unfolding flushLine
   flushLine-cases P n s other named = when-cases P (names (tagAt s n) f) (evict b n) s (λ e. other) named
 
-  flushLine-empties : Empties b f (flushLine b f)
+  pub flushLine-empties : Empties b f (flushLine b f)
   flushLine-empties =
       record {
         kept = λ n s h w. flushLine-cases (WellFormed b) n s w (λ e. evict-kept b reg s w n h);
@@ -43,11 +43,11 @@ module _ (b : Board) (reg : Regular b) (f : ℕ) where
         tag-other = λ n s h w m ne. flushLine-cases (λ t. tagAt t m ≡ tagAt s m) n s refl (λ e. evict-tag-other b reg s w n h m ne);
       }
 
-  purgeLine-named : (n : ℕ) (s : Store) → names (tagAt s n) f ≡ true → purgeLine f n s ≡ empty n s
+  pub purgeLine-named : (n : ℕ) (s : Store) → names (tagAt s n) f ≡ true → purgeLine f n s ≡ empty n s
   unfolding purgeLine
   purgeLine-named n s e = rw e
 
-  purgeLine-other : (n : ℕ) (s : Store) → names (tagAt s n) f ≡ false → purgeLine f n s ≡ s
+  pub purgeLine-other : (n : ℕ) (s : Store) → names (tagAt s n) f ≡ false → purgeLine f n s ≡ s
   unfolding purgeLine
   purgeLine-other n s e = rw e
 
@@ -55,7 +55,7 @@ module _ (b : Board) (reg : Regular b) (f : ℕ) where
   unfolding purgeLine
   purgeLine-cases P n s other named = when-cases P (names (tagAt s n) f) (empty n) s (λ e. other) (λ e. named)
 
-  purgeLine-empties : Empties b f (purgeLine f)
+  pub purgeLine-empties : Empties b f (purgeLine f)
   purgeLine-empties =
       record {
         kept = λ n s h w. purgeLine-cases (WellFormed b) n s w (empty-kept b reg s w n);
@@ -65,6 +65,11 @@ module _ (b : Board) (reg : Regular b) (f : ℕ) where
       }
 
 -- ---- flush
+
+-- a flush is the sweep of all the colour's lines
+pub flush-done : (b : Board) (f c i : ℕ) (s : Store) → i ≡ pageLines b → sweep b (flushLine b f) c i s ≡ flush b f c s
+unfolding flush
+flush-done b f c i s e = ap (λ (k : ℕ). sweep b (flushLine b f) c k s) e
 
 module _ (b : Board) (reg : Regular b) (f c : ℕ) (hf : f < b .frames) (hc : c < b .colours) (s : Store) (wf : WellFormed b s) where
   pub flush-kept : WellFormed b (flush b f c s)
@@ -129,6 +134,10 @@ module _ (b : Board) (reg : Regular b) (f c : ℕ) (hf : f < b .frames) (hc : c 
       ∙ turn .before (λ t. memoryWord b t g o) (memory-apart g o ho)
 
 -- ---- purge
+
+pub purge-done : (b : Board) (f c i : ℕ) (s : Store) → i ≡ pageLines b → sweep b (purgeLine f) c i s ≡ purge b f c s
+unfolding purge
+purge-done b f c i s e = ap (λ (k : ℕ). sweep b (purgeLine f) c k s) e
 
 module _ (b : Board) (reg : Regular b) (f c : ℕ) (hc : c < b .colours) (s : Store) (wf : WellFormed b s) where
   pub purge-kept : WellFormed b (purge b f c s)

@@ -17,6 +17,20 @@ pub part-at : (l : List ℕ) (at n i : ℕ) → i < n → getD (part l at n) i 0
 unfolding part
 part-at l at n i h = rw (getD-take, getD-drop)
 
+-- ---- the forms in which the code's parts come
+
+-- a part that is lent from at to at + n
+pub part-lent : (l : List ℕ) {at at′ : ℕ} (n : ℕ) → at ≡ at′ → take (at + n - at) (drop at l) ≡ part l at′ n
+unfolding part
+part-lent l {at} {at′} n e = let k : at + n - at ≡ n = omega arith in cc
+
+-- a list whose part from at to at + n came back as p
+pub part-back : (l : List ℕ) {at at′ : ℕ} (n : ℕ) {p q : List ℕ} → at ≡ at′ → p ≡ q → length q ≡ n → take at l ++ (p ++ drop (at + n - at) (drop at l)) ≡ overlay l at′ q
+unfolding overlay
+part-back l {at} {at′} n {p} {q} e d h = let k : at + n - at ≡ length q = omega arith in cc
+
+-- ---- what is inside and outside
+
 -- the element of an appended list, past the first
 getD-past : (l m : List ℕ) (k n : ℕ) → length l + n ≡ k → getD (l ++ m) k 0 ≡ getD m n 0
 getD-past l m k n e = ap (λ (x : ℕ). getD (l ++ m) x 0) (sym e) ∙ getD-append-add l m n 0

@@ -5,6 +5,7 @@ use mathlib.Core.Logic.{_≢_}
 use mathlib.Core.List.{List}
 use Prim.Native.Nat.{ℕ, zero, suc, _+_, _%_, _≤_, _<_}
 use native.Mathlib.Omega.{arith}
+use native.Mathlib.Numerals.{add-one}
 use native.Mathlib.Decide.{ℕ-discrete}
 use Rattle.board.specs.Board.{Board, Regular, lines, pageLines, colourLine, lineColour}
 use Rattle.board.proofs.Geometry.{colourLine-lt, colourLine-colour, colourLine-index, colourLine-split, colourLine-inj}
@@ -31,8 +32,13 @@ pub record Turn (b : Board) (op : ℕ → Store → Store) (c : ℕ) (s : Store)
   pub before : (look : Store → ℕ) → Apart b op c n look → look now ≡ look s
   pub after : (look : Store → ℕ) → Apart b op c n look → look (sweep b op c (pageLines b) s) ≡ look (op n now)
 
+-- one more turn
+pub sweep-more : (b : Board) (op : ℕ → Store → Store) (c i : ℕ) (s : Store) → sweep b op c (i + 1) s ≡ op (colourLine b c i) (sweep b op c i s)
+unfolding sweep
+sweep-more b op c i s = ap (λ (k : ℕ). sweep b op c k s) (add-one i)
+
 module _ (b : Board) (reg : Regular b) (f : ℕ) (op : ℕ → Store → Store) (does : Empties b f op) (c : ℕ) (hc : c < b .colours) (s : Store) (wf : WellFormed b s) where
-  turn-kept : (i : ℕ) → i ≤ pageLines b → WellFormed b (sweep b op c i s)
+  pub turn-kept : (i : ℕ) → i ≤ pageLines b → WellFormed b (sweep b op c i s)
   unfolding sweep
   turn-kept zero h = wf
   turn-kept (suc i) h = does .kept (colourLine b c i) (sweep b op c i s) (colourLine-lt b reg c i hc h) (turn-kept i (omega arith))

@@ -5,9 +5,10 @@ use mathlib.Core.Logic.{_≢_, _⊎_, inl, inr}
 use mathlib.Core.List.{List, [], _∷_}
 use Prim.Native.Nat.{ℕ, zero, suc, _+_, _-_, _≤_, _<_}
 use native.Mathlib.Omega.{arith}
+use native.Mathlib.Decide.{decLt}
 use lib.Dec.{eqb, leb, ltb}
 use lib.ListN.{length, getD, set}
-use borrow.Author.Tests.{le-leb, lt-leb, leb-true, leb-false, eq-eqb, ne-eqb, eqb-true, eqb-false, lt-ltb, ltb-true}
+use borrow.Author.Tests.{le-leb, lt-leb, leb-true, leb-false, eq-eqb, ne-eqb, eqb-true, eqb-false, lt-ltb, le-ltb, ltb-true}
 use Rattle.board.specs.Board.{Board, Regular}
 use Rattle.cache.specs.Tag.{emptyTag, cleanTag, dirtyTag, isDirty, names, frameOf, tagKeepsRules, tagsKeepRules}
 
@@ -18,6 +19,16 @@ and-left false b e = e
 and-right : (a b : Bool) → (a && b) ≡ true → b ≡ true
 and-right true b e = e
 and-right false b e = absurd (false≢true e)
+
+-- two comparisons that say the same
+ltb-iff : (m n k l : ℕ) → (m < n → k < l) → (k < l → m < n) → ltb m n ≡ ltb k l
+ltb-iff m n k l p q = go (decLt m n) (decLt k l)
+  where
+    go : Dec (m < n) → Dec (k < l) → ltb m n ≡ ltb k l
+    go (yes h) (yes g) = lt-ltb m n h ∙ sym (lt-ltb k l g)
+    go (yes h) (no g) = absurd (g (p h))
+    go (no h) (yes g) = absurd (h (q g))
+    go (no h) (no g) = le-ltb m n (omega arith) ∙ sym (le-ltb k l (omega arith))
 
 -- ---- what a tag says
 
@@ -117,3 +128,23 @@ module _ (b : Board) (reg : Regular b) where
   rules-set [] n tag e k = e
   rules-set (t ∷ tags) zero tag e k = rules-cons tag tags k (rules-tail t tags e)
   rules-set (t ∷ tags) (suc n) tag e k = rules-cons t (set tags n tag) (rules-head t tags e) (rules-set tags n tag (rules-tail t tags e) k)
+
+  -- one tag that breaks the rules breaks those of all
+  pub rules-break : (tags : List ℕ) (n : ℕ) → tagKeepsRules b (getD tags n 0) ≡ false → tagsKeepRules b tags ≡ false
+  rules-break tags n e = go (tagsKeepRules b tags) refl
+    where
+      go : (t : Bool) → tagsKeepRules b tags ≡ t → tagsKeepRules b tags ≡ false
+      go false h = h
+      go true h = absurd (true≢false (sym (rules-at tags n h) ∙ e))
+
+  -- the rule of a tag as one comparison
+  pub rules-below : (tag : ℕ) → isDirty tag ≡ false → tagKeepsRules b tag ≡ ltb tag (cleanTag (b .frames))
+  unfolding tagKeepsRules
+  rules-below zero e = sym (lt-ltb 0 (1 + b .frames) (omega arith))
+  rules-below (suc t) e = rw (ne-eqb (suc t) 0 (omega arith), e) (ltb-iff (suc t - 1) (b .frames) (suc t) (1 + b .frames) (λ l. omega arith) (λ l. omega arith))
+
+  pub rules-above : (tag : ℕ) → isDirty tag ≡ true → tagKeepsRules b tag ≡ ltb tag (dirtyTag (b .frames))
+  unfolding tagKeepsRules isDirty
+  rules-above tag e =
+      let h = leb-true 129 tag e in
+      rw (ne-eqb tag 0 (omega arith), e) (ltb-iff (tag - 129) (b .frames) tag (129 + b .frames) (λ l. omega arith) (λ l. omega arith))

@@ -1,0 +1,76 @@
+-- `cache::access::access` meets its contract.
+use borrow.Author.Needs.{needs}
+use mathlib.Core.Path.{ap, sym, _∙_}
+use Prim.Native.Nat.{ℕ}
+use borrow.Author.Tests.{not-true, not-false}
+use Rattle.board.specs.Board.{board01, lines, lineOf}
+use Rattle.board.proofs.Geometry.{board01-regular}
+use Rattle.cache.specs.Store.{Store, store, tagAt}
+use Rattle.cache.specs.Tag.{names}
+use Rattle.cache.specs.Cache.{replace}
+use Rattle.cache.proofs.Laws.Access.{access-hit, access-miss}
+use Rattle.cache.proofs.access.access.Statement.{statement}
+use Rattle.cache.proofs.access.access.Tie as tie
+use Rattle.board.proofs.line_of.Reads as line-of-reads
+use Rattle.cache.proofs.access.replace.Reads as replace-reads
+use Rattle.cache.proofs.tag.names.Reads as names-reads
+
+line-of-requires : tie.Need-line-of-requires
+line-of-requires c κs = search needs
+
+slice-read-names : tie.Need-slice-read-names
+unfolding lineOf lines
+slice-read-names c = search needs
+
+names-requires : tie.Need-names-requires
+names-requires c κs = search needs
+
+replace-requires : tie.Need-replace-requires
+unfolding lineOf lines
+replace-requires c κs = search needs
+
+same-length : tie.Need-same-length
+same-length c = search needs
+
+same-length-2 : tie.Need-same-length-2
+same-length-2 c = search needs
+
+same-length-3 : tie.Need-same-length-3
+same-length-3 c = search needs
+
+returns : tie.Need-returns
+returns c =
+    let named = c .before .before .before .before .before .before .before .before .before .before .before in
+    let here = named .before .before in
+    let start = here .before .before .before .before in
+    let pre = start .pre in
+    let s : Store = store (start .args .memory .now) (start .args .words .now) (start .args .tags .now) in
+    let frame = start .args .frame in
+    c .before .before .before .before .before .before .replace .ensures
+    ∙ ap (λ (n : ℕ). replace board01 frame n s) (here .line-of .ensures)
+    ∙ sym (access-miss board01 board01-regular frame (start .args .colour) (start .args .offset) (pre .1) (pre .2) (pre .3) s (pre .0)
+    (ap (λ (n : ℕ). names (tagAt s n) frame) (sym (here .line-of .ensures)) ∙ sym (named .names .ensures) ∙ not-true _ (c .before .before .before .before .before .before .before .before .before .before .if1 .taken)))
+
+returns-2 : tie.Need-returns-2
+returns-2 c =
+    let here = c .before .before .before in
+    let start = here .before .before .before .before in
+    let pre = start .pre in
+    let s : Store = store (start .args .memory .now) (start .args .words .now) (start .args .tags .now) in
+    let frame = start .args .frame in
+    sym (access-hit board01 board01-regular frame (start .args .colour) (start .args .offset) (pre .1) (pre .2) (pre .3) s (pre .0)
+    (ap (λ (n : ℕ). names (tagAt s n) frame) (sym (here .line-of .ensures)) ∙ sym (c .before .names .ensures) ∙ not-false _ (c .if1 .left)))
+
+pub access-spec : {M : Type 1} → statement M
+access-spec =
+    tie.close
+    (tie.spec
+    line-of-requires
+    slice-read-names
+    names-requires
+    replace-requires
+    same-length
+    same-length-2
+    same-length-3
+    returns
+    returns-2)

@@ -1,0 +1,45 @@
+-- `cache::access::replace` meets its contract.
+use borrow.Author.Needs.{needs}
+use mathlib.Core.Path.{ap, _∙_, subst⁻¹}
+use Rattle.board.specs.Board.{board01}
+use Rattle.board.proofs.Geometry.{board01-regular}
+use Rattle.cache.specs.Store.{WellFormed}
+use Rattle.cache.specs.Cache.{fill, replace}
+use Rattle.cache.proofs.Laws.Line.{writeBack-kept}
+use Rattle.cache.proofs.access.replace.Statement.{statement}
+use Rattle.cache.proofs.access.replace.Tie as tie
+use Rattle.cache.proofs.line.fill.Reads as fill-reads
+use Rattle.cache.proofs.line.write_back.Reads as write-back-reads
+
+write-back-requires : tie.Need-write-back-requires
+write-back-requires c κs = search needs
+
+fill-requires : tie.Need-fill-requires
+fill-requires c κs =
+    let back = c .before .before .before .before .before in
+    let start = back .before .before .before .before .before .before .before in (
+      subst⁻¹ (WellFormed board01) (back .write-back .ensures) (writeBack-kept board01 board01-regular _ (start .pre .0) (start .args .line) (start .pre .2)),
+      start .pre .1,
+      start .pre .2,
+    )
+
+same-length : tie.Need-same-length
+same-length c = search needs
+
+same-length-2 : tie.Need-same-length-2
+same-length-2 c = search needs
+
+same-length-3 : tie.Need-same-length-3
+same-length-3 c = search needs
+
+returns : tie.Need-returns
+unfolding replace
+returns c =
+    let back = c .before .before .before .before .before .before .before .before .before .before in
+    let start = back .before .before .before .before .before .before .before in
+    c .before .before .before .before .fill .ensures ∙ ap (fill board01 (start .args .frame) (start .args .line)) (back .write-back .ensures)
+
+pub replace-spec : {M : Type 1} → statement M
+replace-spec =
+    tie.close
+    (tie.spec write-back-requires fill-requires same-length same-length-2 same-length-3 returns)

@@ -1,0 +1,34 @@
+-- `cache::order::purge_line` meets its contract.
+use borrow.Author.Needs.{needs}
+use mathlib.Core.Path.{sym, _∙_}
+use Rattle.board.specs.Board.{board01}
+use Rattle.board.proofs.Geometry.{board01-regular}
+use Rattle.cache.specs.Cache.{empty}
+use Rattle.cache.proofs.Laws.Orders.{purgeLine-named, purgeLine-other}
+use Rattle.cache.proofs.order.purge_line.Statement.{statement}
+use Rattle.cache.proofs.order.purge_line.Tie as tie
+use Rattle.cache.proofs.tag.names.Reads as names-reads
+
+slice-read-names : tie.Need-slice-read-names
+slice-read-names c = search needs
+
+names-requires : tie.Need-names-requires
+names-requires c κs = search needs
+
+slice-write-tags : tie.Need-slice-write-tags
+slice-write-tags c = search needs
+
+same-length : tie.Need-same-length
+same-length c = search needs
+
+returns : tie.Need-returns
+unfolding empty
+returns c memory words = sym (purgeLine-named board01 board01-regular (c .before .before .before .before .args .frame) (c .before .before .before .before .args .line) _ (sym (c .before .names .ensures) ∙ c .if1 .taken))
+
+returns-2 : tie.Need-returns-2
+returns-2 c memory words = sym (purgeLine-other board01 board01-regular (c .before .before .before .before .args .frame) (c .before .before .before .before .args .line) _ (sym (c .before .names .ensures) ∙ c .if1 .left))
+
+pub purge-line-spec : {M : Type 1} → statement M
+purge-line-spec =
+    tie.close
+    (tie.spec slice-read-names names-requires slice-write-tags same-length returns returns-2)
