@@ -14,9 +14,9 @@ pub fn device_read(memory: &[u32], buffer: &mut [u32], frame: usize)
     requires { ⌜ (length (now memory) ≡ memoryWords board01) × (length (now buffer) ≡ board01 .pageWords) × (frame < board01 .frames) ⌝ }
     ensures { λ _. ⌜ ((words tags : List ℕ) → now (buffer .exit) ≡ deviceRead board01 frame (store (now (memory .entry)) words tags)) ⌝ }
 {
-    let at = board::memory_at(frame, 0);
-    let end = at + PAGE_WORDS;
-    copy(&memory[at..end], buffer);
+    let from = board::memory_at(frame, 0);
+    let end = from + PAGE_WORDS;
+    copy(&memory[from..end], buffer);
 }
 
 // Copies the device's buffer to a frame's words in memory.

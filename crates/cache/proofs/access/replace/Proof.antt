@@ -1,7 +1,7 @@
 -- `cache::access::replace` meets its contract.
 use borrow.Author.Needs.{needs}
 use mathlib.Core.Path.{ap, _∙_, subst⁻¹}
-use Rattle.board.specs.Board.{board01}
+use Rattle.board.specs.Board.{board01, lines}
 use Rattle.board.proofs.Geometry.{board01-regular}
 use Rattle.cache.specs.Store.{WellFormed}
 use Rattle.cache.specs.Cache.{fill, replace}
@@ -12,13 +12,16 @@ use Rattle.cache.proofs.line.fill.Reads as fill-reads
 use Rattle.cache.proofs.line.write_back.Reads as write-back-reads
 
 write-back-requires : tie.Need-write-back-requires
+unfolding lines
 write-back-requires c κs = search needs
 
 fill-requires : tie.Need-fill-requires
+unfolding lines
 fill-requires c κs =
     let back = c .before .before .before .before .before in
     let start = back .before .before .before .before .before .before .before in (
-      subst⁻¹ (WellFormed board01) (back .write-back .ensures) (writeBack-kept board01 board01-regular _ (start .pre .0) (start .args .line) (start .pre .2)),
+      subst⁻¹ (WellFormed board01) (back .write-back .ensures)
+          (writeBack-kept board01 board01-regular _ (start .pre .0) _ (search needs)),
       start .pre .1,
       start .pre .2,
     )
