@@ -1,0 +1,34 @@
+-- `cache_cases::show::device_read` meets its contract.
+use borrow.Author.Needs.{needs}
+use Rattle.board.specs.Board.{memoryWords}
+use Rattle.cache_cases.proofs.show.device_read.Statement.{statement}
+use Rattle.cache_cases.proofs.show.device_read.Tie as tie
+use Rattle.cache.proofs.device.device_read.Reads as device-read-reads
+use Rattle.cache_cases.proofs.show.one.Reads as one-reads
+use Rattle.io.proofs.write_all.Reads as write-all-reads
+
+device-read-requires : tie.Need-device-read-requires
+unfolding memoryWords
+device-read-requires c κs = search needs
+
+slice-aggregate-write-all : tie.Need-slice-aggregate-write-all
+slice-aggregate-write-all c = search needs
+
+write-all-requires : tie.Need-write-all-requires
+write-all-requires c κs = search needs
+
+one-requires : tie.Need-one-requires
+one-requires c κs = search needs
+
+returns : tie.Need-returns
+returns c = search needs
+
+pub device-read-spec : {M : Type 1} → statement M
+device-read-spec =
+    tie.close
+    (tie.spec
+    device-read-requires
+    slice-aggregate-write-all
+    write-all-requires
+    one-requires
+    returns)

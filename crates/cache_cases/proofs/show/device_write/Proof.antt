@@ -1,0 +1,34 @@
+-- `cache_cases::show::device_write` meets its contract.
+use borrow.Author.Needs.{needs}
+use Rattle.board.specs.Board.{memoryWords}
+use Rattle.cache_cases.proofs.show.device_write.Statement.{statement}
+use Rattle.cache_cases.proofs.show.device_write.Tie as tie
+use Rattle.cache.proofs.device.device_write.Reads as device-write-reads
+use Rattle.cache_cases.proofs.show.one.Reads as one-reads
+use Rattle.io.proofs.write_all.Reads as write-all-reads
+
+device-write-requires : tie.Need-device-write-requires
+unfolding memoryWords
+device-write-requires c κs = search needs
+
+slice-aggregate-write-all : tie.Need-slice-aggregate-write-all
+slice-aggregate-write-all c = search needs
+
+write-all-requires : tie.Need-write-all-requires
+write-all-requires c κs = search needs
+
+one-requires : tie.Need-one-requires
+one-requires c κs = search needs
+
+returns : tie.Need-returns
+returns c = search needs
+
+pub device-write-spec : {M : Type 1} → statement M
+device-write-spec =
+    tie.close
+    (tie.spec
+    device-write-requires
+    slice-aggregate-write-all
+    write-all-requires
+    one-requires
+    returns)

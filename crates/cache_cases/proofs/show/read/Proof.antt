@@ -1,0 +1,73 @@
+-- `cache_cases::show::read` meets its contract.
+use borrow.Author.Needs.{needs}
+use Rattle.board.specs.Board.{cacheWords, lineOf, lines, memoryWords}
+use Rattle.cache_cases.proofs.show.read.Statement.{statement}
+use Rattle.cache_cases.proofs.show.read.Tie as tie
+use Rattle.board.proofs.line_of.Reads as line-of-reads
+use Rattle.cache.proofs.access.read_word.Reads as read-word-reads
+use Rattle.cache.proofs.tag.tags_keep_rules.Reads as tags-keep-rules-reads
+use Rattle.cache_cases.proofs.show.tag_number.Reads as tag-number-reads
+use Rattle.cache_cases.proofs.show.two.Reads as two-reads
+use Rattle.cache_cases.proofs.show.wide.Reads as wide-reads
+use Rattle.io.proofs.write_all.Reads as write-all-reads
+
+tags-keep-rules-requires : tie.Need-tags-keep-rules-requires
+tags-keep-rules-requires c κs = search needs
+
+read-word-requires : tie.Need-read-word-requires
+unfolding memoryWords cacheWords lines
+read-word-requires c κs = (
+  record {
+    memory-length = search needs;
+    words-length = search needs;
+    tags-length = search needs;
+    tags-rules = cc;
+  },
+  search needs,
+  search needs,
+  search needs,
+)
+
+line-of-requires : tie.Need-line-of-requires
+line-of-requires c κs = search needs
+
+slice-aggregate-write-all : tie.Need-slice-aggregate-write-all
+slice-aggregate-write-all c = search needs
+
+write-all-requires : tie.Need-write-all-requires
+write-all-requires c κs = search needs
+
+wide-requires : tie.Need-wide-requires
+wide-requires c κs = search needs
+
+element-copy-out-tag-number : tie.Need-element-copy-out-tag-number
+unfolding lineOf
+element-copy-out-tag-number c = search needs
+
+tag-number-requires : tie.Need-tag-number-requires
+tag-number-requires c κs = search needs
+
+two-requires : tie.Need-two-requires
+two-requires c κs = search needs
+
+returns : tie.Need-returns
+returns c = search needs
+
+returns-2 : tie.Need-returns-2
+returns-2 c = search needs
+
+pub read-spec : {M : Type 1} → statement M
+read-spec =
+    tie.close
+    (tie.spec
+    tags-keep-rules-requires
+    read-word-requires
+    line-of-requires
+    slice-aggregate-write-all
+    write-all-requires
+    wide-requires
+    element-copy-out-tag-number
+    tag-number-requires
+    two-requires
+    returns
+    returns-2)

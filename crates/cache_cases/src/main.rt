@@ -1,0 +1,90 @@
+// Runs the cache on cases worked out by hand, and writes what each leaves: a word, a line's tag, a word of memory.
+// Memory starts as 64 f + o at offset o of frame f, and the cache as empty lines of zeros.
+mod show;
+
+use libc::STDOUT_FILENO;
+
+fn main() {
+    let mut memory = [0u32; 4096];
+    let mut words = [0u32; 512];
+    let mut tags = [0u8; 64];
+    show::count_up(&mut memory, 0);
+    aliases(&mut memory, &mut words, &mut tags);
+    orders(&mut memory, &mut words, &mut tags);
+    evictions(&mut memory, &mut words, &mut tags);
+    transfers(&mut memory);
+    rules(&mut tags);
+}
+
+// One frame through two colours: the second finds memory's word until the first line is written back.
+fn aliases(memory: &mut [u32; 4096], words: &mut [u32; 512], tags: &mut [u8; 64]) {
+    io::write_all(STDOUT_FILENO, b"aliases\n");
+    show::read(memory, words, tags, 3, 1, 10);
+    show::write(memory, words, tags, 3, 1, 11, 5000);
+    show::read(memory, words, tags, 3, 1, 11);
+    show::read(memory, words, tags, 3, 2, 11);
+    show::read(memory, words, tags, 5, 1, 8);
+    show::memory_word(memory, 3, 11);
+    show::read(memory, words, tags, 3, 2, 11);
+}
+
+// Purge empties a clean and a dirty line and writes none; flush writes the dirty one; lines of other frames stay.
+fn orders(memory: &mut [u32; 4096], words: &mut [u32; 512], tags: &mut [u8; 64]) {
+    io::write_all(STDOUT_FILENO, b"orders\n");
+    show::purge(tags, 3, 2);
+    show::line(words, tags, 17, 3);
+    show::read(memory, words, tags, 3, 2, 11);
+    show::write(memory, words, tags, 3, 2, 63, 6000);
+    show::memory_word(memory, 3, 63);
+    show::flush(memory, words, tags, 3, 2);
+    show::memory_word(memory, 3, 63);
+    show::line(words, tags, 17, 3);
+    show::line(words, tags, 23, 7);
+    show::flush(memory, words, tags, 3, 1);
+    show::line(words, tags, 9, 0);
+    show::write(memory, words, tags, 63, 7, 63, 77);
+    show::purge(tags, 63, 7);
+    show::line(words, tags, 63, 7);
+    show::memory_word(memory, 63, 63);
+}
+
+// Evicting a dirty line writes it; an empty line stays empty.
+fn evictions(memory: &mut [u32; 4096], words: &mut [u32; 512], tags: &mut [u8; 64]) {
+    io::write_all(STDOUT_FILENO, b"evictions\n");
+    show::write(memory, words, tags, 0, 0, 0, 9);
+    show::evict(memory, words, tags, 0);
+    show::line(words, tags, 0, 0);
+    show::memory_word(memory, 0, 0);
+    show::evict(memory, words, tags, 1);
+    show::line(words, tags, 1, 0);
+    show::memory_word(memory, 0, 8);
+}
+
+// A transfer moves the 64 words of its frame and touches no neighbour.
+fn transfers(memory: &mut [u32; 4096]) {
+    io::write_all(STDOUT_FILENO, b"transfers\n");
+    let mut buffer = [0u32; 64];
+    show::count_up(&mut buffer, 100);
+    show::device_write(memory, &buffer, 62);
+    show::memory_word(memory, 61, 63);
+    show::memory_word(memory, 62, 0);
+    show::memory_word(memory, 62, 63);
+    show::memory_word(memory, 63, 0);
+    show::device_read(memory, &mut buffer, 3);
+    show::buffer_word(&buffer, 0);
+    show::buffer_word(&buffer, 11);
+    show::buffer_word(&buffer, 63);
+}
+
+// Which tag bytes keep the rules.
+fn rules(tags: &mut [u8; 64]) {
+    io::write_all(STDOUT_FILENO, b"rules\n");
+    show::rule(tags, 0);
+    show::rule(tags, 1);
+    show::rule(tags, 64);
+    show::rule(tags, 65);
+    show::rule(tags, 128);
+    show::rule(tags, 129);
+    show::rule(tags, 192);
+    show::rule(tags, 193);
+}

@@ -1,0 +1,166 @@
+// One step of the cache each, and a line of text on what it left. A step whose tags break the rules is left out.
+use board::LINE_WORDS;
+use libc::STDOUT_FILENO;
+ghost use Prim.Native.Nat.{_<_};
+ghost use Rattle.board.specs.Board.{board01};
+
+// Reads a word, and writes it and the line's tag.
+pub fn read(
+    memory: &mut [u32; 4096],
+    words: &mut [u32; 512],
+    tags: &mut [u8; 64],
+    frame: usize,
+    colour: usize,
+    offset: usize,
+)
+    requires { ⌜ (frame < board01 .frames) × (colour < board01 .colours) × (offset < board01 .pageWords) ⌝ }
+{
+    if cache::tag::tags_keep_rules(tags) {
+        let word = cache::access::read_word(memory, words, tags, frame, colour, offset);
+        let at = board::line_of(colour, offset);
+        io::write_all(STDOUT_FILENO, b"read ");
+        two(wide(word), tag_number(tags[at]));
+    }
+}
+
+// Writes a word, and writes out the line's tag and the word that memory holds.
+pub fn write(
+    memory: &mut [u32; 4096],
+    words: &mut [u32; 512],
+    tags: &mut [u8; 64],
+    frame: usize,
+    colour: usize,
+    offset: usize,
+    word: u32,
+)
+    requires { ⌜ (frame < board01 .frames) × (colour < board01 .colours) × (offset < board01 .pageWords) ⌝ }
+{
+    if cache::tag::tags_keep_rules(tags) {
+        cache::access::write_word(memory, words, tags, frame, colour, offset, word);
+        let at = board::line_of(colour, offset);
+        let home = board::memory_at(frame, offset);
+        io::write_all(STDOUT_FILENO, b"write ");
+        two(tag_number(tags[at]), wide(memory[home]));
+    }
+}
+
+// Flushes a frame in a colour.
+pub fn flush(
+    memory: &mut [u32; 4096],
+    words: &[u32; 512],
+    tags: &mut [u8; 64],
+    frame: usize,
+    colour: usize,
+)
+    requires { ⌜ (frame < board01 .frames) × (colour < board01 .colours) ⌝ }
+{
+    if cache::tag::tags_keep_rules(tags) {
+        cache::order::flush(memory, words, tags, frame, colour);
+        io::write_all(STDOUT_FILENO, b"flush ");
+        two(frame as u64, colour as u64);
+    }
+}
+
+// Purges a frame in a colour.
+pub fn purge(tags: &mut [u8; 64], frame: usize, colour: usize)
+    requires { ⌜ (frame < board01 .frames) × (colour < board01 .colours) ⌝ }
+{
+    cache::order::purge(tags, frame, colour);
+    io::write_all(STDOUT_FILENO, b"purge ");
+    two(frame as u64, colour as u64);
+}
+
+// Evicts a line.
+pub fn evict(memory: &mut [u32; 4096], words: &[u32; 512], tags: &mut [u8; 64], line: usize)
+    requires { ⌜ line < 64 ⌝ }
+{
+    if cache::tag::tags_keep_rules(tags) {
+        cache::line::evict(memory, words, tags, line);
+        io::write_all(STDOUT_FILENO, b"evict ");
+        one(line as u64);
+    }
+}
+
+// Transfers a device's buffer to a frame.
+pub fn device_write(memory: &mut [u32; 4096], buffer: &[u32; 64], frame: usize)
+    requires { ⌜ frame < board01 .frames ⌝ }
+{
+    cache::device::device_write(memory, buffer, frame);
+    io::write_all(STDOUT_FILENO, b"device write ");
+    one(frame as u64);
+}
+
+// Transfers a frame to a device's buffer.
+pub fn device_read(memory: &[u32; 4096], buffer: &mut [u32; 64], frame: usize)
+    requires { ⌜ frame < board01 .frames ⌝ }
+{
+    cache::device::device_read(memory, buffer, frame);
+    io::write_all(STDOUT_FILENO, b"device read ");
+    one(frame as u64);
+}
+
+// Writes a line's tag and one of its words.
+pub fn line(words: &[u32; 512], tags: &[u8; 64], line: usize, place: usize)
+    requires { ⌜ (line < 64) × (place < board01 .lineWords) ⌝ }
+{
+    let at = line * LINE_WORDS + place;
+    io::write_all(STDOUT_FILENO, b"line ");
+    two(tag_number(tags[line]), wide(words[at]));
+}
+
+// Writes memory's word at an offset of a frame.
+pub fn memory_word(memory: &[u32; 4096], frame: usize, offset: usize)
+    requires { ⌜ (frame < board01 .frames) × (offset < board01 .pageWords) ⌝ }
+{
+    let at = board::memory_at(frame, offset);
+    io::write_all(STDOUT_FILENO, b"memory ");
+    one(wide(memory[at]));
+}
+
+// Writes a word of a device's buffer.
+pub fn buffer_word(buffer: &[u32; 64], offset: usize)
+    requires { ⌜ offset < board01 .pageWords ⌝ }
+{
+    io::write_all(STDOUT_FILENO, b"buffer ");
+    one(wide(buffer[offset]));
+}
+
+// Puts a tag in the first place, and writes whether all tags keep the rules.
+pub fn rule(tags: &mut [u8; 64], tag: u8) {
+    tags[0] = tag;
+    if cache::tag::tags_keep_rules(tags) {
+        io::write_all(STDOUT_FILENO, b"kept\n");
+    } else {
+        io::write_all(STDOUT_FILENO, b"broken\n");
+    }
+}
+
+// Fills a slice with the numbers from first on.
+pub fn count_up(to: &mut [u32], first: u32) {
+    let mut n = first;
+    let mut i = 0;
+    while i < to.len() {
+        to[i] = n;
+        n = std::num::wrapping_add_u32(n, 1);
+        i += 1;
+    }
+}
+
+fn wide(word: u32) -> u64 {
+    word as u64
+}
+
+fn tag_number(tag: u8) -> u64 {
+    tag as u64
+}
+
+fn one(n: u64) {
+    io::print_decimal(STDOUT_FILENO, n);
+    io::write_all(STDOUT_FILENO, b"\n");
+}
+
+fn two(m: u64, n: u64) {
+    io::print_decimal(STDOUT_FILENO, m);
+    io::write_all(STDOUT_FILENO, b" ");
+    one(n);
+}
