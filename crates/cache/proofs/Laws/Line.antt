@@ -5,6 +5,7 @@ use mathlib.Core.Logic.{_≢_}
 use mathlib.Core.List.{List}
 use Prim.Native.Nat.{ℕ, _+_, _%_, _≤_, _<_}
 use native.Mathlib.Omega.{arith}
+use native.Mathlib.Decide.{ℕ-discrete}
 use native.Mathlib.Nat.{mod-lt}
 use lib.ListN.{length, getD, set, length-set}
 use lib.Seq.{getD-set-same, getD-set-other}
@@ -15,7 +16,7 @@ use Rattle.cache.specs.Store.{Store, store, WellFormed, tagAt, wordAt, m
 use Rattle.cache.specs.Tag.{emptyTag, cleanTag, dirtyTag, isDirty, names, frameOf, tagKeepsRules}
 use Rattle.cache.specs.Cache.{lineWordsOf, copyOut, writeBack, empty, evict, fill}
 use Rattle.cache.proofs.Laws.Part.{length-part, part-at, length-overlay, overlay-inside, overlay-outside}
-use Rattle.cache.proofs.Laws.Tag.{isDirty-dirty, frameOf-dirty, dirty-frame, rules-at, rules-set, rules-frame, rules-empty, rules-clean}
+use Rattle.cache.proofs.Laws.Tag.{isDirty-dirty, frameOf-dirty, dirty-frame, names-not-empty, rules-at, rules-set, rules-frame, rules-empty, rules-clean}
 
 module _ (b : Board) (reg : Regular b) (s : Store) (wf : WellFormed b s) where
   pub tag-keeps : (n : ℕ) → tagKeepsRules b (tagAt s n) ≡ true
@@ -166,6 +167,14 @@ module _ (b : Board) (reg : Regular b) (s : Store) (wf : WellFormed b s) (n : �
   pub evict-tag-other : (m : ℕ) → m ≢ n → tagAt (evict b n s) m ≡ tagAt s m
   unfolding evict
   evict-tag-other m h = empty-tag-other b reg (writeBack b n s) (writeBack-kept b reg s wf n hn) n m h ∙ ap (λ (l : List ℕ). getD l m 0) (writeBack-tags b reg s wf n)
+
+  -- a tag that names a frame afterwards was there before
+  pub evict-tag-from : (m g : ℕ) → names (tagAt (evict b n s) m) g ≡ true → tagAt (evict b n s) m ≡ tagAt s m
+  evict-tag-from m g named = go (ℕ-discrete m n)
+    where
+      go : Dec (m ≡ n) → tagAt (evict b n s) m ≡ tagAt s m
+      go (no ne) = evict-tag-other m ne
+      go (yes e) = absurd (names-not-empty g (ap (tagAt (evict b n s)) e ∙ evict-tag-same) named)
 
   pub evict-words : evict b n s .words ≡ s .words
   unfolding evict

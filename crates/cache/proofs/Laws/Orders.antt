@@ -12,7 +12,7 @@ use Rattle.cache.specs.Tag.{emptyTag, dirtyTag, names}
 use Rattle.cache.specs.Cache.{empty, evict, sweep, flushLine, purgeLine, flush, purge}
 use Rattle.cache.proofs.Laws.Tag.{names-dirty, names-one}
 use Rattle.cache.proofs.Laws.Line.{dirty-frame-lt, empty-kept, empty-tag-same, empty-tag-other, empty-words, empty-memory, evict-kept, evict-tag-same, evict-tag-other, evict-words, evict-memory-same, evict-memory-other}
-use Rattle.cache.proofs.Laws.Sweep.{Empties, Apart, sweep-kept, sweep-same, sweep-turn, sweep-tag-same, sweep-tag-left, sweep-tag-other, sweep-names}
+use Rattle.cache.proofs.Laws.Sweep.{Empties, Apart, sweep-kept, sweep-same, sweep-turn, sweep-tag-same, sweep-tag-left, sweep-tag-other, sweep-tag-from, sweep-names}
 
 -- what holds of the store as it is, and of the outcome under the test, holds of both
 when-cases : (P : Store → Type 0) (t : Bool) (g : Store → Store) (s : Store) → (t ≡ false → P s) → (t ≡ true → P (g s)) → P (when t g s)
@@ -88,6 +88,10 @@ module _ (b : Board) (reg : Regular b) (f c : ℕ) (hf : f < b .frames) (hc : c 
   unfolding flush
   flush-tag-other = sweep-tag-other b reg f (flushLine b f) (flushLine-empties b reg f) c hc s wf
 
+  pub flush-tag-from : (n g : ℕ) → n < lines b → names (tagAt (flush b f c s) n) g ≡ true → tagAt (flush b f c s) n ≡ tagAt s n
+  unfolding flush
+  flush-tag-from = sweep-tag-from b reg f (flushLine b f) (flushLine-empties b reg f) c hc s wf
+
   pub flush-names : (n : ℕ) → n < lines b → lineColour b n ≡ c → names (tagAt (flush b f c s) n) f ≡ false
   unfolding flush
   flush-names = sweep-names b reg f (flushLine b f) (flushLine-empties b reg f) c hc s wf
@@ -155,6 +159,10 @@ module _ (b : Board) (reg : Regular b) (f c : ℕ) (hc : c < b .colours) (s : St
   pub purge-tag-other : (n : ℕ) → lineColour b n ≢ c → tagAt (purge b f c s) n ≡ tagAt s n
   unfolding purge
   purge-tag-other = sweep-tag-other b reg f (purgeLine f) (purgeLine-empties b reg f) c hc s wf
+
+  pub purge-tag-from : (n g : ℕ) → n < lines b → names (tagAt (purge b f c s) n) g ≡ true → tagAt (purge b f c s) n ≡ tagAt s n
+  unfolding purge
+  purge-tag-from = sweep-tag-from b reg f (purgeLine f) (purgeLine-empties b reg f) c hc s wf
 
   pub purge-names : (n : ℕ) → n < lines b → lineColour b n ≡ c → names (tagAt (purge b f c s) n) f ≡ false
   unfolding purge

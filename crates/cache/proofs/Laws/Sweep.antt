@@ -12,7 +12,7 @@ use Rattle.board.proofs.Geometry.{colourLine-lt, colourLine-colour, colourLine-
 use Rattle.cache.specs.Store.{Store, WellFormed, tagAt}
 use Rattle.cache.specs.Tag.{emptyTag, names}
 use Rattle.cache.specs.Cache.{sweep}
-use Rattle.cache.proofs.Laws.Tag.{names-empty}
+use Rattle.cache.proofs.Laws.Tag.{names-empty, names-not-empty}
 
 -- an operation that, on any line, empties it if it names f and leaves it else, and touches no other line's tag
 pub record Empties (b : Board) (f : ℕ) (op : ℕ → Store → Store) : Type 0 where
@@ -107,3 +107,21 @@ module _ (b : Board) (reg : Regular b) (f : ℕ) (op : ℕ → Store → Store) 
       go : (t : Bool) → names (tagAt s n) f ≡ t → names (tagAt (sweep b op c (pageLines b) s) n) f ≡ false
       go true named = ap (λ (t : ℕ). names t f) (sweep-tag-same n h e named) ∙ names-empty f
       go false other = ap (λ (t : ℕ). names t f) (sweep-tag-left n e other) ∙ other
+
+  -- a tag that names a frame afterwards was there before
+  pub sweep-tag-from : (n g : ℕ) → n < lines b → names (tagAt (sweep b op c (pageLines b) s) n) g ≡ true → tagAt (sweep b op c (pageLines b) s) n ≡ tagAt s n
+  sweep-tag-from n g h named = go (ℕ-discrete (lineColour b n) c) (names (tagAt s n) f) refl
+    where
+      go : Dec (lineColour b n ≡ c) → (t : Bool) → names (tagAt s n) f ≡ t → tagAt (sweep b op c (pageLines b) s) n ≡ tagAt s n
+      go (no ne) t q = sweep-tag-other n ne
+      go (yes e) false q = sweep-tag-left n e q
+      go (yes e) true q = absurd (names-not-empty g (sweep-tag-same n h e q) named)
+
+  -- what every turn keeps, the sweep keeps
+  pub sweep-keeps : (P : Store → Type 0) → ((m : ℕ) (t : Store) → m < lines b → WellFormed b t → P t → P (op m t)) → P s → P (sweep b op c (pageLines b) s)
+  unfolding sweep
+  sweep-keeps P step p = go (pageLines b) (omega arith)
+    where
+      go : (i : ℕ) → i ≤ pageLines b → P (sweep b op c i s)
+      go zero h = p
+      go (suc i) h = step (colourLine b c i) (sweep b op c i s) (colourLine-lt b reg c i hc h) (turn-kept i (omega arith)) (go i (omega arith))

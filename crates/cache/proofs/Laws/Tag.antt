@@ -57,6 +57,9 @@ pub names-empty : (f : ℕ) → names emptyTag f ≡ false
 unfolding names
 names-empty f = rw (ne-eqb 0 (1 + f) (omega arith), ne-eqb 0 (129 + f) (omega arith))
 
+pub names-not-empty : {tag : ℕ} (f : ℕ) → tag ≡ emptyTag → names tag f ≡ true → ⊥
+names-not-empty f e named = true≢false (sym named ∙ ap (λ (t : ℕ). names t f) e ∙ names-empty f)
+
 -- a tag that names f is its clean or its dirty one
 pub names-cases : (tag f : ℕ) → names tag f ≡ true → (tag ≡ cleanTag f) ⊎ (tag ≡ dirtyTag f)
 unfolding names

@@ -11,9 +11,6 @@ use Rattle.cache.specs.Cache.{replace}
 use Rattle.cache.proofs.Laws.Access.{access-hit, access-miss}
 use Rattle.cache.proofs.access.access.Statement.{statement}
 use Rattle.cache.proofs.access.access.Tie as tie
-use Rattle.board.proofs.line_of.Reads as line-of-reads
-use Rattle.cache.proofs.access.replace.Reads as replace-reads
-use Rattle.cache.proofs.tag.names.Reads as names-reads
 
 line-of-requires : tie.Need-line-of-requires
 line-of-requires c κs = search needs

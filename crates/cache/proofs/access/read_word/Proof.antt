@@ -8,8 +8,6 @@ use Rattle.cache.specs.Store.{Store}
 use Rattle.cache.specs.Cache.{readWord}
 use Rattle.cache.proofs.access.read_word.Statement.{statement}
 use Rattle.cache.proofs.access.read_word.Tie as tie
-use Rattle.board.proofs.cache_at.Reads as cache-at-reads
-use Rattle.cache.proofs.access.access.Reads as access-reads
 
 access-requires : tie.Need-access-requires
 access-requires c κs = search needs

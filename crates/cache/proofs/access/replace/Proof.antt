@@ -8,8 +8,6 @@ use Rattle.cache.specs.Cache.{fill, replace}
 use Rattle.cache.proofs.Laws.Line.{writeBack-kept}
 use Rattle.cache.proofs.access.replace.Statement.{statement}
 use Rattle.cache.proofs.access.replace.Tie as tie
-use Rattle.cache.proofs.line.fill.Reads as fill-reads
-use Rattle.cache.proofs.line.write_back.Reads as write-back-reads
 
 write-back-requires : tie.Need-write-back-requires
 unfolding lines

@@ -5,10 +5,6 @@ use Rattle.board.specs.Board.{board01, lines, lineOf, cacheWords, cacheAt}
 use Rattle.cache.specs.Cache.{putWord, writeWord}
 use Rattle.cache.proofs.access.write_word.Statement.{statement}
 use Rattle.cache.proofs.access.write_word.Tie as tie
-use Rattle.board.proofs.cache_at.Reads as cache-at-reads
-use Rattle.board.proofs.line_of.Reads as line-of-reads
-use Rattle.cache.proofs.access.access.Reads as access-reads
-use Rattle.cache.proofs.tag.dirty_tag.Reads as dirty-tag-reads
 
 access-requires : tie.Need-access-requires
 access-requires c κs = search needs

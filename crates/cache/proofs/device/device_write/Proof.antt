@@ -10,8 +10,6 @@ use Rattle.cache.proofs.Laws.Part.{part-back}
 use Rattle.board.specs.Board.{board01, memoryWords, memoryAt}
 use Rattle.cache.proofs.device.device_write.Statement.{statement}
 use Rattle.cache.proofs.device.device_write.Tie as tie
-use Rattle.board.proofs.memory_at.Reads as memory-at-reads
-use Rattle.cache.proofs.line.copy.Reads as copy-reads
 
 memory-at-requires : tie.Need-memory-at-requires
 memory-at-requires c κs = search needs

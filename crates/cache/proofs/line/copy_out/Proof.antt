@@ -10,10 +10,6 @@ use Rattle.cache.proofs.Laws.Part.{length-part, part-lent, part-back}
 use Rattle.board.specs.Board.{board01, lines, memoryWords, cacheWords, lineAt, lineOffset, memoryAt}
 use Rattle.cache.proofs.line.copy_out.Statement.{statement}
 use Rattle.cache.proofs.line.copy_out.Tie as tie
-use Rattle.board.proofs.line_at.Reads as line-at-reads
-use Rattle.board.proofs.line_offset.Reads as line-offset-reads
-use Rattle.board.proofs.memory_at.Reads as memory-at-reads
-use Rattle.cache.proofs.line.copy.Reads as copy-reads
 
 line-offset-requires : tie.Need-line-offset-requires
 line-offset-requires c κs = search needs

@@ -4,7 +4,6 @@ use mathlib.Core.Path.{ap}
 use Rattle.cache.specs.Cache.{empty, evict}
 use Rattle.cache.proofs.line.evict.Statement.{statement}
 use Rattle.cache.proofs.line.evict.Tie as tie
-use Rattle.cache.proofs.line.write_back.Reads as write-back-reads
 
 write-back-requires : tie.Need-write-back-requires
 write-back-requires c κs = search needs

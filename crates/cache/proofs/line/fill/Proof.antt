@@ -11,11 +11,6 @@ use Rattle.cache.specs.Cache.{fill}
 use Rattle.cache.proofs.Laws.Part.{length-part, part-lent, part-back}
 use Rattle.cache.proofs.line.fill.Statement.{statement}
 use Rattle.cache.proofs.line.fill.Tie as tie
-use Rattle.board.proofs.line_at.Reads as line-at-reads
-use Rattle.board.proofs.line_offset.Reads as line-offset-reads
-use Rattle.board.proofs.memory_at.Reads as memory-at-reads
-use Rattle.cache.proofs.line.copy.Reads as copy-reads
-use Rattle.cache.proofs.tag.clean_tag.Reads as clean-tag-reads
 
 line-offset-requires : tie.Need-line-offset-requires
 line-offset-requires c κs = search needs

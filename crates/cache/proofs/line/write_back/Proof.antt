@@ -13,8 +13,6 @@ use Rattle.cache.proofs.Laws.Tag.{dirty-frame, rules-at, rules-frame}
 use Rattle.cache.proofs.Laws.Line.{writeBack-dirty, writeBack-clean}
 use Rattle.cache.proofs.line.write_back.Statement.{statement}
 use Rattle.cache.proofs.line.write_back.Tie as tie
-use Rattle.cache.proofs.line.copy_out.Reads as copy-out-reads
-use Rattle.cache.proofs.tag.number.Reads as number-reads
 
 shared-slice-read-number : tie.Need-shared-slice-read-number
 shared-slice-read-number c = search needs

@@ -12,7 +12,6 @@ use Rattle.cache.proofs.Laws.Sweep.{turn-kept, sweep-more}
 use Rattle.cache.proofs.Laws.Orders.{flushLine-empties, flush-done}
 use Rattle.cache.proofs.order.flush.Statement.{statement}
 use Rattle.cache.proofs.order.flush.Tie as tie
-use Rattle.cache.proofs.order.flush_line.Reads as flush-line-reads
 
 abbrev Inv-loop : tie.InvT-loop
 Inv-loop memory₀ words tags₀ frame colour first i₀ memory tags i =

@@ -6,8 +6,6 @@ use Rattle.board.proofs.Geometry.{board01-regular}
 use Rattle.cache.proofs.Laws.Orders.{flushLine-named, flushLine-other}
 use Rattle.cache.proofs.order.flush_line.Statement.{statement}
 use Rattle.cache.proofs.order.flush_line.Tie as tie
-use Rattle.cache.proofs.line.evict.Reads as evict-reads
-use Rattle.cache.proofs.tag.names.Reads as names-reads
 
 slice-read-names : tie.Need-slice-read-names
 slice-read-names c = search needs

@@ -12,7 +12,6 @@ use Rattle.cache.proofs.Laws.Sweep.{sweep-more}
 use Rattle.cache.proofs.Laws.Orders.{purge-done}
 use Rattle.cache.proofs.order.purge.Statement.{statement}
 use Rattle.cache.proofs.order.purge.Tie as tie
-use Rattle.cache.proofs.order.purge_line.Reads as purge-line-reads
 
 abbrev Inv-loop : tie.InvT-loop
 Inv-loop tags₀ frame colour first i₀ tags i =

@@ -7,7 +7,6 @@ use Rattle.cache.specs.Cache.{empty}
 use Rattle.cache.proofs.Laws.Orders.{purgeLine-named, purgeLine-other}
 use Rattle.cache.proofs.order.purge_line.Statement.{statement}
 use Rattle.cache.proofs.order.purge_line.Tie as tie
-use Rattle.cache.proofs.tag.names.Reads as names-reads
 
 slice-read-names : tie.Need-slice-read-names
 slice-read-names c = search needs

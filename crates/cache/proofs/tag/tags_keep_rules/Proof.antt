@@ -13,7 +13,6 @@ use Rattle.cache.proofs.Laws.Tag.{rules-all, rules-break}
 use Rattle.cache.specs.Tag.{tagKeepsRules}
 use Rattle.cache.proofs.tag.tags_keep_rules.Statement.{statement}
 use Rattle.cache.proofs.tag.tags_keep_rules.Tie as tie
-use Rattle.cache.proofs.tag.tag_keeps_rules.Reads as tag-keeps-rules-reads
 
 abbrev Inv-loop : tie.InvT-loop
 Inv-loop tags i₀ i =

@@ -5,7 +5,6 @@ use borrow.Author.Needs.{needs}
 use lib.ListN.{length}
 use Rattle.cache_cases.proofs.show.count_up.Statement.{statement}
 use Rattle.cache_cases.proofs.show.count_up.Tie as tie
-use Rattle.std.proofs.num.wrapping_add_u32.Reads as wrapping-add-u32-reads
 
 abbrev Inv-loop : tie.InvT-loop
 Inv-loop to₀ first n₀ i₀ to n i = length to ≡ length to₀

@@ -3,9 +3,6 @@ use borrow.Author.Needs.{needs}
 use Rattle.board.specs.Board.{memoryWords}
 use Rattle.cache_cases.proofs.show.device_read.Statement.{statement}
 use Rattle.cache_cases.proofs.show.device_read.Tie as tie
-use Rattle.cache.proofs.device.device_read.Reads as device-read-reads
-use Rattle.cache_cases.proofs.show.one.Reads as one-reads
-use Rattle.io.proofs.write_all.Reads as write-all-reads
 
 device-read-requires : tie.Need-device-read-requires
 unfolding memoryWords

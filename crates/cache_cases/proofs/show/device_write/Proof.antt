@@ -3,9 +3,6 @@ use borrow.Author.Needs.{needs}
 use Rattle.board.specs.Board.{memoryWords}
 use Rattle.cache_cases.proofs.show.device_write.Statement.{statement}
 use Rattle.cache_cases.proofs.show.device_write.Tie as tie
-use Rattle.cache.proofs.device.device_write.Reads as device-write-reads
-use Rattle.cache_cases.proofs.show.one.Reads as one-reads
-use Rattle.io.proofs.write_all.Reads as write-all-reads
 
 device-write-requires : tie.Need-device-write-requires
 unfolding memoryWords

@@ -3,10 +3,6 @@ use borrow.Author.Needs.{needs}
 use Rattle.board.specs.Board.{cacheWords, lines, memoryWords}
 use Rattle.cache_cases.proofs.show.flush.Statement.{statement}
 use Rattle.cache_cases.proofs.show.flush.Tie as tie
-use Rattle.cache.proofs.order.flush.Reads as flush-reads
-use Rattle.cache.proofs.tag.tags_keep_rules.Reads as tags-keep-rules-reads
-use Rattle.cache_cases.proofs.show.two.Reads as two-reads
-use Rattle.io.proofs.write_all.Reads as write-all-reads
 
 tags-keep-rules-requires : tie.Need-tags-keep-rules-requires
 tags-keep-rules-requires c κs = search needs

@@ -3,10 +3,6 @@ use borrow.Author.Needs.{needs}
 use Rattle.board.specs.Board.{memoryAt}
 use Rattle.cache_cases.proofs.show.memory_word.Statement.{statement}
 use Rattle.cache_cases.proofs.show.memory_word.Tie as tie
-use Rattle.board.proofs.memory_at.Reads as memory-at-reads
-use Rattle.cache_cases.proofs.show.one.Reads as one-reads
-use Rattle.cache_cases.proofs.show.wide.Reads as wide-reads
-use Rattle.io.proofs.write_all.Reads as write-all-reads
 
 memory-at-requires : tie.Need-memory-at-requires
 memory-at-requires c κs = search needs

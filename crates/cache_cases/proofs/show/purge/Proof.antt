@@ -3,9 +3,6 @@ use borrow.Author.Needs.{needs}
 use Rattle.board.specs.Board.{lines}
 use Rattle.cache_cases.proofs.show.purge.Statement.{statement}
 use Rattle.cache_cases.proofs.show.purge.Tie as tie
-use Rattle.cache.proofs.order.purge.Reads as purge-reads
-use Rattle.cache_cases.proofs.show.two.Reads as two-reads
-use Rattle.io.proofs.write_all.Reads as write-all-reads
 
 purge-requires : tie.Need-purge-requires
 unfolding lines

@@ -3,13 +3,6 @@ use borrow.Author.Needs.{needs}
 use Rattle.board.specs.Board.{cacheWords, lineOf, lines, memoryWords}
 use Rattle.cache_cases.proofs.show.read.Statement.{statement}
 use Rattle.cache_cases.proofs.show.read.Tie as tie
-use Rattle.board.proofs.line_of.Reads as line-of-reads
-use Rattle.cache.proofs.access.read_word.Reads as read-word-reads
-use Rattle.cache.proofs.tag.tags_keep_rules.Reads as tags-keep-rules-reads
-use Rattle.cache_cases.proofs.show.tag_number.Reads as tag-number-reads
-use Rattle.cache_cases.proofs.show.two.Reads as two-reads
-use Rattle.cache_cases.proofs.show.wide.Reads as wide-reads
-use Rattle.io.proofs.write_all.Reads as write-all-reads
 
 tags-keep-rules-requires : tie.Need-tags-keep-rules-requires
 tags-keep-rules-requires c κs = search needs

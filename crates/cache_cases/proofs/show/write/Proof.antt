@@ -3,14 +3,6 @@ use borrow.Author.Needs.{needs}
 use Rattle.board.specs.Board.{cacheWords, lineOf, lines, memoryAt, memoryWords}
 use Rattle.cache_cases.proofs.show.write.Statement.{statement}
 use Rattle.cache_cases.proofs.show.write.Tie as tie
-use Rattle.board.proofs.line_of.Reads as line-of-reads
-use Rattle.board.proofs.memory_at.Reads as memory-at-reads
-use Rattle.cache.proofs.access.write_word.Reads as write-word-reads
-use Rattle.cache.proofs.tag.tags_keep_rules.Reads as tags-keep-rules-reads
-use Rattle.cache_cases.proofs.show.tag_number.Reads as tag-number-reads
-use Rattle.cache_cases.proofs.show.two.Reads as two-reads
-use Rattle.cache_cases.proofs.show.wide.Reads as wide-reads
-use Rattle.io.proofs.write_all.Reads as write-all-reads
 
 tags-keep-rules-requires : tie.Need-tags-keep-rules-requires
 tags-keep-rules-requires c κs = search needs
