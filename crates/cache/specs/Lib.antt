@@ -4,3 +4,4 @@ pub mod Tag
 pub mod Store
 pub mod Cache
 pub mod Trial
+pub mod Current

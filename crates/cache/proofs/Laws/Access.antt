@@ -61,7 +61,7 @@ module _ (b : Board) (reg : Regular b) (f c o : ℕ) (hf : f < b .frames) (hc : 
   access-miss e = rw e
 
   -- what holds of the store as it is, and of that with the line replaced, holds after an access
-  access-cases : (P : Store → Type 0) → (names (tagAt s (lineOf b c o)) f ≡ true → P s) → (names (tagAt s (lineOf b c o)) f ≡ false → P (replace b f (lineOf b c o) s)) → P (access b f c o s)
+  pub access-cases : (P : Store → Type 0) → (names (tagAt s (lineOf b c o)) f ≡ true → P s) → (names (tagAt s (lineOf b c o)) f ≡ false → P (replace b f (lineOf b c o) s)) → P (access b f c o s)
   access-cases P hit miss = go (names (tagAt s (lineOf b c o)) f) refl
     where
       go : (t : Bool) → names (tagAt s (lineOf b c o)) f ≡ t → P (access b f c o s)

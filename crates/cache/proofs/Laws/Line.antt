@@ -180,6 +180,11 @@ module _ (b : Board) (reg : Regular b) (s : Store) (wf : WellFormed b s) (n : �
   unfolding evict
   evict-words = writeBack-words b reg s wf n
 
+  -- memory is as the write-back leaves it
+  pub evict-memory : evict b n s .memory ≡ writeBack b n s .memory
+  unfolding evict
+  evict-memory = refl
+
   pub evict-memory-same : (f c o : ℕ) → o < b .pageWords → lineOf b c o ≡ n → tagAt s n ≡ dirtyTag f → memoryWord b (evict b n s) f o ≡ wordAt b s c o
   unfolding evict
   evict-memory-same f c o ho e d = writeBack-memory-same b reg s wf n f c o hn ho e d

@@ -12,7 +12,7 @@ use Rattle.cache.specs.Tag.{emptyTag, dirtyTag, names}
 use Rattle.cache.specs.Cache.{empty, evict, sweep, flushLine, purgeLine, flush, purge}
 use Rattle.cache.proofs.Laws.Tag.{names-dirty, names-one}
 use Rattle.cache.proofs.Laws.Line.{dirty-frame-lt, empty-kept, empty-tag-same, empty-tag-other, empty-words, empty-memory, evict-kept, evict-tag-same, evict-tag-other, evict-words, evict-memory-same, evict-memory-other}
-use Rattle.cache.proofs.Laws.Sweep.{Empties, Apart, sweep-kept, sweep-same, sweep-turn, sweep-tag-same, sweep-tag-left, sweep-tag-other, sweep-tag-from, sweep-names}
+use Rattle.cache.proofs.Laws.Sweep.{Empties, Apart, sweep-kept, sweep-same, sweep-turn, sweep-tag-same, sweep-tag-left, sweep-tag-other, sweep-tag-from, sweep-keeps, sweep-names}
 
 -- what holds of the store as it is, and of the outcome under the test, holds of both
 when-cases : (P : Store → Type 0) (t : Bool) (g : Store → Store) (s : Store) → (t ≡ false → P s) → (t ≡ true → P (g s)) → P (when t g s)
@@ -80,7 +80,7 @@ module _ (b : Board) (reg : Regular b) (f c : ℕ) (hf : f < b .frames) (hc : c 
   unfolding flush
   flush-tag-same = sweep-tag-same b reg f (flushLine b f) (flushLine-empties b reg f) c hc s wf
 
-  pub flush-tag-left : (n : ℕ) → lineColour b n ≡ c → names (tagAt s n) f ≡ false → tagAt (flush b f c s) n ≡ tagAt s n
+  pub flush-tag-left : (n : ℕ) → names (tagAt s n) f ≡ false → tagAt (flush b f c s) n ≡ tagAt s n
   unfolding flush
   flush-tag-left = sweep-tag-left b reg f (flushLine b f) (flushLine-empties b reg f) c hc s wf
 
@@ -137,6 +137,13 @@ module _ (b : Board) (reg : Regular b) (f c : ℕ) (hf : f < b .frames) (hc : c 
       out e (sym was ∙ d ∙ ap dirtyTag e)))
       ∙ turn .before (λ t. memoryWord b t g o) (memory-apart g o ho)
 
+-- what each eviction keeps, a flush keeps
+pub flush-keeps : (b : Board) (reg : Regular b) (f c : ℕ) → c < b .colours → (s : Store) → WellFormed b s → (P : Store → Type 0) → ((m : ℕ) (t : Store) → m < lines b → WellFormed b t → P t → P (evict b m t)) → P s → P (flush b f c s)
+unfolding flush
+flush-keeps b reg f c hc s wf P step p =
+    sweep-keeps b reg f (flushLine b f) (flushLine-empties b reg f) c hc s wf P
+    (λ m t h w q. flushLine-cases b reg f P m t q (λ _. step m t h w q)) p
+
 -- ---- purge
 
 pub purge-done : (b : Board) (f c i : ℕ) (s : Store) → i ≡ pageLines b → sweep b (purgeLine f) c i s ≡ purge b f c s
@@ -152,7 +159,7 @@ module _ (b : Board) (reg : Regular b) (f c : ℕ) (hc : c < b .colours) (s : St
   unfolding purge
   purge-tag-same = sweep-tag-same b reg f (purgeLine f) (purgeLine-empties b reg f) c hc s wf
 
-  pub purge-tag-left : (n : ℕ) → lineColour b n ≡ c → names (tagAt s n) f ≡ false → tagAt (purge b f c s) n ≡ tagAt s n
+  pub purge-tag-left : (n : ℕ) → names (tagAt s n) f ≡ false → tagAt (purge b f c s) n ≡ tagAt s n
   unfolding purge
   purge-tag-left = sweep-tag-left b reg f (purgeLine f) (purgeLine-empties b reg f) c hc s wf
 

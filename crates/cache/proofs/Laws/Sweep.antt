@@ -92,8 +92,8 @@ module _ (b : Board) (reg : Regular b) (f : ℕ) (op : ℕ → Store → Store) 
       turn .after (λ t. tagAt t n) (tag-apart n)
       ∙ does .tag-same n (turn .now) h (turn .kept) (ap (λ (t : ℕ). names t f) (turn .before (λ t. tagAt t n) (tag-apart n)) ∙ named)
 
-  pub sweep-tag-left : (n : ℕ) → lineColour b n ≡ c → names (tagAt s n) f ≡ false → tagAt (sweep b op c (pageLines b) s) n ≡ tagAt s n
-  sweep-tag-left n e other =
+  own-tag-left : (n : ℕ) → lineColour b n ≡ c → names (tagAt s n) f ≡ false → tagAt (sweep b op c (pageLines b) s) n ≡ tagAt s n
+  own-tag-left n e other =
       let turn = sweep-turn n e in
       let was = turn .before (λ t. tagAt t n) (tag-apart n) in
       turn .after (λ t. tagAt t n) (tag-apart n) ∙ does .tag-left n (turn .now) (ap (λ (t : ℕ). names t f) was ∙ other) ∙ was
@@ -101,12 +101,19 @@ module _ (b : Board) (reg : Regular b) (f : ℕ) (op : ℕ → Store → Store) 
   pub sweep-tag-other : (n : ℕ) → lineColour b n ≢ c → tagAt (sweep b op c (pageLines b) s) n ≡ tagAt s n
   sweep-tag-other n ne = sweep-same (λ t. tagAt t n) (λ m t h e w. does .tag-other m t h w n (λ q. ne (ap (lineColour b) q ∙ e)))
 
+  pub sweep-tag-left : (n : ℕ) → names (tagAt s n) f ≡ false → tagAt (sweep b op c (pageLines b) s) n ≡ tagAt s n
+  sweep-tag-left n other = go (ℕ-discrete (lineColour b n) c)
+    where
+      go : Dec (lineColour b n ≡ c) → tagAt (sweep b op c (pageLines b) s) n ≡ tagAt s n
+      go (yes e) = own-tag-left n e other
+      go (no ne) = sweep-tag-other n ne
+
   pub sweep-names : (n : ℕ) → n < lines b → lineColour b n ≡ c → names (tagAt (sweep b op c (pageLines b) s) n) f ≡ false
   sweep-names n h e = go (names (tagAt s n) f) refl
     where
       go : (t : Bool) → names (tagAt s n) f ≡ t → names (tagAt (sweep b op c (pageLines b) s) n) f ≡ false
       go true named = ap (λ (t : ℕ). names t f) (sweep-tag-same n h e named) ∙ names-empty f
-      go false other = ap (λ (t : ℕ). names t f) (sweep-tag-left n e other) ∙ other
+      go false other = ap (λ (t : ℕ). names t f) (sweep-tag-left n other) ∙ other
 
   -- a tag that names a frame afterwards was there before
   pub sweep-tag-from : (n g : ℕ) → n < lines b → names (tagAt (sweep b op c (pageLines b) s) n) g ≡ true → tagAt (sweep b op c (pageLines b) s) n ≡ tagAt s n
@@ -114,7 +121,7 @@ module _ (b : Board) (reg : Regular b) (f : ℕ) (op : ℕ → Store → Store) 
     where
       go : Dec (lineColour b n ≡ c) → (t : Bool) → names (tagAt s n) f ≡ t → tagAt (sweep b op c (pageLines b) s) n ≡ tagAt s n
       go (no ne) t q = sweep-tag-other n ne
-      go (yes e) false q = sweep-tag-left n e q
+      go (yes e) false q = sweep-tag-left n q
       go (yes e) true q = absurd (names-not-empty g (sweep-tag-same n h e q) named)
 
   -- what every turn keeps, the sweep keeps
