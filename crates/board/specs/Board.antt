@@ -1,5 +1,5 @@
 -- Document 01, "The board as modelled": the four numbers, and which line, word and colour belong to which page and offset.
-use Prim.Native.Nat.{ℕ, _+_, _*_, _/_, _%_, _<_, _≤_}
+use Prim.Native.Nat.{ℕ, _+_, _*_, _/_, _%_, _<_}
 use mathlib.Core.Path.{_≡_}
 
 -- a board by its four numbers

@@ -1,5 +1,5 @@
 -- The two trial claims, from the laws alone.
-use mathlib.Core.Path.{_≡_, _∙_}
+use mathlib.Core.Path.{_∙_}
 use Rattle.board.specs.Board.{Board, Regular}
 use Rattle.cache.specs.Cache.{writeWord}
 use Rattle.cache.specs.Trial.{WrittenAndFlushed, PurgedNamesNone}

@@ -1,5 +1,5 @@
 -- Document 01, "The board as modelled": what the cache does, rule by rule, over any board.
-use mathlib.Core.Bool.{Bool, not}
+use mathlib.Core.Bool.{not}
 use mathlib.Core.List.{List}
 use Prim.Native.Nat.{ℕ, zero, suc}
 use lib.ListN.{set}

@@ -1,11 +1,12 @@
 -- A frame's current words, and where the board holds them: in the dirty lines, and else in memory.
 -- The part of demand 3's argument that speaks of memory and cache alone.
+use mathlib.Core.Bool.{cond}
 use mathlib.Core.Path.{_≡_}
 use Prim.Native.Nat.{ℕ, _<_}
-use Rattle.board.specs.Board.{Board, lines, lineOf}
+use lib.Dec.{eqb}
+use Rattle.board.specs.Board.{Board, lineOf}
 use Rattle.cache.specs.Store.{Store, WellFormed, tagAt, wordAt, memoryWord}
 use Rattle.cache.specs.Tag.{dirtyTag}
-use Rattle.cache.specs.Cache.{evict, flush, access}
 
 -- the words that a dirty line of frame f covers are current there, and every other word is current in memory
 pub record Current (b : Board) (f : ℕ) (current : ℕ → ℕ) (s : Store) : Type 0 where
@@ -13,5 +14,9 @@ pub record Current (b : Board) (f : ℕ) (current : ℕ → ℕ) (s : Store) : T
   pub in-memory : (o : ℕ) → o < b .pageWords → ((c : ℕ) → c < b .colours → tagAt s (lineOf b c o) ≡ dirtyTag f → ⊥) → memoryWord b s f o ≡ current o
 
 -- an operation loses no current word of any frame
-abbrev pub Loses-none : Board → (Store → Store) → Type 0
-Loses-none b op = (f : ℕ) (current : ℕ → ℕ) (s : Store) → WellFormed b s → Current b f current s → Current b f current (op s)
+abbrev pub LosesNone : Board → (Store → Store) → Type 0
+LosesNone b op = (f : ℕ) (current : ℕ → ℕ) (s : Store) → WellFormed b s → Current b f current s → Current b f current (op s)
+
+-- the current words after a write of v at offset o
+abbrev pub written : ℕ → ℕ → (ℕ → ℕ) → ℕ → ℕ
+written o v current p = cond (eqb p o) v (current p)

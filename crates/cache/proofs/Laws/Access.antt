@@ -1,17 +1,17 @@
 -- The laws of a processor's access, read and write of a word.
-use mathlib.Core.Path.{_≡_, refl, sym, ap, _∙_, subst, subst⁻¹}
-use mathlib.Core.Bool.{Bool, true, false, not, true≢false}
+use mathlib.Core.Path.{_≡_, refl, sym, ap, _∙_, subst⁻¹}
+use mathlib.Core.Bool.{Bool, true, false, true≢false}
 use mathlib.Core.Logic.{_≢_}
 use mathlib.Core.List.{List}
-use Prim.Native.Nat.{ℕ, _≤_, _<_}
+use Prim.Native.Nat.{ℕ, _<_}
 use native.Mathlib.Omega.{arith}
 use lib.ListN.{getD, length-set}
 use lib.Seq.{getD-set-same, getD-set-other}
-use Rattle.board.specs.Board.{Board, Regular, lines, lineOf, cacheAt, memoryAt, lineColour}
+use Rattle.board.specs.Board.{Board, Regular, lines, lineOf, cacheAt, memoryAt}
 use Rattle.board.proofs.Geometry.{lineOf-lt, lineOf-colour, cacheAt-lt, cacheAt-line-inj, cacheAt-offset-inj}
 use Rattle.cache.specs.Store.{Store, WellFormed, tagAt, wordAt, memoryWord}
 use Rattle.cache.specs.Tag.{cleanTag, dirtyTag, names}
-use Rattle.cache.specs.Cache.{writeBack, fill, replace, access, readWord, putWord, writeWord}
+use Rattle.cache.specs.Cache.{writeBack, replace, access, readWord, writeWord}
 use Rattle.cache.proofs.Laws.Tag.{names-clean, names-dirty, rules-dirty, rules-set}
 use Rattle.cache.proofs.Laws.Line.{writeBack-kept, writeBack-tags, writeBack-words, writeBack-memory-same, writeBack-memory-other, fill-kept, fill-tag-same, fill-tag-other, fill-word-same, fill-word-other, fill-memory}
 

@@ -1,11 +1,11 @@
 -- The laws of a device's transfer of a whole frame.
-use mathlib.Core.Path.{_≡_, refl, ap, _∙_}
+use mathlib.Core.Path.{_≡_, refl, _∙_}
 use mathlib.Core.Logic.{_≢_}
 use mathlib.Core.List.{List}
 use Prim.Native.Nat.{ℕ, _+_, _≤_, _<_}
 use native.Mathlib.Omega.{arith}
 use lib.ListN.{length, getD}
-use Rattle.board.specs.Board.{Board, Regular, memoryWords, frameAt, memoryAt}
+use Rattle.board.specs.Board.{Board, Regular, frameAt, memoryAt}
 use Rattle.board.proofs.Geometry.{frameAt-end, frameAt-within}
 use Rattle.cache.specs.Store.{Store, WellFormed, memoryWord}
 use Rattle.cache.specs.Cache.{deviceRead, deviceWrite}

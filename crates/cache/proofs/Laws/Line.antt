@@ -1,18 +1,18 @@
 -- The laws of what is done to one line: write back, empty, evict, fill.
 use mathlib.Core.Path.{_≡_, refl, sym, ap, ap₂, _∙_, subst, subst⁻¹}
-use mathlib.Core.Bool.{Bool, true, false, true≢false}
+use mathlib.Core.Bool.{Bool, true, false}
 use mathlib.Core.Logic.{_≢_}
 use mathlib.Core.List.{List}
 use Prim.Native.Nat.{ℕ, _+_, _%_, _≤_, _<_}
 use native.Mathlib.Omega.{arith}
 use native.Mathlib.Decide.{ℕ-discrete}
 use native.Mathlib.Nat.{mod-lt}
-use lib.ListN.{length, getD, set, length-set}
+use lib.ListN.{length, getD, length-set}
 use lib.Seq.{getD-set-same, getD-set-other}
-use Rattle.board.specs.Board.{Board, Regular, lines, memoryWords, cacheWords, lineOf, lineAt, cacheAt, lineColour, lineOffset, memoryAt}
+use Rattle.board.specs.Board.{Board, Regular, lines, lineOf, lineAt, cacheAt, lineColour, lineOffset, memoryAt}
 use Rattle.board.proofs.Geometry.{lineAt-end, lineOf-offset, memoryAt-line, memoryAt-line-end, memoryAt-within-frame, memoryAt-within-line, cacheAt-within}
 use Rattle.cache.specs.Part.{part, overlay}
-use Rattle.cache.specs.Store.{Store, store, WellFormed, tagAt, wordAt, memoryWord, withTag, withWords, when}
+use Rattle.cache.specs.Store.{Store, WellFormed, tagAt, wordAt, memoryWord, withTag, withWords, when}
 use Rattle.cache.specs.Tag.{emptyTag, cleanTag, dirtyTag, isDirty, names, frameOf, tagKeepsRules}
 use Rattle.cache.specs.Cache.{lineWordsOf, copyOut, writeBack, empty, evict, fill}
 use Rattle.cache.proofs.Laws.Part.{length-part, part-at, length-overlay, overlay-inside, overlay-outside}

@@ -1,9 +1,9 @@
 -- The laws of the two orders, flush and purge of a frame in a colour.
-use mathlib.Core.Path.{_≡_, refl, sym, ap, _∙_, subst, subst⁻¹}
+use mathlib.Core.Path.{_≡_, refl, sym, ap, _∙_}
 use mathlib.Core.Bool.{Bool, true, false}
 use mathlib.Core.Logic.{_≢_}
 use mathlib.Core.List.{List}
-use Prim.Native.Nat.{ℕ, _≤_, _<_}
+use Prim.Native.Nat.{ℕ, _<_}
 use lib.ListN.{getD}
 use Rattle.board.specs.Board.{Board, Regular, lines, pageLines, lineOf, cacheAt, lineColour}
 use Rattle.board.proofs.Geometry.{lineOf-lt, lineOf-colour}
