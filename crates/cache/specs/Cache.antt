@@ -15,7 +15,7 @@ unfoldable pub lineWordsOf : Board → ℕ → Store → List ℕ
 unfolding part lineAt
 lineWordsOf b n s = part (s .words) (lineAt b n) (b .lineWords)
 
--- line n's words go to memory, at offset of the line in frame f
+-- line n's words go to memory of frame f, at the line's offset
 unfoldable pub copyOut : Board → ℕ → ℕ → Store → Store
 unfolding overlay memoryAt lineOffset lineWordsOf
 copyOut b f n s = withMemory (overlay (s .memory) (memoryAt b f (lineOffset b n)) (lineWordsOf b n s)) s

@@ -10,7 +10,9 @@ fn main() {
     let mut tags = [0u8; 64];
     show::count_up(&mut memory, 0);
     aliases(&mut memory, &mut words, &mut tags);
-    orders(&mut memory, &mut words, &mut tags);
+    purges(&mut memory, &mut words, &mut tags);
+    flushes(&mut memory, &mut words, &mut tags);
+    losses(&mut memory, &mut words, &mut tags);
     evictions(&mut memory, &mut words, &mut tags);
     transfers(&mut memory);
     rules(&mut tags);
@@ -28,20 +30,29 @@ fn aliases(memory: &mut [u32; 4096], words: &mut [u32; 512], tags: &mut [u8; 64]
     show::read(memory, words, tags, 3, 2, 11);
 }
 
-// Purge empties a clean and a dirty line and writes none; flush writes the dirty one; lines of other frames stay.
-fn orders(memory: &mut [u32; 4096], words: &mut [u32; 512], tags: &mut [u8; 64]) {
-    io::write_all(STDOUT_FILENO, b"orders\n");
+// A purge empties a clean line, whose words stay; the next access finds memory's.
+fn purges(memory: &mut [u32; 4096], words: &mut [u32; 512], tags: &mut [u8; 64]) {
+    io::write_all(STDOUT_FILENO, b"purges\n");
     show::purge(tags, 3, 2);
     show::line(words, tags, 17, 3);
     show::read(memory, words, tags, 3, 2, 11);
+}
+
+// A flush writes the dirty line and empties both; another frame's line in the colour stays.
+fn flushes(memory: &mut [u32; 4096], words: &mut [u32; 512], tags: &mut [u8; 64]) {
+    io::write_all(STDOUT_FILENO, b"flushes\n");
     show::write(memory, words, tags, 3, 2, 63, 6000);
-    show::memory_word(memory, 3, 63);
     show::flush(memory, words, tags, 3, 2);
     show::memory_word(memory, 3, 63);
     show::line(words, tags, 17, 3);
     show::line(words, tags, 23, 7);
     show::flush(memory, words, tags, 3, 1);
     show::line(words, tags, 9, 0);
+}
+
+// A purge of a dirty line writes nothing.
+fn losses(memory: &mut [u32; 4096], words: &mut [u32; 512], tags: &mut [u8; 64]) {
+    io::write_all(STDOUT_FILENO, b"losses\n");
     show::write(memory, words, tags, 63, 7, 63, 77);
     show::purge(tags, 63, 7);
     show::line(words, tags, 63, 7);
