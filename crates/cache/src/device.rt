@@ -1,5 +1,5 @@
 // A device's transfer of a whole frame, in order of offset.
-use crate::line::copy;
+use crate::copy::copy;
 use board::PAGE_WORDS;
 ghost use mathlib.Core.Path.{_≡_};
 ghost use mathlib.Core.List.{List};

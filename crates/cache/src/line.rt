@@ -1,4 +1,5 @@
 // What is done to one line: written back, evicted, filled.
+use crate::copy::copy;
 use crate::tag::DIRTY;
 use crate::tag::EMPTY;
 use crate::tag::clean_tag;
@@ -11,18 +12,6 @@ ghost use lib.ListN.{length};
 ghost use Rattle.board.specs.Board.{board01, lines, memoryWords, cacheWords};
 ghost use Rattle.cache.specs.Store.{store, WellFormed};
 ghost use Rattle.cache.specs.Cache.{copyOut, writeBack, evict, fill};
-
-// Copies the words of one slice to another of the same length.
-pub fn copy(from: &[u32], to: &mut [u32])
-    requires { ⌜ length (now from) ≡ length (now to) ⌝ }
-    ensures { λ _. ⌜ now (to .exit) ≡ now (from .entry) ⌝ }
-{
-    let mut i = 0;
-    while i < from.len() {
-        to[i] = from[i];
-        i += 1;
-    }
-}
 
 // Writes a line back to memory if its tag is dirty.
 pub fn write_back(memory: &mut [u32], words: &[u32], tags: &[u8], line: usize)

@@ -12,6 +12,40 @@ pub const CLEAN: usize = 1;
 
 pub const DIRTY: usize = 129;
 
+// Whether every tag keeps the rules.
+pub fn tags_keep_rules(tags: &[u8]) -> bool
+    ensures { λ r. ⌜ r ≡ tagsKeepRules board01 (now (tags .entry)) ⌝ }
+{
+    let mut i = 0;
+    while i < tags.len() {
+        if !tag_keeps_rules(tags[i]) {
+            return false;
+        }
+        i += 1;
+    }
+    true
+}
+
+// Whether a tag is empty or names a frame of the board.
+pub fn tag_keeps_rules(tag: u8) -> bool
+    ensures { λ r. ⌜ r ≡ tagKeepsRules board01 tag ⌝ }
+{
+    let t = tag as usize;
+    if t < DIRTY {
+        return t < CLEAN + FRAMES;
+    }
+    t < DIRTY + FRAMES
+}
+
+// Whether a tag names a frame.
+pub fn names(tag: u8, frame: usize) -> bool
+    requires { ⌜ frame < board01 .frames ⌝ }
+    ensures { λ r. ⌜ r ≡ names tag frame ⌝ }
+{
+    let t = tag as usize;
+    t == CLEAN + frame || t == DIRTY + frame
+}
+
 // The tag of a clean line of a frame.
 pub fn clean_tag(frame: usize) -> u8
     requires { ⌜ frame < board01 .frames ⌝ }
@@ -33,38 +67,4 @@ pub fn number(tag: u8) -> usize
     ensures { λ r. ⌜ r ≡ tag ⌝ }
 {
     tag as usize
-}
-
-// Whether a tag names a frame.
-pub fn names(tag: u8, frame: usize) -> bool
-    requires { ⌜ frame < board01 .frames ⌝ }
-    ensures { λ r. ⌜ r ≡ names tag frame ⌝ }
-{
-    let t = tag as usize;
-    t == CLEAN + frame || t == DIRTY + frame
-}
-
-// Whether a tag is empty or names a frame of the board.
-pub fn tag_keeps_rules(tag: u8) -> bool
-    ensures { λ r. ⌜ r ≡ tagKeepsRules board01 tag ⌝ }
-{
-    let t = tag as usize;
-    if t < DIRTY {
-        return t < CLEAN + FRAMES;
-    }
-    t < DIRTY + FRAMES
-}
-
-// Whether every tag keeps the rules.
-pub fn tags_keep_rules(tags: &[u8]) -> bool
-    ensures { λ r. ⌜ r ≡ tagsKeepRules board01 (now (tags .entry)) ⌝ }
-{
-    let mut i = 0;
-    while i < tags.len() {
-        if !tag_keeps_rules(tags[i]) {
-            return false;
-        }
-        i += 1;
-    }
-    true
 }

@@ -1,4 +1,4 @@
--- `cache::line::copy` meets its contract: below i the two slices agree.
+-- `cache::copy::copy` meets its contract: below i the two slices agree.
 use Prim.Native.Nat.{ℕ, _≤_, _<_, _-_}
 use mathlib.Core.Path.{_≡_, _∙_}
 use native.Mathlib.Omega.{arith}
@@ -6,8 +6,8 @@ use borrow.Author.Count.{below-more}
 use borrow.Author.Needs.{needs}
 use lib.ListN.{length, getD}
 use lib.Seq.{getD-set-same, getD-set-other, ext-getD}
-use Rattle.cache.proofs.line.copy.Statement.{statement}
-use Rattle.cache.proofs.line.copy.Tie as tie
+use Rattle.cache.proofs.copy.copy.Statement.{statement}
+use Rattle.cache.proofs.copy.copy.Tie as tie
 
 abbrev Inv-loop : tie.InvT-loop
 Inv-loop from to₀ i₀ to i =
