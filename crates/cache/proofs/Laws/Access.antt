@@ -13,7 +13,8 @@ use Rattle.cache.specs.Store.{Store, WellFormed, tagAt, wordAt, memoryWo
 use Rattle.cache.specs.Tag.{cleanTag, dirtyTag, names}
 use Rattle.cache.specs.Cache.{writeBack, replace, access, readWord, writeWord}
 use Rattle.cache.proofs.Laws.Tag.{names-clean, names-dirty, rules-dirty, rules-set}
-use Rattle.cache.proofs.Laws.Line.{writeBack-kept, writeBack-tags, writeBack-words, writeBack-memory-same, writeBack-memory-other, fill-kept, fill-tag-same, fill-tag-other, fill-word-same, fill-word-other, fill-memory}
+use Rattle.cache.proofs.Laws.WriteBack.{writeBack-tags, writeBack-words, writeBack-kept, writeBack-memory-same, writeBack-memory-other}
+use Rattle.cache.proofs.Laws.Fill.{fill-kept, fill-tag-same, fill-tag-other, fill-word-same, fill-word-other, fill-memory}
 
 -- ---- a line replaced
 

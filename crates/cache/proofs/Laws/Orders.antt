@@ -11,7 +11,8 @@ use Rattle.cache.specs.Store.{Store, WellFormed, tagAt, wordAt, memoryWo
 use Rattle.cache.specs.Tag.{emptyTag, dirtyTag, names}
 use Rattle.cache.specs.Cache.{empty, evict, sweep, flushLine, purgeLine, flush, purge}
 use Rattle.cache.proofs.Laws.Tag.{names-dirty, names-one}
-use Rattle.cache.proofs.Laws.Line.{dirty-frame-lt, empty-kept, empty-tag-same, empty-tag-other, empty-words, empty-memory, evict-kept, evict-tag-same, evict-tag-other, evict-words, evict-memory-same, evict-memory-other}
+use Rattle.cache.proofs.Laws.WriteBack.{dirty-frame-lt}
+use Rattle.cache.proofs.Laws.Evict.{empty-kept, empty-tag-same, empty-tag-other, empty-words, empty-memory, evict-kept, evict-tag-same, evict-tag-other, evict-words, evict-memory-same, evict-memory-other}
 use Rattle.cache.proofs.Laws.Sweep.{Empties, Apart, sweep-kept, sweep-same, sweep-turn, sweep-tag-same, sweep-tag-left, sweep-tag-other, sweep-tag-from, sweep-keeps, sweep-names}
 
 -- what holds of the store as it is, and of the outcome under the test, holds of both

@@ -5,7 +5,7 @@ use Rattle.board.specs.Board.{board01, lines}
 use Rattle.board.proofs.Geometry.{board01-regular}
 use Rattle.cache.specs.Store.{WellFormed}
 use Rattle.cache.specs.Cache.{fill, replace}
-use Rattle.cache.proofs.Laws.Line.{writeBack-kept}
+use Rattle.cache.proofs.Laws.WriteBack.{writeBack-kept}
 use Rattle.cache.proofs.access.replace.Statement.{statement}
 use Rattle.cache.proofs.access.replace.Tie as tie
 

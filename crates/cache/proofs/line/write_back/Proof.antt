@@ -10,7 +10,7 @@ use Rattle.board.specs.Board.{board01}
 use Rattle.board.proofs.Geometry.{board01-regular}
 use Rattle.cache.specs.Tag.{isDirty}
 use Rattle.cache.proofs.Laws.Tag.{dirty-frame, rules-at, rules-frame}
-use Rattle.cache.proofs.Laws.Line.{writeBack-dirty, writeBack-clean}
+use Rattle.cache.proofs.Laws.WriteBack.{writeBack-clean, writeBack-dirty}
 use Rattle.cache.proofs.line.write_back.Statement.{statement}
 use Rattle.cache.proofs.line.write_back.Tie as tie
 

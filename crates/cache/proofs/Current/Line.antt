@@ -1,0 +1,77 @@
+-- Eviction, flush and access lose no current word of any frame.
+use mathlib.Core.Path.{_≡_, sym, ap, _∙_}
+use mathlib.Core.Logic.{_≢_}
+use mathlib.Core.List.{List}
+use Prim.Native.Nat.{ℕ, _<_}
+use native.Mathlib.Omega.{arith}
+use native.Mathlib.Decide.{ℕ-discrete}
+use lib.ListN.{getD}
+use Rattle.board.specs.Board.{Board, Regular, lines, lineOf, lineColour, cacheAt, memoryAt}
+use Rattle.board.proofs.Geometry.{lineOf-lt, lineOf-colour, lineColour-lt}
+use Rattle.cache.specs.Store.{Store, WellFormed, tagAt, wordAt, memoryWord}
+use Rattle.cache.specs.Tag.{dirtyTag}
+use Rattle.cache.specs.Cache.{writeBack, evict, flush, replace, access}
+use Rattle.cache.specs.Current.{Current, LosesNone}
+use Rattle.cache.proofs.Laws.WriteBack.{writeBack-memory-same, writeBack-memory-other}
+use Rattle.cache.proofs.Laws.Evict.{evict-tag-same, evict-tag-other, evict-words, evict-memory}
+use Rattle.cache.proofs.Laws.Orders.{flush-keeps}
+use Rattle.cache.proofs.Laws.Access.{replace-tag-same, replace-tag-other, replace-word-other, replace-memory, access-cases}
+
+-- line n is written back and its tag then is no dirty one of f; the other lines are as they were
+module _ (b : Board) (reg : Regular b) (f : ℕ) (current : ℕ → ℕ) (s : Store) (wf : WellFormed b s) (was : Current b f current s) (n : ℕ) (hn : n < lines b) where
+  module _ (t : Store) (memory : t .memory ≡ writeBack b n s .memory) (tag-same : tagAt t n ≢ dirtyTag f) (tag-other : (m : ℕ) → m ≢ n → tagAt t m ≡ tagAt s m) (word-other : (c o : ℕ) → lineOf b c o ≢ n → wordAt b t c o ≡ wordAt b s c o) where
+    line-current : (c o : ℕ) → c < b .colours → o < b .pageWords → tagAt t (lineOf b c o) ≡ dirtyTag f → Dec (lineOf b c o ≡ n) → wordAt b t c o ≡ current o
+    line-current c o hc ho d (yes e) = absurd (tag-same (sym (ap (tagAt t) e) ∙ d))
+    line-current c o hc ho d (no ne) = word-other c o ne ∙ was .in-line c o hc ho (sym (tag-other (lineOf b c o) ne) ∙ d)
+
+    module _ (o : ℕ) (ho : o < b .pageWords) (none : (c : ℕ) → c < b .colours → tagAt t (lineOf b c o) ≡ dirtyTag f → ⊥) where
+      -- line n was not the one that held the word
+      left : (lineOf b (lineColour b n) o ≡ n → tagAt s n ≡ dirtyTag f → ⊥) → memoryWord b (writeBack b n s) f o ≡ current o
+      left out = writeBack-memory-other b reg s wf n f o hn ho out ∙ was .in-memory o ho (λ c hc d. go c hc d (ℕ-discrete (lineOf b c o) n))
+        where
+          go : (c : ℕ) → c < b .colours → tagAt s (lineOf b c o) ≡ dirtyTag f → Dec (lineOf b c o ≡ n) → ⊥
+          go c hc d (yes e) = out (ap (λ (x : ℕ). lineOf b x o) (ap (lineColour b) (sym e) ∙ lineOf-colour b reg c o ho) ∙ e) (sym (ap (tagAt s) e) ∙ d)
+          go c hc d (no ne) = none c hc (tag-other (lineOf b c o) ne ∙ d)
+
+      memory-current : Dec (lineOf b (lineColour b n) o ≡ n) → Dec (tagAt s n ≡ dirtyTag f) → memoryWord b (writeBack b n s) f o ≡ current o
+      memory-current (yes e) (yes d) =
+          writeBack-memory-same b reg s wf n f (lineColour b n) o hn ho e d
+          ∙ was .in-line (lineColour b n) o (lineColour-lt b reg n hn) ho (ap (tagAt s) e ∙ d)
+      memory-current (yes e) (no nd) = left (λ _ d. nd d)
+      memory-current (no ne) d = left (λ e _. ne e)
+
+    out-current : Current b f current t
+    out-current =
+        record {
+          in-line = λ c o hc ho d. line-current c o hc ho d (ℕ-discrete (lineOf b c o) n);
+          in-memory = λ o ho none.
+              ap (λ (l : List ℕ). getD l (memoryAt b f o) 0) memory
+              ∙ memory-current o ho none (ℕ-discrete (lineOf b (lineColour b n) o) n) (ℕ-discrete (tagAt s n) (dirtyTag f));
+        }
+
+  evict-line : Current b f current (evict b n s)
+  evict-line =
+      out-current (evict b n s) (evict-memory b reg s wf n hn)
+      (λ d. let e = evict-tag-same b reg s wf n hn in omega arith)
+      (evict-tag-other b reg s wf n hn)
+      (λ c o ne. ap (λ (l : List ℕ). getD l (cacheAt b c o) 0) (evict-words b reg s wf n hn))
+
+  replace-line : (g : ℕ) → g < b .frames → Current b f current (replace b g n s)
+  replace-line g hg =
+      out-current (replace b g n s) (replace-memory b reg s wf g n hg hn)
+      (λ d. let e = replace-tag-same b reg s wf g n hg hn in let few = reg .few-frames in omega arith)
+      (replace-tag-other b reg s wf g n hg hn)
+      (replace-word-other b reg s wf g n hg hn)
+
+module _ (b : Board) (reg : Regular b) where
+  pub evict-current : (n : ℕ) → n < lines b → LosesNone b (evict b n)
+  evict-current n hn f current s wf was = evict-line b reg f current s wf was n hn
+
+  pub flush-current : (g c : ℕ) → c < b .colours → LosesNone b (flush b g c)
+  flush-current g c hc f current s wf was =
+      flush-keeps b reg g c hc s wf (Current b f current) (λ m t hm w cur. evict-line b reg f current t w cur m hm) was
+
+  pub access-current : (g c o : ℕ) → g < b .frames → c < b .colours → o < b .pageWords → LosesNone b (access b g c o)
+  access-current g c o hg hc ho f current s wf was =
+      access-cases b reg g c o hg hc ho s wf (Current b f current) (λ _. was)
+      (λ _. replace-line b reg f current s wf was (lineOf b c o) (lineOf-lt b reg c o hc ho) g hg)
