@@ -1,0 +1,4 @@
+-- The machine: its state, its calls, the causes of refusal in their order, and what each call answers and leaves.
+pub mod State
+pub mod Refusals
+pub mod Step

@@ -1,0 +1,83 @@
+-- What a call answers and leaves: a refusal leaves all as it was; an accepted call asks the manager, carries out its orders, then makes
+-- the access. Document 01, "The board as modelled" and "Answers".
+use mathlib.Core.List.{List, []}
+use mathlib.Core.Option.{Option, none, some}
+use Prim.Native.Nat.{ℕ, zero, suc}
+use Rattle.board.specs.Board.{Board, colourOf}
+use Rattle.page_model.specs.Table as page
+use Rattle.mapping.specs.Lookup.{lookup}
+use Rattle.manager.specs.declared.Change.{Change}
+use Rattle.manager.specs.Answers as order
+use Rattle.manager.specs.Answers.{Outcome, FrameOperation, refused, accepted}
+use Rattle.manager.specs.Calls.{noOps, changeOf, commitChange, commitMap, commitUnmap}
+use Rattle.manager.specs.Refusals.{firstRefusal, placeOf, mappingOf}
+use Rattle.manager.specs.Tables.{Tables, refill}
+use Rattle.cache.specs.Cache as hardware
+use Rattle.cache.specs.Store.{Store}
+use Rattle.machine.specs.State.{State, state, Call, map, unmap, read, write, deviceRead, deviceWrite, evict, Answer, Result, lentBuffer}
+use Rattle.machine.specs.Refusals.{causes}
+
+-- ---- the orders
+
+unfoldable pub operate : Board → FrameOperation → Store → Store
+operate b order.none s = s
+operate b (order.flush f c) s = hardware.flush b f c s
+operate b (order.purge f c) s = hardware.purge b f c s
+
+-- the store after an answer's orders, in order
+unfoldable pub carryOut : Board → Outcome → Store → Store
+unfolding operate
+carryOut b o s = operate b (o .second) (operate b (o .first) s)
+
+-- ---- answers
+
+abbrev pub answer : Outcome → Option ℕ → List ℕ → Answer
+answer o word buffer = record { outcome = o; word = word; buffer = buffer }
+
+abbrev pub result : Answer → State → Result
+result a st = record { answer = a; after = st }
+
+-- ---- accepted calls
+
+-- no order, no word
+abbrev pub listed : Tables → Store → Result
+listed t s = result (answer (accepted 0 noOps) none []) (state t s)
+
+-- a step of a frame's record: the tables are the manager's, and the access is made in the store after the orders
+abbrev pub stepped : Board → State → Change → (Store → Option ℕ) → (Store → List ℕ) → (Store → Store) → Result
+stepped b st change word buffer access =
+    let o : Outcome = accepted (change .frame) (change .ops) in
+    let s : Store = carryOut b o (st .store) in
+    result (answer o (word s) (buffer s)) (state (commitChange b (st .tables) change) (access s))
+
+-- the frame of a page of a space
+abbrev pub frameOf : State → ℕ → ℕ → ℕ
+frameOf st space page = mappingOf (st .tables .list) space page .frame
+
+unfoldable pub accept : Board → State → Call → Result
+accept b st (map space page frame rights) =
+    listed (commitMap b (st .tables) (record { space = space; page = page; frame = frame; rights = rights })) (st .store)
+accept b st (unmap space page) = listed (commitUnmap b (st .tables) (placeOf (lookup (st .tables .list) space page))) (st .store)
+accept b st (read space page offset) =
+    let f : ℕ = frameOf st space page in
+    let c : ℕ = colourOf b page in
+    stepped b st (changeOf b (st .tables) f (page.read c)) (λ s. some (hardware.readWord b f c offset s)) (λ s. []) (hardware.access b f c offset)
+accept b st (write space page offset word) =
+    let f : ℕ = frameOf st space page in
+    let c : ℕ = colourOf b page in
+    stepped b st (changeOf b (st .tables) f (page.write c)) (λ s. none) (λ s. []) (hardware.writeWord b f c offset word)
+accept b st (deviceRead frame buffer) =
+    stepped b st (changeOf b (st .tables) frame page.deviceRead) (λ s. none) (hardware.deviceRead b frame) (λ s. s)
+accept b st (deviceWrite frame buffer) =
+    stepped b st (changeOf b (st .tables) frame page.deviceWrite) (λ s. none) (λ s. []) (hardware.deviceWrite b frame buffer)
+accept b st (evict line) = listed (refill b (st .tables)) (hardware.evict b line (st .store))
+
+-- ---- a call
+
+unfoldable pub step : Board → State → Call → Result
+unfolding accept
+step b st call =
+    elim (firstRefusal (causes b st call)) [
+      zero ↦ accept b st call
+    | suc n ↦ result (answer (refused (suc n)) none (lentBuffer call)) st
+    ]

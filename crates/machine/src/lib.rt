@@ -1,0 +1,1 @@
+// The machine: memory and cache as the hardware has them, above the manager.
