@@ -12,8 +12,6 @@ use Rattle.cache.specs.Store.{Store}
 use Rattle.cache.specs.Tag.{tagsKeepRules}
 use Rattle.machine.specs.State.{State, Call, map, unmap, read, write, deviceRead, deviceWrite, evict}
 
-infix 30 _if_
-
 -- memory, cache words and tags have their lengths
 unfoldable pub storeLengths : Board → Store → Bool
 storeLengths b s = eqb (length (s .memory)) (memoryWords b) && eqb (length (s .words)) (cacheWords b) && eqb (length (s .tags)) (lines b)

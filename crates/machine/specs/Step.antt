@@ -4,7 +4,7 @@ use mathlib.Core.List.{List, []}
 use mathlib.Core.Option.{Option, none, some}
 use Prim.Native.Nat.{ℕ, zero, suc}
 use Rattle.board.specs.Board.{Board, colourOf}
-use Rattle.page_model.specs.Table as page
+use Rattle.page_model.specs.Table as table
 use Rattle.mapping.specs.Lookup.{lookup}
 use Rattle.manager.specs.declared.Change.{Change}
 use Rattle.manager.specs.Answers as order
@@ -61,15 +61,15 @@ accept b st (unmap space page) = listed (commitUnmap b (st .tables) (placeOf (lo
 accept b st (read space page offset) =
     let f : ℕ = frameOf st space page in
     let c : ℕ = colourOf b page in
-    stepped b st (changeOf b (st .tables) f (page.read c)) (λ s. some (hardware.readWord b f c offset s)) (λ s. []) (hardware.access b f c offset)
+    stepped b st (changeOf b (st .tables) f (table.read c)) (λ s. some (hardware.readWord b f c offset s)) (λ s. []) (hardware.access b f c offset)
 accept b st (write space page offset word) =
     let f : ℕ = frameOf st space page in
     let c : ℕ = colourOf b page in
-    stepped b st (changeOf b (st .tables) f (page.write c)) (λ s. none) (λ s. []) (hardware.writeWord b f c offset word)
+    stepped b st (changeOf b (st .tables) f (table.write c)) (λ s. none) (λ s. []) (hardware.writeWord b f c offset word)
 accept b st (deviceRead frame buffer) =
-    stepped b st (changeOf b (st .tables) frame page.deviceRead) (λ s. none) (hardware.deviceRead b frame) (λ s. s)
+    stepped b st (changeOf b (st .tables) frame table.deviceRead) (λ s. none) (hardware.deviceRead b frame) (λ s. s)
 accept b st (deviceWrite frame buffer) =
-    stepped b st (changeOf b (st .tables) frame page.deviceWrite) (λ s. none) (λ s. []) (hardware.deviceWrite b frame buffer)
+    stepped b st (changeOf b (st .tables) frame table.deviceWrite) (λ s. none) (λ s. []) (hardware.deviceWrite b frame buffer)
 accept b st (evict line) = listed (refill b (st .tables)) (hardware.evict b line (st .store))
 
 -- ---- a call
