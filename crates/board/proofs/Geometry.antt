@@ -116,6 +116,10 @@ module _ (b : Board) (reg : Regular b) where
   memoryAt-zero f = omega arith
 
   -- a word of memory is of one frame and offset
+  pub memory-frame-lt : (i : ℕ) → i < memoryWords b → i / b .pageWords < b .frames
+  unfolding memoryWords
+  memory-frame-lt i h = div-lt-iff-lt-mul (reg .page-words) .1 h
+
   pub memoryAt-frame : (f o : ℕ) → o < b .pageWords → memoryAt b f o / b .pageWords ≡ f
   unfolding memoryAt
   memoryAt-frame f o h = digits-div f h

@@ -1,5 +1,6 @@
 -- Document 01, "The board as modelled": the four numbers, and which line, word and colour belong to which page and offset.
 use Prim.Native.Nat.{ℕ, _+_, _*_, _/_, _%_, _<_}
+use mathlib.Core.List.{List, [], _∷_}
 use mathlib.Core.Path.{_≡_}
 
 -- a board by its four numbers
@@ -35,6 +36,11 @@ cacheWords b = b .colours * b .pageWords
 
 unfoldable pub memoryWords : Board → ℕ
 memoryWords b = b .frames * b .pageWords
+
+-- every number of a board, in the order of the code's constants
+unfoldable pub sizes : Board → List ℕ
+sizes b =
+    b .pageWords ∷ b .lineWords ∷ b .colours ∷ b .frames ∷ pageLines b ∷ lines b ∷ cacheWords b ∷ memoryWords b ∷ spaces ∷ pages ∷ []
 
 -- ---- places
 

@@ -1,7 +1,7 @@
-// The board: its four numbers and the lengths that follow from them.
+// The board: its four numbers, the sizes that follow from them, and which word, line and colour belong together.
 ghost use mathlib.Core.Path.{_≡_};
 ghost use Prim.Native.Nat.{_<_};
-ghost use Rattle.board.specs.Board.{board01, colourOf, lines, lineOf, lineAt, cacheAt, lineOffset, memoryAt};
+ghost use Rattle.board.specs.Board.{board01, sizes, colourOf, lines, lineOf, lineAt, cacheAt, lineOffset, memoryAt};
 
 // Words in a page, words in a line, colours (cache pages), frames (physical pages).
 pub const PAGE_WORDS: usize = 64;
@@ -25,6 +25,13 @@ pub const SPACES: usize = 16;
 
 pub const PAGES: usize = 1024;
 
+// Every constant above, in order. A constant carries no contract, so this function ties them to the definitions.
+pub fn sizes() -> [usize; 10]
+    ensures { λ r. ⌜ r ≡ sizes board01 ⌝ }
+{
+    [PAGE_WORDS, LINE_WORDS, COLOURS, FRAMES, PAGE_LINES, LINES, CACHE_WORDS, MEMORY_WORDS, SPACES, PAGES]
+}
+
 // The colour of a virtual page.
 pub fn colour_of(page: usize) -> usize
     ensures { λ r. ⌜ r ≡ colourOf board01 page ⌝ }
@@ -34,7 +41,7 @@ pub fn colour_of(page: usize) -> usize
 
 // The cache line in which an offset of a page lies that goes through a colour.
 pub fn line_of(colour: usize, offset: usize) -> usize
-    requires { ⌜ (colour < board01 .colours) × (offset < board01 .pageWords) ⌝ }
+    requires { ⌜ colour < board01 .colours ⌝ }
     ensures { λ r. ⌜ r ≡ lineOf board01 colour offset ⌝ }
 {
     colour * PAGE_LINES + offset / LINE_WORDS
