@@ -1,20 +1,19 @@
--- The laws of masks, for any width: what each operation does to bit k, and what the bits tell of the mask.
+-- The laws of masks, for any width: what each operation does to bit k, and what the bits tell of the mask. Passes on those of `Places`.
 use mathlib.Core.Path.{_≡_, refl, sym, ap, ap₂, _∙_, subst}
-use mathlib.Core.Bool.{Bool, true, false, not, _&&_, _||_, or-true, and-true, and-false, cond, false≢true}
-use mathlib.Core.List.{List, [], _∷_, map}
-use Prim.Native.Nat.{ℕ, zero, suc, _+_, _-_, _*_, _/_, _%_, _^_, min, max, _≤_, _<_}
+use mathlib.Core.Bool.{Bool, true, false, not, _&&_, _||_, cond}
+use Prim.Native.Nat.{ℕ, zero, suc, _+_, _-_, _*_, _/_, _%_, _^_, _<_}
 use native.Mathlib.Omega.{arith}
-use native.Mathlib.Nat.{mod-lt, suc-inj, pow-suc, div-one, zero-div, mod-eq-of-lt, add-zero, one-mul}
+use native.Mathlib.Nat.{pow-suc, div-one, zero-div, mod-eq-of-lt, add-zero, one-mul}
 use native.Mathlib.Numerals.{add-one, one-add}
 use borrow.Author.Tests.{eqb-true, eq-eqb, not-true}
 use lib.Arith.{lt-one}
 use lib.Bits.{bitAnd, bitOr, and-shr, or-shr, and-mod, or-mod, or-lt, and-le-l}
 use lib.Count.{ones, trailingZeros, under, ones-step, ones-cat}
-use lib.Dec.{T, eqb, lit<, eqb→eq, eqb-refl, eqb·zero-suc, eqb·suc-zero, eqb·suc-suc}
-use lib.ListN.{length, length-map}
+use lib.Dec.{eqb, lit<, eqb·zero-suc, eqb·suc-zero, eqb·suc-suc}
 use lib.Pow.{pow-pos, pow-lt, shr-shr, shr-lt}
-use Rattle.bits.proofs.Tautology.{and-left, and-right, iff}
-use Rattle.bits.specs.Mask.{bit, withBit, withoutBit, digit, maskOf, countOf, all, any, withZero, placesOf}
+use Rattle.bits.proofs.Tautology.{iff}
+pub use Rattle.bits.proofs.Places.{at-place, all-at, all-of, any-cong, any-none, any-of, any-at, any-one, countOf-cong, places-at, places-none, places-one, places-few}
+use Rattle.bits.specs.Mask.{bit, withBit, withoutBit, digit, maskOf, countOf, all}
 
 half-lt : {n : ℕ} (k : ℕ) → n < 2 ^ suc k → n / 2 < 2 ^ k
 half-lt {n} k h = shr-lt k 1 (subst (λ (x : ℕ). n < 2 ^ x) (sym (add-one k)) h)
@@ -39,7 +38,7 @@ pub eqb-digit : (b : Bool) → eqb (digit b) 1 ≡ b
 eqb-digit true = refl
 eqb-digit false = refl
 
-digit-lt : (b : Bool) → digit b < 2
+pub digit-lt : (b : Bool) → digit b < 2
 digit-lt true = omega arith
 digit-lt false = omega arith
 
@@ -47,26 +46,19 @@ digit-lt false = omega arith
 pub digit-bit : (m : ℕ) → digit (bit m 0) ≡ m % 2
 digit-bit m = ap digit (bit-zero m) ∙ digit-eqb (m % 2) (omega arith)
 
--- ---- two tests that agree below n
+-- ---- a mask and its bits
 
 pub maskOf-cong : (n : ℕ) (p q : ℕ → Bool) → ((k : ℕ) → k < n → p k ≡ q k) → maskOf n p ≡ maskOf n q
 unfolding maskOf
 maskOf-cong zero p q h = refl
 maskOf-cong (suc n) p q h = ap₂ (λ (b : Bool) (x : ℕ). digit b + 2 * x) (h 0 (omega arith)) (maskOf-cong n (λ k. p (suc k)) (λ k. q (suc k)) (λ k l. h (suc k) (omega arith)))
 
-pub countOf-cong : (n : ℕ) (p q : ℕ → Bool) → ((k : ℕ) → k < n → p k ≡ q k) → countOf n p ≡ countOf n q
-unfolding countOf
-countOf-cong zero p q h = refl
-countOf-cong (suc n) p q h = ap₂ (λ (b : Bool) (x : ℕ). digit b + x) (h 0 (omega arith)) (countOf-cong n (λ k. p (suc k)) (λ k. q (suc k)) (λ k l. h (suc k) (omega arith)))
-
--- ---- a mask and its bits
-
 pub maskOf-lt : (n : ℕ) (p : ℕ → Bool) → maskOf n p < 2 ^ n
 unfolding maskOf
 maskOf-lt zero p = lit< tt
 maskOf-lt (suc n) p = rw pow-suc (omega (arith, maskOf-lt n (λ k. p (suc k)), digit-lt (p 0)))
 
--- bit k of the mask of p is p's word at k
+-- bit k of the mask of p is p's value at k
 pub bit-maskOf : (n : ℕ) (p : ℕ → Bool) (k : ℕ) → k < n → bit (maskOf n p) k ≡ p k
 unfolding maskOf
 bit-maskOf zero p k h = absurd (omega arith)
@@ -182,14 +174,15 @@ pub bit-cond : (b : Bool) (m k : ℕ) → bit (cond b 0 m) k ≡ (not b && bit m
 bit-cond true m k = bit-none k
 bit-cond false m k = refl
 
--- ---- a test at one place
+-- ---- two masks
 
-pub at-place : (p : ℕ → Bool) (j k : ℕ) → (eqb j k && p k) ≡ (p j && eqb j k)
-at-place p j k = go (eqb j k) refl
-  where
-    go : (b : Bool) → eqb j k ≡ b → (b && p k) ≡ (p j && b)
-    go true e = ap p (sym (eqb-true j k e)) ∙ sym (and-true (p j))
-    go false e = sym (and-false (p j))
+-- two masks share no bit exactly if their and is 0
+pub disjoint-all : (n a b : ℕ) → a < 2 ^ n → all n (λ k. not (bit a k && bit b k)) ≡ eqb (bitAnd a b) 0
+disjoint-all n a b l =
+    iff _ _
+    (λ e. eq-eqb _ 0 (mask-ext n (bitAnd a b) 0 (omega (arith, and-le-l a b)) (pow-pos n)
+    (λ k lk. bit-and a b k ∙ not-true _ (all-at n _ e k lk) ∙ sym (bit-none k))))
+    (λ e. all-of n _ (λ k lk. ap not (sym (bit-and a b k) ∙ ap (λ (m : ℕ). bit m k) (eqb-true (bitAnd a b) 0 e) ∙ bit-none k)))
 
 -- ---- the only bit
 
@@ -222,93 +215,7 @@ ones-pow : (d : ℕ) → ones (2 ^ d) ≡ 1
 unfolding ones
 ones-pow d = ap ones (sym (add-zero (2 ^ d)) ∙ ap (λ (x : ℕ). x + 0) (sym (one-mul (2 ^ d)))) ∙ ones-cat d 1 0 (pow-pos d)
 
--- a test that picks one place below n picks one d
-pub countOf-one : (n : ℕ) (p : ℕ → Bool) → countOf n p ≡ 1 → (d : ℕ) × (d < n) × ((k : ℕ) → k < n → p k ≡ eqb d k)
-countOf-one n p e =
-    let m : ℕ = maskOf n p in
-    let one = only-bit n m (maskOf-lt n p) (ones-bits n m (maskOf-lt n p) ∙ countOf-cong n (bit m) p (bit-maskOf n p) ∙ e) in
-    (trailingZeros n m, one .0, λ k l. sym (bit-maskOf n p k l) ∙ ap (λ (x : ℕ). bit x k) (one .1) ∙ bit-one (trailingZeros n m) k)
-
--- and a test that picks d alone picks one
+-- a test that picks d alone picks one
 pub one-countOf : (n d : ℕ) (p : ℕ → Bool) → d < n → ((k : ℕ) → k < n → p k ≡ eqb d k) → countOf n p ≡ 1
 one-countOf n d p l h =
     sym (ones-bits n (2 ^ d) (pow-lt l) ∙ countOf-cong n (bit (2 ^ d)) p (λ k j. bit-one d k ∙ sym (h k j))) ∙ ones-pow d
-
--- ---- every place, some place, the places
-
-pub all-at : (n : ℕ) (p : ℕ → Bool) → all n p ≡ true → (k : ℕ) → k < n → p k ≡ true
-unfolding all
-all-at zero p e k l = absurd (omega arith)
-all-at (suc n) p e zero l = and-left (p 0) (all n (λ k. p (suc k))) e
-all-at (suc n) p e (suc k) l = all-at n (λ j. p (suc j)) (and-right (p 0) (all n (λ j. p (suc j))) e) k (omega arith)
-
-pub all-of : (n : ℕ) (p : ℕ → Bool) → ((k : ℕ) → k < n → p k ≡ true) → all n p ≡ true
-unfolding all
-all-of zero p h = refl
-all-of (suc n) p h = ap₂ _&&_ (h 0 (omega arith)) (all-of n (λ k. p (suc k)) (λ k l. h (suc k) (omega arith)))
-
--- two masks share no bit exactly if their and is 0
-pub disjoint-all : (n a b : ℕ) → a < 2 ^ n → all n (λ k. not (bit a k && bit b k)) ≡ eqb (bitAnd a b) 0
-disjoint-all n a b l =
-    iff _ _
-    (λ e. eq-eqb _ 0 (mask-ext n (bitAnd a b) 0 (omega (arith, and-le-l a b)) (pow-pos n)
-    (λ k lk. bit-and a b k ∙ not-true _ (all-at n _ e k lk) ∙ sym (bit-none k))))
-    (λ e. all-of n _ (λ k lk. ap not (sym (bit-and a b k) ∙ ap (λ (m : ℕ). bit m k) (eqb-true (bitAnd a b) 0 e) ∙ bit-none k)))
-
-pub any-cong : (n : ℕ) (p q : ℕ → Bool) → ((k : ℕ) → k < n → p k ≡ q k) → any n p ≡ any n q
-unfolding any
-any-cong zero p q h = refl
-any-cong (suc n) p q h = ap₂ _||_ (h 0 (omega arith)) (any-cong n (λ k. p (suc k)) (λ k. q (suc k)) (λ k l. h (suc k) (omega arith)))
-
-pub any-none : (n : ℕ) (p : ℕ → Bool) → ((k : ℕ) → k < n → p k ≡ false) → any n p ≡ false
-unfolding any
-any-none zero p h = refl
-any-none (suc n) p h = ap₂ _||_ (h 0 (omega arith)) (any-none n (λ k. p (suc k)) (λ k l. h (suc k) (omega arith)))
-
-pub any-of : (n : ℕ) (p : ℕ → Bool) (k : ℕ) → k < n → p k ≡ true → any n p ≡ true
-unfolding any
-any-of zero p k l e = absurd (omega arith)
-any-of (suc n) p zero l e = ap (λ (b : Bool). b || any n (λ k. p (suc k))) e
-any-of (suc n) p (suc k) l e = ap (λ (b : Bool). p 0 || b) (any-of n (λ j. p (suc j)) k (omega arith) e) ∙ or-true (p 0)
-
-pub any-at : (n : ℕ) (p : ℕ → Bool) → any n p ≡ true → (k : ℕ) × (k < n) × (p k ≡ true)
-unfolding any
-any-at zero p e = absurd (false≢true e)
-any-at (suc n) p e = go (p 0) refl (any-at n (λ k. p (suc k)))
-  where
-    go : (b : Bool) → p 0 ≡ b → (any n (λ k. p (suc k)) ≡ true → (k : ℕ) × (k < n) × (p (suc k) ≡ true)) → (k : ℕ) × (k < suc n) × (p k ≡ true)
-    go true z rest = (0, omega arith, z)
-    go false z rest = let r = rest (ap (λ (b : Bool). b || any n (λ k. p (suc k))) (sym z) ∙ e) in (suc (r .0), omega arith, r .2)
-
--- a test that picks d alone, and that under b
-pub any-one : (n d : ℕ) (b : Bool) (p : ℕ → Bool) → d < n → ((k : ℕ) → k < n → p k ≡ (b && eqb d k)) → any n p ≡ b
-any-one n d true p l h = any-of n p d l (h d l ∙ eq-eqb d d refl)
-any-one n d false p l h = any-none n p h
-
-pub places-none : (n : ℕ) (p : ℕ → Bool) → ((k : ℕ) → k < n → p k ≡ false) → placesOf n p ≡ []
-unfolding placesOf
-places-none zero p h = refl
-places-none (suc n) p h = ap₂ withZero (h 0 (omega arith)) (ap (map suc) (places-none n (λ k. p (suc k)) (λ k l. h (suc k) (omega arith))))
-
-pub places-one : (n d : ℕ) (p : ℕ → Bool) → d < n → ((k : ℕ) → k < n → p k ≡ eqb d k) → placesOf n p ≡ d ∷ []
-unfolding placesOf
-places-one zero d p l h = absurd (omega arith)
-places-one (suc n) zero p l h =
-    ap₂ withZero (h 0 l) (ap (map suc) (places-none n (λ k. p (suc k)) (λ k j. h (suc k) (omega arith) ∙ eqb·zero-suc k)))
-places-one (suc n) (suc d) p l h =
-    ap₂ withZero (h 0 (omega arith) ∙ eqb·suc-zero d) (ap (map suc) (places-one n d (λ k. p (suc k)) (omega arith) (λ k j. h (suc k) (omega arith) ∙ eqb·suc-suc d k)))
-
--- places that p picks are few if p picks no two
-pub places-few : (n : ℕ) (p : ℕ → Bool) → ((j k : ℕ) → j < n → k < n → p j ≡ true → p k ≡ true → j ≡ k) → length (placesOf n p) ≤ 1
-unfolding placesOf
-places-few zero p h = omega arith
-places-few (suc n) p h =
-    first (p 0) refl (places-few n (λ k. p (suc k)) (λ j k lj lk ej ek. suc-inj (h (suc j) (suc k) (omega arith) (omega arith) ej ek)))
-  where
-    later : p 0 ≡ true → (k : ℕ) (b : Bool) → k < n → p (suc k) ≡ b → p (suc k) ≡ false
-    later z k true l e = absurd (let x = h 0 (suc k) (omega arith) (omega arith) z e in omega arith)
-    later z k false l e = e
-
-    first : (b : Bool) → p 0 ≡ b → length (placesOf n (λ k. p (suc k))) ≤ 1 → length (withZero b (map suc (placesOf n (λ k. p (suc k))))) ≤ 1
-    first true z ih = simp (places-none n (λ k. p (suc k)) (λ k l. later z k (p (suc k)) l refl)) (omega arith)
-    first false z ih = omega (arith, length-map (placesOf n (λ k. p (suc k))) suc)

@@ -5,6 +5,10 @@ use Prim.Native.Nat.{ℕ, zero, suc, _+_, _-_, _*_, _/_, _%_, _^_}
 use lib.Bits.{bitAnd, bitOr}
 use lib.Dec.{eqb}
 
+-- the bits of a byte, the mask of the code
+abbrev pub width : ℕ
+width = 8
+
 -- whether bit k of m is set
 unfoldable pub bit : ℕ → ℕ → Bool
 bit m k = eqb (m / 2 ^ k % 2) 1

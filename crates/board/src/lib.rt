@@ -29,7 +29,18 @@ pub const PAGES: usize = 1024;
 pub fn sizes() -> [usize; 10]
     ensures { λ r. ⌜ r ≡ sizes board01 ⌝ }
 {
-    [PAGE_WORDS, LINE_WORDS, COLOURS, FRAMES, PAGE_LINES, LINES, CACHE_WORDS, MEMORY_WORDS, SPACES, PAGES]
+    [
+        PAGE_WORDS,
+        LINE_WORDS,
+        COLOURS,
+        FRAMES,
+        PAGE_LINES,
+        LINES,
+        CACHE_WORDS,
+        MEMORY_WORDS,
+        SPACES,
+        PAGES,
+    ]
 }
 
 // The colour of a virtual page.

@@ -1,46 +1,23 @@
 -- The rules of a frame's record as named facts, and what they tell of its dirty colour.
-use mathlib.Core.Path.{_≡_, refl, sym, ap, ap₂, _∙_, subst}
+use mathlib.Core.Path.{_≡_, refl, sym, ap, ap₂, _∙_}
 use mathlib.Core.Bool.{Bool, true, false, not, _&&_, _||_, false≢true}
-use Prim.Native.Nat.{ℕ, zero, suc, _^_, _≤_, _<_}
+use Prim.Native.Nat.{ℕ, _^_, _≤_, _<_}
 use native.Mathlib.Omega.{arith}
-use borrow.Author.Tests.{ltb-true, lt-ltb, leb-true, le-leb, eqb-true, eq-eqb}
+use borrow.Author.Tests.{ltb-true, lt-ltb, leb-true, le-leb, eqb-true}
 use lib.Bits.{bitAnd}
 use lib.Count.{ones, trailingZeros}
-use lib.Dec.{eqb, leb, ltb}
-use Rattle.bits.specs.Mask.{bit, digit, countOf, all}
+use lib.Dec.{eqb, leb}
+use Rattle.bits.specs.Mask.{bit, digit, countOf}
 use Rattle.bits.proofs.Mask.{all-at, all-of, ones-bits, only-bit, bit-one, digit-eqb, disjoint-all}
 use Rattle.bits.proofs.Tautology.{and-left, and-right}
 use Rattle.page_model.specs.declared.FrameRecord.{FrameRecord}
-use Rattle.page_model.specs.Record.{keepsRules, stateFrom, stateOf, isHeld, isDirty}
+use Rattle.page_model.specs.Record.{keepsRules}
 
 -- the flag as a test
 abbrev pub flag : FrameRecord → Bool
 flag r = eqb (r .dirty) 1
 
--- a colour that is not stale is held by its bit, and a held one is dirty by the flag
-pub held-bit : (h d : Bool) → isHeld (stateFrom false h d) ≡ h
-held-bit true true = refl
-held-bit true false = refl
-held-bit false d = refl
-
-pub flag-set : (r : FrameRecord) (k : ℕ) → flag r ≡ true → isHeld (stateOf r k) ≡ isDirty (stateOf r k)
-unfolding stateOf
-flag-set r k e = rw e (go (bit (r .stale) k) (bit (r .held) k))
-  where
-    go : (s h : Bool) → isHeld (stateFrom s h true) ≡ isDirty (stateFrom s h true)
-    go true h = refl
-    go false true = refl
-    go false false = refl
-
-pub flag-clear : (r : FrameRecord) (k : ℕ) → flag r ≡ false → false ≡ isDirty (stateOf r k)
-unfolding stateOf
-flag-clear r k e = rw e (go (bit (r .stale) k) (bit (r .held) k))
-  where
-    go : (s h : Bool) → false ≡ isDirty (stateFrom s h false)
-    go true h = refl
-    go false true = refl
-    go false false = refl
-
+-- the parts of `keepsRules`
 pub record Keeps (n : ℕ) (r : FrameRecord) : Type 0 where
   pub held-lt : r .held < 2 ^ n
   pub stale-lt : r .stale < 2 ^ n

@@ -1,9 +1,8 @@
 -- What each step makes of a record that keeps the rules, as masks, a flag and at most two operations.
 use mathlib.Core.Path.{_≡_, refl, sym, ap, ap₂, _∙_}
 use mathlib.Core.Bool.{Bool, true, false, not, _&&_, _||_, cond, Bool·beq}
-use mathlib.Core.List.{List, [], _∷_, _++_, map}
-use Prim.Native.Nat.{ℕ, _^_, _≤_, _<_}
-use native.Mathlib.Omega.{arith}
+use mathlib.Core.List.{[], _∷_, _++_, map}
+use Prim.Native.Nat.{ℕ, _^_, _<_}
 use borrow.Author.Tests.{eq-eqb, eqb-true}
 use lib.Bits.{bitOr, or-lt}
 use lib.Count.{trailingZeros}
@@ -11,15 +10,16 @@ use lib.Dec.{eqb}
 use lib.Pow.{pow-pos}
 use Rattle.bits.specs.Mask.{bit, digit, withBit, withoutBit, any, placesOf}
 use Rattle.bits.proofs.Mask.{mask-of, places-one, places-none, bit-one, bit-cond, bit-none, bit-or, bit-with, bit-without, with-lt, without-lt, at-place, any-none, any-of, any-one}
-use Rattle.bits.proofs.Tautology.{all4, equalIf, law4, beq-of, and-left, and-right}
+use Rattle.bits.proofs.Tautology.{beq-of, and-left, and-right}
 use Rattle.page_model.specs.declared.FrameRecord.{FrameRecord}
 use Rattle.page_model.specs.declared.Op.{Op}
 use Rattle.page_model.specs.declared.Op.the-variants.{None, Flush, Purge}
-use Rattle.page_model.specs.declared.Stepped.{Stepped}
-use Rattle.page_model.specs.Record.{stateFrom, stateOf, encode, isHeld, isDirty, isStale}
-use Rattle.page_model.specs.Step.{isFlush, isPurge, cellOf, recordAfter, orders, opList, firstTwo, steppedTo, stepped}
-use Rattle.page_model.specs.Table.{ColourState, Order, Role, Cell, Step, read, write, deviceRead, deviceWrite, roleIf, readCell, writeCell, deviceReadCell, deviceWriteCell}
+use Rattle.page_model.specs.Record.{stateOf, encode, isHeld, isDirty, isStale}
+use Rattle.page_model.specs.Step.{isFlush, isPurge, cellOf, recordAfter, operations, opList, firstTwo, steppedTo, stepped}
+use Rattle.page_model.specs.Table.{Step, read, write, deviceRead, deviceWrite}
+use Rattle.page_model.specs.Theorems.{Idle}
 use Rattle.page_model.proofs.Rules.{Keeps, flag, flag-digit, dirty-only, dirty-at}
+use Rattle.page_model.proofs.Cells.{Test, Agree, apart, nextTest, operationTest, ownOf, at, next-law, operation-law, kept-state, kept-next, kept-operation}
 
 -- ---- from tests at every colour to a record and operations
 
@@ -44,14 +44,14 @@ operation-at n d op false p o l h = ap (map op) (sym (places-none n p h))
 -- a record and two operations, each as the tests say, are the step
 step-is : (n : ℕ) (s : Step) (r : FrameRecord) (h t d : ℕ) (fl pu : Op)
     → _≡_ {A = FrameRecord} (record { held = h; stale = t; dirty = d }) (recordAfter n s r)
-    → opList fl ≡ map Flush (placesOf n (λ k. isFlush (cellOf s r k .order)))
-    → opList pu ≡ map Purge (placesOf n (λ k. isPurge (cellOf s r k .order)))
+    → opList fl ≡ map Flush (placesOf n (λ k. isFlush (cellOf s r k .operation)))
+    → opList pu ≡ map Purge (placesOf n (λ k. isPurge (cellOf s r k .operation)))
     → steppedTo h t d fl pu ≡ stepped n s r
-unfolding orders
+unfolding operations
 step-is n s r h t d fl pu e ef ep = λ i. record { next = e i; ops = firstTwo (ef i ++ ep i) }
 
--- a step that orders nothing and keeps the record
-pub idle-step : (n : ℕ) (s : Step) (r : FrameRecord) → (orders n s r ≡ []) × (recordAfter n s r ≡ r) → steppedTo (r .held) (r .stale) (r .dirty) None None ≡ stepped n s r
+-- a step that has no operation and keeps the record
+pub idle-step : (n : ℕ) (s : Step) (r : FrameRecord) → Idle n s r → steppedTo (r .held) (r .stale) (r .dirty) None None ≡ stepped n s r
 idle-step n s r idle = λ i. record { next = sym (idle .1) i; ops = firstTwo (sym (idle .0) i) }
 
 -- an operation, or none, after none and after another
@@ -65,59 +65,23 @@ ops-two o None = refl
 ops-two o (Flush c) = refl
 ops-two o (Purge c) = refl
 
--- ---- the steps
+-- ---- what the functions of the code compute
 
--- a test of whether a colour is the step's own, its stale bit, its held bit and the flag
-abbrev pub Test : Type 0
-Test = Bool → Bool → Bool → Bool → Bool
+-- `present`: the mask of the colours that are present
+abbrev presentMask : FrameRecord → ℕ
+presentMask r = cond (flag r) 0 (r .held)
 
--- the row of the tables that a step takes, and the colour that it goes through; a transfer's row does not look at the role
-abbrev rowOf : Step → Role → ColourState → Cell
-rowOf (read c) = readCell
-rowOf (write c) = writeCell
-rowOf deviceRead = λ role. deviceReadCell
-rowOf deviceWrite = λ role. deviceWriteCell
+-- `if_dirty`: an operation on the dirty colour, if there is one
+abbrev ifDirty : ℕ → FrameRecord → (ℕ → Op) → Op
+ifDirty n r op = cond (flag r) (op (trailingZeros n (r .held))) None
 
-abbrev pub ownOf : Step → ℕ
-ownOf (read c) = c
-ownOf (write c) = c
-ownOf deviceRead = 0
-ownOf deviceWrite = 0
-
-row-cell : (s : Step) (r : FrameRecord) (k : ℕ) → cellOf s r k ≡ rowOf s (roleIf (eqb (ownOf s) k)) (stateOf r k)
-unfolding cellOf
-row-cell (read c) r k = refl
-row-cell (write c) r k = refl
-row-cell deviceRead r k = refl
-row-cell deviceWrite r k = refl
-
--- the tests that a step's row makes of the state after it, and of its order
-abbrev pub nextOf : Step → (ColourState → Bool) → Test
-nextOf step f o s h d = f (rowOf step (roleIf o) (stateFrom s h d) .next)
-
-abbrev pub orderOf : Step → (Order → Bool) → Test
-orderOf step f o s h d = f (rowOf step (roleIf o) (stateFrom s h d) .order)
-
-module _ (n : ℕ) (r : FrameRecord) where
-  -- a test at colour k, where the step goes through c
-  abbrev pub at : ℕ → ℕ → Test → Bool
-  at c k p = p (eqb c k) (bit (r .stale) k) (bit (r .held) k) (flag r)
-
-  -- a test that a step's row computes to, where given holds, is what the step makes of each colour of which given holds
-  module _ (step : Step) (given : Test) (holds : (k : ℕ) → k < n → at (ownOf step) k given ≡ true) where
-    pub next-law : (f : ColourState → Bool) (p : Test) → all4 (λ o s h d. equalIf (given o s h d) (p o s h d) (nextOf step f o s h d)) ≡ true
-        → (k : ℕ) → k < n → at (ownOf step) k p ≡ f (cellOf step r k .next)
-    unfolding stateOf
-    next-law f p e k l = law4 given p (nextOf step f) e _ _ _ _ (holds k l) ∙ sym (ap (λ (x : Cell). f (x .next)) (row-cell step r k))
-
-    pub order-law : (f : Order → Bool) (p : Test) → all4 (λ o s h d. equalIf (given o s h d) (p o s h d) (orderOf step f o s h d)) ≡ true
-        → (k : ℕ) → k < n → at (ownOf step) k p ≡ f (cellOf step r k .order)
-    unfolding stateOf
-    order-law f p e k l = law4 given p (orderOf step f) e _ _ _ _ (holds k l) ∙ sym (ap (λ (x : Cell). f (x .order)) (row-cell step r k))
+-- `purge_stale`: the purge of a colour, if it is stale
+abbrev purgeStale : FrameRecord → ℕ → Op
+purgeStale r c = cond (bit (r .stale) c) (Purge c) None
 
 module _ (n : ℕ) (r : FrameRecord) (kr : Keeps n r) where
-  clean-lt : cond (flag r) 0 (r .held) < 2 ^ n
-  clean-lt = go (flag r)
+  present-lt : presentMask r < 2 ^ n
+  present-lt = go (flag r)
     where
       go : (b : Bool) → cond b 0 (r .held) < 2 ^ n
       go true = pow-pos n
@@ -129,12 +93,12 @@ module _ (n : ℕ) (r : FrameRecord) (kr : Keeps n r) where
   no-operation op p h = ap (map op) (sym (places-none n p (λ k l. sym (h k l))))
 
   on-dirty : (op : ℕ → Op) (p : ℕ → Bool) → ((d : ℕ) → opList (op d) ≡ op d ∷ []) → ((k : ℕ) → k < n → (flag r && bit (r .held) k) ≡ p k)
-      → opList (cond (flag r) (op (trailingZeros n (r .held))) None) ≡ map op (placesOf n p)
+      → opList (ifDirty n r op) ≡ map op (placesOf n p)
   on-dirty op p o h =
       operation-at n (trailingZeros n (r .held)) op (flag r) p (o _) (λ z. dirty-only n r kr z .0) (λ k l. sym (h k l) ∙ dirty-at n r kr k)
 
   on-stale : (c : ℕ) → c < n → (p : ℕ → Bool) → ((k : ℕ) → k < n → (eqb c k && bit (r .stale) k) ≡ p k)
-      → opList (cond (bit (r .stale) c) (Purge c) None) ≡ map Purge (placesOf n p)
+      → opList (purgeStale r c) ≡ map Purge (placesOf n p)
   on-stale c lc p h = operation-at n c Purge (bit (r .stale) c) p refl (λ z. lc) (λ k l. sym (h k l) ∙ at-place (bit (r .stale)) c k)
 
   -- no colour is dirty after the step
@@ -143,29 +107,29 @@ module _ (n : ℕ) (r : FrameRecord) (kr : Keeps n r) where
 
   -- ---- transfers
 
-  pub device-read-step : steppedTo (cond (flag r) 0 (r .held)) (r .stale) 0 (cond (flag r) (Flush (trailingZeros n (r .held))) None) None ≡ stepped n deviceRead r
+  pub device-read-step : steppedTo (presentMask r) (r .stale) 0 (ifDirty n r Flush) None ≡ stepped n deviceRead r
   device-read-step =
-      let next = next-law n r deviceRead (λ o s h d. not (h && s)) (kr .apart) in
-      let order = order-law n r deviceRead (λ o s h d. not (h && s)) (kr .apart) in
-      step-is n deviceRead r _ _ _ (cond (flag r) (Flush (trailingZeros n (r .held))) None) None
-      (record-is n deviceRead r _ _ _ clean-lt (kr .stale-lt)
+      let next = kept-next n r kr deviceRead in
+      let operation = kept-operation n r kr deviceRead in
+      step-is n deviceRead r _ _ _ (ifDirty n r Flush) None
+      (record-is n deviceRead r _ _ _ present-lt (kr .stale-lt)
       (λ k l. bit-cond (flag r) (r .held) k ∙ next isHeld (λ o s h d. not d && h) refl k l)
       (λ k l. next isStale (λ o s h d. s) refl k l)
       (all-clean deviceRead (next isDirty (λ o s h d. false) refl)))
-      (on-dirty Flush _ (λ d. refl) (order isFlush (λ o s h d. d && h) refl))
-      (no-operation Purge _ (order isPurge (λ o s h d. false) refl))
+      (on-dirty Flush _ (λ d. refl) (operation isFlush (λ o s h d. d && h) refl))
+      (no-operation Purge _ (operation isPurge (λ o s h d. false) refl))
 
-  pub device-write-step : steppedTo 0 (bitOr (r .stale) (cond (flag r) 0 (r .held))) 0 None (cond (flag r) (Purge (trailingZeros n (r .held))) None) ≡ stepped n deviceWrite r
+  pub device-write-step : steppedTo 0 (bitOr (r .stale) (presentMask r)) 0 None (ifDirty n r Purge) ≡ stepped n deviceWrite r
   device-write-step =
-      let next = next-law n r deviceWrite (λ o s h d. not (h && s)) (kr .apart) in
-      let order = order-law n r deviceWrite (λ o s h d. not (h && s)) (kr .apart) in
-      step-is n deviceWrite r _ _ _ None (cond (flag r) (Purge (trailingZeros n (r .held))) None)
-      (record-is n deviceWrite r _ _ _ (pow-pos n) (or-lt n (r .stale) (cond (flag r) 0 (r .held)) (kr .stale-lt) clean-lt)
+      let next = kept-next n r kr deviceWrite in
+      let operation = kept-operation n r kr deviceWrite in
+      step-is n deviceWrite r _ _ _ None (ifDirty n r Purge)
+      (record-is n deviceWrite r _ _ _ (pow-pos n) (or-lt n (r .stale) (presentMask r) (kr .stale-lt) present-lt)
       (λ k l. bit-none k ∙ next isHeld (λ o s h d. false) refl k l)
       (λ k l. bit-or _ _ k ∙ ap (λ (b : Bool). bit (r .stale) k || b) (bit-cond (flag r) (r .held) k) ∙ next isStale (λ o s h d. s || not d && h) refl k l)
       (all-clean deviceWrite (next isDirty (λ o s h d. false) refl)))
-      (no-operation Flush _ (order isFlush (λ o s h d. false) refl))
-      (on-dirty Purge _ (λ d. refl) (order isPurge (λ o s h d. d && h) refl))
+      (no-operation Flush _ (operation isFlush (λ o s h d. false) refl))
+      (on-dirty Purge _ (λ d. refl) (operation isPurge (λ o s h d. d && h) refl))
 
   -- ---- the processor's steps
 
@@ -174,42 +138,48 @@ module _ (n : ℕ) (r : FrameRecord) (kr : Keeps n r) where
     not-own : (p : ℕ → Bool) → p c ≡ false → (k : ℕ) → not (eqb c k && p k) ≡ true
     not-own p z k = ap not (at-place p c k ∙ ap (λ (b : Bool). b && eqb c k) z)
 
+    -- a colour is dirty by the flag and its held bit
+    dirty-bits : (flag r && bit (r .held) c) ≡ isDirty (stateOf r c)
+    dirty-bits = kept-state n r kr isDirty (λ o s h d. d && h) refl c lc
+
     -- through a colour that is not held
     pub read-step : bit (r .held) c ≡ false
-        → steppedTo (withBit (cond (flag r) 0 (r .held)) c) (withoutBit n (r .stale) c) 0 (cond (flag r) (Flush (trailingZeros n (r .held))) None)
-        (cond (bit (r .stale) c) (Purge c) None)
+        → steppedTo (withBit (presentMask r) c) (withoutBit n (r .stale) c) 0 (ifDirty n r Flush)
+        (purgeStale r c)
         ≡ stepped n (read c) r
     read-step z =
-        let holds : (k : ℕ) → k < n → at n r c k (λ o s h d. not (h && s) && not (o && h)) ≡ true = λ k l. ap₂ _&&_ (kr .apart k l) (not-own (bit (r .held)) z k) in
-        let next = next-law n r (read c) (λ o s h d. not (h && s) && not (o && h)) holds in
-        let order = order-law n r (read c) (λ o s h d. not (h && s) && not (o && h)) holds in
-        step-is n (read c) r _ _ _ (cond (flag r) (Flush (trailingZeros n (r .held))) None) (cond (bit (r .stale) c) (Purge c) None)
-        (record-is n (read c) r _ _ _ (with-lt n _ c clean-lt lc) (without-lt n (r .stale) c (kr .stale-lt))
+        let given : Test = λ o s h d. apart o s h d && not (o && h) in
+        let holds : (k : ℕ) → k < n → at r c k given ≡ true = λ k l. ap₂ _&&_ (kr .apart k l) (not-own (bit (r .held)) z k) in
+        let next = next-law n r (read c) given holds in
+        let operation = operation-law n r (read c) given holds in
+        step-is n (read c) r _ _ _ (ifDirty n r Flush) (purgeStale r c)
+        (record-is n (read c) r _ _ _ (with-lt n _ c present-lt lc) (without-lt n (r .stale) c (kr .stale-lt))
         (λ k l. bit-with _ c k ∙ ap (λ (b : Bool). b || eqb c k) (bit-cond (flag r) (r .held) k) ∙ next isHeld (λ o s h d. not d && h || o) refl k l)
         (λ k l. bit-without n (r .stale) c k lc l ∙ next isStale (λ o s h d. s && not o) refl k l)
         (all-clean (read c) (next isDirty (λ o s h d. false) refl)))
-        (on-dirty Flush _ (λ d. refl) (order isFlush (λ o s h d. d && h) refl))
-        (on-stale c lc _ (order isPurge (λ o s h d. o && s) refl))
+        (on-dirty Flush _ (λ d. refl) (operation isFlush (λ o s h d. d && h) refl))
+        (on-stale c lc _ (operation isPurge (λ o s h d. o && s) refl))
 
     -- through a colour that is not dirty
-    pub write-step : (flag r && bit (r .held) c) ≡ false
-        → steppedTo (withBit 0 c) (withoutBit n (bitOr (r .stale) (cond (flag r) 0 (r .held))) c) 1 (cond (flag r) (Flush (trailingZeros n (r .held))) None)
-        (cond (bit (r .stale) c) (Purge c) None)
+    pub write-step : isDirty (stateOf r c) ≡ false
+        → steppedTo (withBit 0 c) (withoutBit n (bitOr (r .stale) (presentMask r)) c) 1 (ifDirty n r Flush)
+        (purgeStale r c)
         ≡ stepped n (write c) r
     write-step z =
-        let holds : (k : ℕ) → k < n → at n r c k (λ o s h d. not (h && s) && not (o && (d && h))) ≡ true = λ k l. ap₂ _&&_ (kr .apart k l) (not-own (λ j. flag r && bit (r .held) j) z k) in
-        let next = next-law n r (write c) (λ o s h d. not (h && s) && not (o && (d && h))) holds in
-        let order = order-law n r (write c) (λ o s h d. not (h && s) && not (o && (d && h))) holds in
-        step-is n (write c) r _ _ _ (cond (flag r) (Flush (trailingZeros n (r .held))) None) (cond (bit (r .stale) c) (Purge c) None)
+        let given : Test = λ o s h d. apart o s h d && not (o && (d && h)) in
+        let holds : (k : ℕ) → k < n → at r c k given ≡ true = λ k l. ap₂ _&&_ (kr .apart k l) (not-own (λ j. flag r && bit (r .held) j) (dirty-bits ∙ z) k) in
+        let next = next-law n r (write c) given holds in
+        let operation = operation-law n r (write c) given holds in
+        step-is n (write c) r _ _ _ (ifDirty n r Flush) (purgeStale r c)
         (record-is n (write c) r _ _ _ (with-lt n 0 c (pow-pos n) lc)
-        (without-lt n _ c (or-lt n (r .stale) (cond (flag r) 0 (r .held)) (kr .stale-lt) clean-lt))
+        (without-lt n _ c (or-lt n (r .stale) (presentMask r) (kr .stale-lt) present-lt))
         (λ k l. bit-with 0 c k ∙ ap (λ (b : Bool). b || eqb c k) (bit-none k) ∙ next isHeld (λ o s h d. o) refl k l)
         (λ k l. bit-without n _ c k lc l
         ∙ ap (λ (b : Bool). b && not (eqb c k)) (bit-or _ _ k ∙ ap (λ (b : Bool). bit (r .stale) k || b) (bit-cond (flag r) (r .held) k))
         ∙ next isStale (λ o s h d. (s || not d && h) && not o) refl k l)
         (ap digit (sym (any-of n _ c lc (sym (next isDirty (λ o s h d. o) refl c lc) ∙ eq-eqb c c refl)))))
-        (on-dirty Flush _ (λ d. refl) (order isFlush (λ o s h d. d && h) refl))
-        (on-stale c lc _ (order isPurge (λ o s h d. o && s) refl))
+        (on-dirty Flush _ (λ d. refl) (operation isFlush (λ o s h d. d && h) refl))
+        (on-stale c lc _ (operation isPurge (λ o s h d. o && s) refl))
 
     -- ---- nothing changes
 
@@ -226,32 +196,33 @@ module _ (n : ℕ) (r : FrameRecord) (kr : Keeps n r) where
 
     -- the tests of a colour where c is held
     abbrev ownHeld : Test
-    ownHeld o s h d = not (h && s) && Bool·beq (o && h) o && Bool·beq (d && h) (d && o)
+    ownHeld o s h d = apart o s h d && Bool·beq (o && h) o && Bool·beq (d && h) (d && o)
 
-    own-held : bit (r .held) c ≡ true → (k : ℕ) → k < n → at n r c k ownHeld ≡ true
+    own-held : bit (r .held) c ≡ true → (k : ℕ) → k < n → at r c k ownHeld ≡ true
     own-held z k l =
         ap₂ _&&_ (ap₂ _&&_ (kr .apart k l) (beq-of _ _ (at-place (bit (r .held)) c k ∙ ap (λ (b : Bool). b && eqb c k) z))) (beq-of _ _ (own-dirty z k))
 
     -- a row that keeps the states of colours of which given holds, where c is held
-    idle-of : (step : Step) (given : Test) → ownOf step < n → (holds : (k : ℕ) → k < n → at n r (ownOf step) k given ≡ true)
-        → all4 (λ o s h d. equalIf (given o s h d) h (nextOf step isHeld o s h d)) ≡ true
-        → all4 (λ o s h d. equalIf (given o s h d) s (nextOf step isStale o s h d)) ≡ true
-        → all4 (λ o s h d. equalIf (given o s h d) (d && o) (nextOf step isDirty o s h d)) ≡ true
-        → all4 (λ o s h d. equalIf (given o s h d) false (orderOf step isFlush o s h d)) ≡ true
-        → all4 (λ o s h d. equalIf (given o s h d) false (orderOf step isPurge o s h d)) ≡ true
-        → (orders n step r ≡ []) × (recordAfter n step r ≡ r)
-    unfolding orders
+    idle-of : (step : Step) (given : Test) → ownOf step < n → (holds : (k : ℕ) → k < n → at r (ownOf step) k given ≡ true)
+        → Agree given (λ o s h d. h) (nextTest step isHeld)
+        → Agree given (λ o s h d. s) (nextTest step isStale)
+        → Agree given (λ o s h d. d && o) (nextTest step isDirty)
+        → Agree given (λ o s h d. false) (operationTest step isFlush)
+        → Agree given (λ o s h d. false) (operationTest step isPurge)
+        → Idle n step r
+    unfolding operations
     idle-of step given lo holds eh es ed ef ep =
         let next = next-law n r step given holds in
-        let order = order-law n r step given holds in (
-          sym (ap₂ _++_ (no-operation Flush _ (order isFlush (λ o s h d. false) ef)) (no-operation Purge _ (order isPurge (λ o s h d. false) ep))),
+        let operation = operation-law n r step given holds in (
+          sym (ap₂ _++_ (no-operation Flush _ (operation isFlush (λ o s h d. false) ef)) (no-operation Purge _ (operation isPurge (λ o s h d. false) ep))),
           sym (record-is n step r (r .held) (r .stale) (r .dirty) (kr .held-lt) (kr .stale-lt) (next isHeld (λ o s h d. h) eh) (next isStale (λ o s h d. s) es)
               (flag-digit (kr .flag-le) ∙ ap digit (sym (any-one n (ownOf step) (flag r) _ lo (λ k l. sym (next isDirty (λ o s h d. d && o) ed k l)))))),
         )
 
-    pub read-idle : bit (r .held) c ≡ true → (orders n (read c) r ≡ []) × (recordAfter n (read c) r ≡ r)
+    pub read-idle : bit (r .held) c ≡ true → Idle n (read c) r
     read-idle z = idle-of (read c) ownHeld lc (own-held z) refl refl refl refl refl
 
-    pub write-idle : (flag r && bit (r .held) c) ≡ true → (orders n (write c) r ≡ []) × (recordAfter n (write c) r ≡ r)
+    pub write-idle : isDirty (stateOf r c) ≡ true → Idle n (write c) r
     write-idle z =
-        idle-of (write c) (λ o s h d. ownHeld o s h d && d) lc (λ k l. ap₂ _&&_ (own-held (and-right (flag r) _ z) k l) (and-left (flag r) _ z)) refl refl refl refl refl
+        let both = dirty-bits ∙ z in
+        idle-of (write c) (λ o s h d. ownHeld o s h d && d) lc (λ k l. ap₂ _&&_ (own-held (and-right (flag r) _ both) k l) (and-left (flag r) _ both)) refl refl refl refl refl

@@ -57,3 +57,7 @@ encode n states =
       stale = maskOf n (λ k. isStale (states k));
       dirty = digit (any n (λ k. isDirty (states k)));
     }
+
+-- the record that every frame has at the start
+abbrev pub startRecord : FrameRecord
+startRecord = record { held = 0; stale = 0; dirty = 0 }

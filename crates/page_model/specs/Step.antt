@@ -1,7 +1,8 @@
--- A step of a frame's record: decode it, take the table's cell at every colour, encode. Its orders are the table's, flushes first.
+-- Document 01, "The page model": a step of a frame's record. Decode it, take the table's cell at every colour, encode; its operations
+-- (document 01: orders) are the table's, flushes first.
 use mathlib.Core.Bool.{Bool, true, false}
 use mathlib.Core.List.{List, [], _∷_, _++_, map}
-use Prim.Native.Nat.{ℕ}
+use Prim.Native.Nat.{ℕ, _<_}
 use Rattle.bits.specs.Mask.{placesOf}
 use Rattle.page_model.specs.declared.FrameRecord.{FrameRecord}
 use Rattle.page_model.specs.declared.Op.{Op}
@@ -9,14 +10,14 @@ use Rattle.page_model.specs.declared.Op.the-variants.{None, Flush, Purge
 use Rattle.page_model.specs.declared.Ops.{Ops}
 use Rattle.page_model.specs.declared.Stepped.{Stepped}
 use Rattle.page_model.specs.Record.{stateOf, encode}
-use Rattle.page_model.specs.Table.{ColourState, Order, none, flush, purge, Cell, Step, cellAt}
+use Rattle.page_model.specs.Table.{Operation, none, flush, purge, Cell, Step, cellAt}
 
-abbrev pub isFlush : Order → Bool
+abbrev pub isFlush : Operation → Bool
 isFlush none = false
 isFlush flush = true
 isFlush purge = false
 
-abbrev pub isPurge : Order → Bool
+abbrev pub isPurge : Operation → Bool
 isPurge none = false
 isPurge flush = false
 isPurge purge = true
@@ -29,18 +30,24 @@ cellOf s r k = cellAt s k (stateOf r k)
 unfoldable pub recordAfter : ℕ → Step → FrameRecord → FrameRecord
 recordAfter n s r = encode n (λ k. cellOf s r k .next)
 
--- the step's orders, each with its colour
-unfoldable pub orders : ℕ → Step → FrameRecord → List Op
-orders n s r =
-    map Flush (placesOf n (λ k. isFlush (cellOf s r k .order))) ++ map Purge (placesOf n (λ k. isPurge (cellOf s r k .order)))
+-- the step's operations, each with its colour
+unfoldable pub operations : ℕ → Step → FrameRecord → List Op
+operations n s r =
+    map Flush (placesOf n (λ k. isFlush (cellOf s r k .operation))) ++ map Purge (placesOf n (λ k. isPurge (cellOf s r k .operation)))
 
--- an operation as a list of orders
+-- an operation as a list, of which None is the empty one
 abbrev pub opList : Op → List Op
 opList None = []
 opList (Flush c) = Flush c ∷ []
 opList (Purge c) = Purge c ∷ []
 
--- the first two of a list of orders
+-- an operation, if any, is on a colour below n
+abbrev pub OpBelow : ℕ → Op → Type 0
+OpBelow n None = Unit {0}
+OpBelow n (Flush c) = c < n
+OpBelow n (Purge c) = c < n
+
+-- the first two of a list of operations
 abbrev pub firstTwo : List Op → Ops
 firstTwo [] = record { first = None; second = None }
 firstTwo (a ∷ []) = record { first = a; second = None }
@@ -50,6 +57,6 @@ firstTwo (a ∷ (b ∷ rest)) = record { first = a; second = b }
 abbrev pub steppedTo : ℕ → ℕ → ℕ → Op → Op → Stepped
 steppedTo h t d fl pu = record { next = record { held = h; stale = t; dirty = d }; ops = firstTwo (opList fl ++ opList pu) }
 
--- the record after the step, and its orders, of which there are no more than two (`Theorems`)
+-- the record after the step, and its operations, of which there are no more than two (`Theorems`)
 abbrev pub stepped : ℕ → Step → FrameRecord → Stepped
-stepped n s r = record { next = recordAfter n s r; ops = firstTwo (orders n s r) }
+stepped n s r = record { next = recordAfter n s r; ops = firstTwo (operations n s r) }

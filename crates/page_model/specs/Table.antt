@@ -9,16 +9,16 @@ pub data ColourState : Type 0 where
   empty present dirty stale : ColourState
 
 -- What the cache is to do with one colour of a frame. Document 01 calls this an order.
-pub data Order : Type 0 where
-  none flush purge : Order
+pub data Operation : Type 0 where
+  none flush purge : Operation
 
--- A cell of a table: the order, and the state after it.
+-- A cell of a table: the operation, and the state after it.
 pub record Cell : Type 0 where
-  pub order : Order
+  pub operation : Operation
   pub next : ColourState
 
-abbrev pub _⇒_ : Order → ColourState → Cell
-o ⇒ s = record { order = o; next = s }
+abbrev pub _⇒_ : Operation → ColourState → Cell
+o ⇒ s = record { operation = o; next = s }
 
 -- Whether a colour is the one that the step goes through.
 pub data Role : Type 0 where

@@ -1,6 +1,6 @@
 -- What is proved of the page model, for any number n of colours and every record that keeps the rules.
 use mathlib.Core.Bool.{Bool, true, false}
-use mathlib.Core.List.{List, [], _∷_, _++_, map}
+use mathlib.Core.List.{List, [], _++_, map, List·Memᴰ}
 use mathlib.Core.Logic.{_↔_}
 use mathlib.Core.Path.{_≡_}
 use Prim.Native.Nat.{ℕ, _≤_, _<_}
@@ -8,13 +8,15 @@ use lib.ListN.{length}
 use Rattle.page_model.specs.declared.FrameRecord.{FrameRecord}
 use Rattle.page_model.specs.declared.Op.{Op}
 use Rattle.page_model.specs.declared.Op.the-variants.{Flush, Purge}
-use Rattle.page_model.specs.Record.{stateOf, keepsRules, encode, isHeld}
-use Rattle.page_model.specs.Step.{recordAfter, orders}
-use Rattle.page_model.specs.Table.{ColourState, empty, present, dirty, stale, Step, read, write, deviceRead, deviceWrite}
+use Rattle.page_model.specs.Record.{stateOf, keepsRules, encode, isHeld, startRecord}
+use Rattle.page_model.specs.Step.{cellOf, recordAfter, operations, opList, OpBelow, stepped}
+use Rattle.page_model.specs.Table.{ColourState, empty, present, dirty, stale, Step, read, write}
 
--- a step of a record that keeps the rules keeps them
-abbrev pub StepKeepsRules : Type 0
-StepKeepsRules = (n : ℕ) (s : Step) (r : FrameRecord) → keepsRules n r ≡ true → keepsRules n (recordAfter n s r) ≡ true
+-- ---- records and states
+
+-- the start record keeps the rules, and every colour is empty in it
+abbrev pub StartRecord : Type 0
+StartRecord = (n : ℕ) → (keepsRules n startRecord ≡ true) × ((k : ℕ) → stateOf startRecord k ≡ empty)
 
 -- encoding what a record says gives the record
 abbrev pub EncodeDecode : Type 0
@@ -30,13 +32,37 @@ DecodeEncode =
     (n : ℕ) (states : ℕ → ColourState) → OneOwner n states
     → (keepsRules n (encode n states) ≡ true) × ((k : ℕ) → k < n → stateOf (encode n states) k ≡ states k)
 
--- a step orders no more than two, and no purge stands before a flush
-abbrev pub FewOrders : Type 0
-FewOrders =
-    (n : ℕ) (s : Step) (r : FrameRecord) → keepsRules n r ≡ true
-    → (length (orders n s r) ≤ 2) × (flushes : List ℕ) × (purges : List ℕ) × (orders n s r ≡ map Flush flushes ++ map Purge purges)
+-- ---- a step
 
--- the states of its colour that an access leaves as they are, with no order: a read present and dirty, a write dirty
+-- a step of a record that keeps the rules keeps them
+abbrev pub StepKeepsRules : Type 0
+StepKeepsRules = (n : ℕ) (s : Step) (r : FrameRecord) → keepsRules n r ≡ true → keepsRules n (recordAfter n s r) ≡ true
+
+-- the state of a colour after a step is its cell's
+abbrev pub StateAfter : Type 0
+StateAfter = (n : ℕ) (s : Step) (r : FrameRecord) → keepsRules n r ≡ true → (k : ℕ) → k < n → stateOf (recordAfter n s r) k ≡ cellOf s r k .next
+
+-- a step has no more than two operations, and no purge stands before a flush
+abbrev pub FewOperations : Type 0
+FewOperations =
+    (n : ℕ) (s : Step) (r : FrameRecord) → keepsRules n r ≡ true
+    → (length (operations n s r) ≤ 2) × (flushes : List ℕ) × (purges : List ℕ) × (operations n s r ≡ map Flush flushes ++ map Purge purges)
+
+-- the two operations that a step answers with are all that it has, in order
+abbrev pub OpsComplete : Type 0
+OpsComplete =
+    (n : ℕ) (s : Step) (r : FrameRecord) → keepsRules n r ≡ true
+    → opList (stepped n s r .ops .first) ++ opList (stepped n s r .ops .second) ≡ operations n s r
+
+-- every operation of a step is on a colour below n, and so are the two that it answers with
+abbrev pub OperationsBelow : Type 0
+OperationsBelow =
+    (n : ℕ) (s : Step) (r : FrameRecord)
+    → ((o : Op) → List·Memᴰ o (operations n s r) → OpBelow n o) × OpBelow n (stepped n s r .ops .first) × OpBelow n (stepped n s r .ops .second)
+
+-- ---- an access that passes
+
+-- the states of its colour that an access leaves as they are, with no operation: a read present and dirty, a write dirty
 abbrev pub passesRead : ColourState → Bool
 passesRead empty = false
 passesRead present = true
@@ -49,10 +75,11 @@ passesWrite present = false
 passesWrite dirty = true
 passesWrite stale = false
 
--- an access orders nothing and alters nothing exactly if its colour's state lets it pass
+-- a step has no operation and alters nothing
 abbrev pub Idle : ℕ → Step → FrameRecord → Type 0
-Idle n s r = (orders n s r ≡ []) × (recordAfter n s r ≡ r)
+Idle n s r = (operations n s r ≡ []) × (recordAfter n s r ≡ r)
 
+-- an access is idle exactly if its colour's state lets it pass
 abbrev pub ReadPasses : Type 0
 ReadPasses = (n c : ℕ) (r : FrameRecord) → c < n → keepsRules n r ≡ true → (passesRead (stateOf r c) ≡ true) ↔ Idle n (read c) r
 

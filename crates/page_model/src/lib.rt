@@ -1,6 +1,6 @@
 // The page model: a frame's record, and what each step makes of it.
 ghost use mathlib.Core.Path.{_≡_};
-ghost use mathlib.Core.Bool.{true, _&&_, cond};
+ghost use mathlib.Core.Bool.{true, cond};
 ghost use mathlib.Core.List.{_++_};
 ghost use lib.Count.{trailingZeros};
 ghost use lib.Dec.{eqb};
@@ -38,7 +38,7 @@ pub struct Stepped {
 }
 
 impl FrameRecord {
-    // Whether the record keeps the rules: no bit in both masks, and with the flag set one held bit.
+    // Whether the record keeps the rules: no bit in both masks, the flag 0 or 1, and with the flag set exactly one held bit.
     pub fn keeps_rules(self) -> bool
         ensures { λ r. ⌜ r ≡ keepsRules (board01 .colours) self ⌝ }
     {
@@ -56,13 +56,13 @@ impl FrameRecord {
         requires { ⌜ (keepsRules (board01 .colours) self ≡ true) × (colour < board01 .colours) ⌝ }
         ensures { λ r. ⌜ r ≡ stepped (board01 .colours) (read colour) self ⌝ }
     {
-        if bits::has(self.held, colour) {
+        if bits::bit(self.held, colour) {
             return self.unchanged();
         }
         let flush = self.if_dirty(Op::Flush(self.dirty_colour()));
         let purge = self.purge_stale(colour);
-        let held = bits::with(self.clean(), colour);
-        let stale = bits::without(self.stale, colour);
+        let held = bits::with_bit(self.present(), colour);
+        let stale = bits::without_bit(self.stale, colour);
         Stepped::to(held, stale, 0, flush, purge)
     }
 
@@ -71,13 +71,13 @@ impl FrameRecord {
         requires { ⌜ (keepsRules (board01 .colours) self ≡ true) × (colour < board01 .colours) ⌝ }
         ensures { λ r. ⌜ r ≡ stepped (board01 .colours) (write colour) self ⌝ }
     {
-        if self.is_dirty(colour) {
+        if self.holds_dirty(colour) {
             return self.unchanged();
         }
         let flush = self.if_dirty(Op::Flush(self.dirty_colour()));
         let purge = self.purge_stale(colour);
-        let held = bits::with(0, colour);
-        let stale = bits::without(self.stale | self.clean(), colour);
+        let held = bits::with_bit(0, colour);
+        let stale = bits::without_bit(self.stale | self.present(), colour);
         Stepped::to(held, stale, 1, flush, purge)
     }
 
@@ -86,9 +86,9 @@ impl FrameRecord {
         requires { ⌜ keepsRules (board01 .colours) self ≡ true ⌝ }
         ensures { λ r. ⌜ r ≡ stepped (board01 .colours) deviceRead self ⌝ }
     {
-        let dirty = self.dirty_colour();
-        let flush = self.if_dirty(Op::Flush(dirty));
-        Stepped::to(self.clean(), self.stale, 0, flush, Op::None)
+        let colour = self.dirty_colour();
+        let flush = self.if_dirty(Op::Flush(colour));
+        Stepped::to(self.present(), self.stale, 0, flush, Op::None)
     }
 
     // A device writes the frame's page in memory.
@@ -96,9 +96,9 @@ impl FrameRecord {
         requires { ⌜ keepsRules (board01 .colours) self ≡ true ⌝ }
         ensures { λ r. ⌜ r ≡ stepped (board01 .colours) deviceWrite self ⌝ }
     {
-        let dirty = self.dirty_colour();
-        let purge = self.if_dirty(Op::Purge(dirty));
-        Stepped::to(0, self.stale | self.clean(), 0, Op::None, purge)
+        let colour = self.dirty_colour();
+        let purge = self.if_dirty(Op::Purge(colour));
+        Stepped::to(0, self.stale | self.present(), 0, Op::None, purge)
     }
 
     // Whether a colour is present or dirty, in any record.
@@ -106,10 +106,10 @@ impl FrameRecord {
         requires { ⌜ colour < board01 .colours ⌝ }
         ensures { λ r. ⌜ r ≡ isHeld (stateOf self colour) ⌝ }
     {
-        if bits::has(self.stale, colour) {
+        if bits::bit(self.stale, colour) {
             return false;
         }
-        bits::has(self.held, colour)
+        bits::bit(self.held, colour)
     }
 
     // Whether a colour is dirty, in any record.
@@ -131,28 +131,16 @@ impl FrameRecord {
         Stepped::to(self.held, self.stale, self.dirty, Op::None, Op::None)
     }
 
-    // Whether a colour is dirty.
-    fn is_dirty(self, colour: usize) -> bool
-        requires { ⌜ colour < board01 .colours ⌝ }
-        ensures { λ r. ⌜ r ≡ (eqb (self .dirty) 1 && bit (self .held) colour) ⌝ }
-    {
-        if self.dirty == 1 {
-            bits::has(self.held, colour)
-        } else {
-            false
-        }
-    }
-
     // The colours that are present: those held, unless the one held is dirty.
-    fn clean(self) -> u8
+    fn present(self) -> u8
         ensures { λ r. ⌜ r ≡ cond (eqb (self .dirty) 1) 0 (self .held) ⌝ }
     {
         if self.dirty == 1 { 0 } else { self.held }
     }
 
-    // The colour that is held, where one is dirty.
+    // The dirty colour: the only one held. Means nothing unless a colour is dirty.
     fn dirty_colour(self) -> usize
-        ensures { λ r. ⌜ r ≡ trailingZeros 8 (self .held) ⌝ }
+        ensures { λ r. ⌜ r ≡ trailingZeros (board01 .colours) (self .held) ⌝ }
     {
         u8::trailing_zeros(self.held) as usize
     }
@@ -169,7 +157,7 @@ impl FrameRecord {
         requires { ⌜ colour < board01 .colours ⌝ }
         ensures { λ r. ⌜ r ≡ cond (bit (self .stale) colour) (Op.Purge colour) Op.None ⌝ }
     {
-        if bits::has(self.stale, colour) {
+        if bits::bit(self.stale, colour) {
             Op::Purge(colour)
         } else {
             Op::None
@@ -182,7 +170,7 @@ impl Stepped {
     fn to(held: u8, stale: u8, dirty: u8, flush: Op, purge: Op) -> Stepped
         ensures { λ r. ⌜ r ≡ steppedTo held stale dirty flush purge ⌝ }
     {
-        let ops = in_order(flush, purge);
+        let ops = first_two(flush, purge);
         Stepped {
             next: FrameRecord { held, stale, dirty },
             ops,
@@ -190,8 +178,8 @@ impl Stepped {
     }
 }
 
-// Two operations, either of which may be None, in order.
-fn in_order(flush: Op, purge: Op) -> Ops
+// Two operations in order, either of which may be None: a None stands last.
+fn first_two(flush: Op, purge: Op) -> Ops
     ensures { λ r. ⌜ r ≡ firstTwo (opList flush ++ opList purge) ⌝ }
 {
     match flush {

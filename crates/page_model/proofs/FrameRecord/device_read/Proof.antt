@@ -1,4 +1,4 @@
--- `page_model::device_read` meets its contract.
+-- `page_model::FrameRecord::device_read` meets its contract.
 use mathlib.Core.Path.{_∙_}
 use Rattle.page_model.proofs.Rules.{keeps}
 use Rattle.page_model.proofs.Steps.{device-read-step}
@@ -12,8 +12,8 @@ dirty-colour-requires c κs = search needs
 if-dirty-requires : tie.Need-if-dirty-requires
 if-dirty-requires c κs = search needs
 
-clean-requires : tie.Need-clean-requires
-clean-requires c κs = search needs
+present-requires : tie.Need-present-requires
+present-requires c κs = search needs
 
 to-requires : tie.Need-to-requires
 to-requires c κs = search needs
@@ -22,8 +22,8 @@ returns : tie.Need-returns
 returns c =
     let at-if = c .before .before in
     let s = at-if .before .before in
-    c .to .ensures ∙ simp (c .before .clean .ensures, at-if .if-dirty .ensures, at-if .before .dirty-colour .ensures) (device-read-step 8 _ (keeps 8 _ (s .pre)))
+    c .to .ensures ∙ simp (c .before .present .ensures, at-if .if-dirty .ensures, at-if .before .dirty-colour .ensures) (device-read-step _ _ (keeps _ _ (s .pre)))
 
 pub device-read-spec : {M : Type 1} → statement M
 device-read-spec =
-    tie.close (tie.spec dirty-colour-requires if-dirty-requires clean-requires to-requires returns)
+    tie.close (tie.spec dirty-colour-requires if-dirty-requires present-requires to-requires returns)

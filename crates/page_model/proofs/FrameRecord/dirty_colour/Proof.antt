@@ -1,4 +1,4 @@
--- `page_model::dirty_colour` meets its contract.
+-- `page_model::FrameRecord::dirty_colour` meets its contract.
 use lib.Count.{trailing-le}
 use mir.Facts.{fits-le, fits-lit}
 use borrow.Author.Needs.{needs}

@@ -1,4 +1,4 @@
--- `page_model::if_dirty` meets its contract.
+-- `page_model::FrameRecord::if_dirty` meets its contract.
 use borrow.Author.Tests.{eq-eqb, ne-eqb}
 use Rattle.page_model.proofs.FrameRecord.if_dirty.Statement.{statement}
 use Rattle.page_model.proofs.FrameRecord.if_dirty.Tie as tie

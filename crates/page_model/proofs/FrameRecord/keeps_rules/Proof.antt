@@ -1,4 +1,4 @@
--- `page_model::keeps_rules` meets its contract.
+-- `page_model::FrameRecord::keeps_rules` meets its contract.
 use borrow.Author.Needs.{needs}
 use Prim.Native.Nat.{ℕ, _<_}
 use native.Mathlib.Omega.{arith}

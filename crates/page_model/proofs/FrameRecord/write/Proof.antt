@@ -6,8 +6,8 @@ use Rattle.page_model.proofs.Steps.{idle-step, write-idle, write-step}
 use Rattle.page_model.proofs.FrameRecord.write.Statement.{statement}
 use Rattle.page_model.proofs.FrameRecord.write.Tie as tie
 
-is-dirty-requires : tie.Need-is-dirty-requires
-is-dirty-requires c κs = search needs
+holds-dirty-requires : tie.Need-holds-dirty-requires
+holds-dirty-requires c κs = search needs
 
 unchanged-requires : tie.Need-unchanged-requires
 unchanged-requires c κs = search needs
@@ -15,7 +15,7 @@ unchanged-requires c κs = search needs
 returns : tie.Need-returns
 returns c =
     let s = c .before .before .before in
-    c .unchanged .ensures ∙ idle-step 8 _ _ (write-idle 8 _ (keeps 8 _ (s .pre .0)) _ (s .pre .1) (sym (c .before .before .is-dirty .ensures) ∙ c .before .if1 .taken))
+    c .unchanged .ensures ∙ idle-step 8 _ _ (write-idle 8 _ (keeps 8 _ (s .pre .0)) _ (s .pre .1) (sym (c .before .before .holds-dirty .ensures) ∙ c .before .if1 .taken))
 
 dirty-colour-requires : tie.Need-dirty-colour-requires
 dirty-colour-requires c κs = search needs
@@ -26,14 +26,14 @@ if-dirty-requires c κs = search needs
 purge-stale-requires : tie.Need-purge-stale-requires
 purge-stale-requires c κs = search needs
 
-with-requires : tie.Need-with-requires
-with-requires c κs = search needs
+with-bit-requires : tie.Need-with-bit-requires
+with-bit-requires c κs = search needs
 
-clean-requires : tie.Need-clean-requires
-clean-requires c κs = search needs
+present-requires : tie.Need-present-requires
+present-requires c κs = search needs
 
-without-requires : tie.Need-without-requires
-without-requires c κs = search needs
+without-bit-requires : tie.Need-without-bit-requires
+without-bit-requires c κs = search needs
 
 to-requires : tie.Need-to-requires
 to-requires c κs = search needs
@@ -41,8 +41,8 @@ to-requires c κs = search needs
 returns-2 : tie.Need-returns-2
 returns-2 c =
     let at-without = c .before in
-    let at-clean = at-without .before .before in
-    let at-with = at-clean .before in
+    let at-present = at-without .before .before in
+    let at-with = at-present .before in
     let at-purge = at-with .before in
     let at-if = at-purge .before in
     let at-colour = at-if .before in
@@ -50,21 +50,21 @@ returns-2 c =
     let s = at-else .before .before in
     c .to .ensures
     ∙ simp
-    (at-without .without .ensures, at-clean .clean .ensures, at-with .with .ensures, at-purge .purge-stale .ensures, at-if .if-dirty .ensures, at-colour .dirty-colour .ensures)
-    (write-step 8 _ (keeps 8 _ (s .pre .0)) _ (s .pre .1) (sym (at-else .before .is-dirty .ensures) ∙ at-else .if1 .left))
+    (at-without .without-bit .ensures, at-present .present .ensures, at-with .with-bit .ensures, at-purge .purge-stale .ensures, at-if .if-dirty .ensures, at-colour .dirty-colour .ensures)
+    (write-step 8 _ (keeps 8 _ (s .pre .0)) _ (s .pre .1) (sym (at-else .before .holds-dirty .ensures) ∙ at-else .if1 .left))
 
 pub write-spec : {M : Type 1} → statement M
 write-spec =
     tie.close
     (tie.spec
-    is-dirty-requires
+    holds-dirty-requires
     unchanged-requires
     returns
     dirty-colour-requires
     if-dirty-requires
     purge-stale-requires
-    with-requires
-    clean-requires
-    without-requires
+    with-bit-requires
+    present-requires
+    without-bit-requires
     to-requires
     returns-2)

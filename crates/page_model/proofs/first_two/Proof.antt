@@ -1,9 +1,9 @@
--- `page_model::in_order` meets its contract.
+-- `page_model::first_two` meets its contract.
 use mathlib.Core.Path.{sym}
 use Rattle.page_model.proofs.Steps.{ops-one, ops-two}
 use borrow.Author.Needs.{needs}
-use Rattle.page_model.proofs.in_order.Statement.{statement}
-use Rattle.page_model.proofs.in_order.Tie as tie
+use Rattle.page_model.proofs.first_two.Statement.{statement}
+use Rattle.page_model.proofs.first_two.Tie as tie
 
 enum-told : tie.Need-enum-told
 enum-told c = search needs
@@ -23,6 +23,6 @@ returns-2 c = rw (c .before .flush .given .1) (sym (ops-two _ _))
 returns-3 : tie.Need-returns-3
 returns-3 c = rw (c .before .flush2 .given .1) (sym (ops-two _ _))
 
-pub in-order-spec : {M : Type 1} → statement M
-in-order-spec =
+pub first-two-spec : {M : Type 1} → statement M
+first-two-spec =
     tie.close (tie.spec enum-told enum-known-flush enum-known-flush-2 returns returns-2 returns-3)

@@ -1,8 +1,8 @@
--- `bits::has` meets its contract.
+-- `bits::bit` meets its contract.
 use borrow.Author.Needs.{needs}
 use Rattle.bits.specs.Mask.{bit}
-use Rattle.bits.proofs.has.Statement.{statement}
-use Rattle.bits.proofs.has.Tie as tie
+use Rattle.bits.proofs.bit.Statement.{statement}
+use Rattle.bits.proofs.bit.Tie as tie
 
 cast-result : tie.Need-cast-result
 cast-result c = search needs
@@ -14,5 +14,5 @@ returns : tie.Need-returns
 unfolding bit
 returns c = search needs
 
-pub has-spec : {M : Type 1} → statement M
-has-spec = tie.close (tie.spec cast-result shr-result returns)
+pub bit-spec : {M : Type 1} → statement M
+bit-spec = tie.close (tie.spec cast-result shr-result returns)

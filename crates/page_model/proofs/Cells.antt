@@ -1,0 +1,97 @@
+-- What a colour's bits and the flag tell of its state, and of the table's cell that a step takes there. Each law is a test of four bits
+-- that the checker computes at all sixteen values.
+use mathlib.Core.Path.{_≡_, refl, sym, ap, _∙_}
+use mathlib.Core.Bool.{Bool, true, not, _&&_}
+use Prim.Native.Nat.{ℕ, _<_}
+use lib.Dec.{eqb}
+use Rattle.bits.specs.Mask.{bit}
+use Rattle.bits.proofs.Tautology.{all4, equalIf, law4, and-left, and-right}
+use Rattle.page_model.specs.declared.FrameRecord.{FrameRecord}
+use Rattle.page_model.specs.Record.{stateFrom, stateOf}
+use Rattle.page_model.specs.Step.{cellOf}
+use Rattle.page_model.specs.Table.{ColourState, empty, present, dirty, stale, Operation, Role, Cell, Step, read, write, deviceRead, deviceWrite, roleIf, readCell, writeCell, deviceReadCell, deviceWriteCell}
+use Rattle.page_model.proofs.Rules.{Keeps, flag}
+
+-- a test of whether a colour is the step's own, its stale bit, its held bit and the flag
+abbrev pub Test : Type 0
+Test = Bool → Bool → Bool → Bool → Bool
+
+-- two tests are equal where given holds
+abbrev pub Agree : (given p q : Test) → Type 0
+Agree given p q = all4 (λ o s h d. equalIf (given o s h d) (p o s h d) (q o s h d)) ≡ true
+
+-- no bit is in both masks
+abbrev pub apart : Test
+apart o s h d = not (h && s)
+
+-- ---- tests of a state, of the state after a step and of its operation
+
+abbrev pub stateTest : (ColourState → Bool) → Test
+stateTest f o s h d = f (stateFrom s h d)
+
+-- the row of the tables that a step takes, and the colour that it goes through; a transfer's row does not look at the role
+abbrev pub rowOf : Step → Role → ColourState → Cell
+rowOf (read c) = readCell
+rowOf (write c) = writeCell
+rowOf deviceRead = λ role. deviceReadCell
+rowOf deviceWrite = λ role. deviceWriteCell
+
+abbrev pub ownOf : Step → ℕ
+ownOf (read c) = c
+ownOf (write c) = c
+ownOf deviceRead = 0
+ownOf deviceWrite = 0
+
+pub row-cell : (s : Step) (r : FrameRecord) (k : ℕ) → cellOf s r k ≡ rowOf s (roleIf (eqb (ownOf s) k)) (stateOf r k)
+unfolding cellOf
+row-cell (read c) r k = refl
+row-cell (write c) r k = refl
+row-cell deviceRead r k = refl
+row-cell deviceWrite r k = refl
+
+abbrev pub nextTest : Step → (ColourState → Bool) → Test
+nextTest step f o s h d = f (rowOf step (roleIf o) (stateFrom s h d) .next)
+
+abbrev pub operationTest : Step → (Operation → Bool) → Test
+operationTest step f o s h d = f (rowOf step (roleIf o) (stateFrom s h d) .operation)
+
+-- ---- the laws
+
+-- a test at colour k, where the step goes through c
+abbrev pub at : FrameRecord → ℕ → ℕ → Test → Bool
+at r c k p = p (eqb c k) (bit (r .stale) k) (bit (r .held) k) (flag r)
+
+pub at-law : (r : FrameRecord) (c k : ℕ) (given p q : Test) → Agree given p q → at r c k given ≡ true → at r c k p ≡ at r c k q
+at-law r c k given p q e = law4 given p q e _ _ _ _
+
+pub state-law : (r : FrameRecord) (k : ℕ) (given : Test) (f : ColourState → Bool) (p : Test) → Agree given p (stateTest f) → at r 0 k given ≡ true → at r 0 k p ≡ f (stateOf r k)
+unfolding stateOf
+state-law r k given f p = at-law r 0 k given p (stateTest f)
+
+module _ (n : ℕ) (r : FrameRecord) (step : Step) (given : Test) (holds : (k : ℕ) → k < n → at r (ownOf step) k given ≡ true) where
+  pub next-law : (f : ColourState → Bool) (p : Test) → Agree given p (nextTest step f) → (k : ℕ) → k < n → at r (ownOf step) k p ≡ f (cellOf step r k .next)
+  unfolding stateOf
+  next-law f p e k l = at-law r _ k given p (nextTest step f) e (holds k l) ∙ sym (ap (λ (x : Cell). f (x .next)) (row-cell step r k))
+
+  pub operation-law : (f : Operation → Bool) (p : Test) → Agree given p (operationTest step f) → (k : ℕ) → k < n → at r (ownOf step) k p ≡ f (cellOf step r k .operation)
+  unfolding stateOf
+  operation-law f p e k l = at-law r _ k given p (operationTest step f) e (holds k l) ∙ sym (ap (λ (x : Cell). f (x .operation)) (row-cell step r k))
+
+-- the same of a record that keeps the rules
+module _ (n : ℕ) (r : FrameRecord) (kr : Keeps n r) where
+  pub kept-state : (f : ColourState → Bool) (p : Test) → Agree apart p (stateTest f) → (k : ℕ) → k < n → at r 0 k p ≡ f (stateOf r k)
+  kept-state f p e k l = state-law r k apart f p e (kr .apart k l)
+
+  pub kept-next : (step : Step) (f : ColourState → Bool) (p : Test) → Agree apart p (nextTest step f) → (k : ℕ) → k < n → at r (ownOf step) k p ≡ f (cellOf step r k .next)
+  kept-next step = next-law n r step apart (kr .apart)
+
+  pub kept-operation : (step : Step) (f : Operation → Bool) (p : Test) → Agree apart p (operationTest step f) → (k : ℕ) → k < n
+      → at r (ownOf step) k p ≡ f (cellOf step r k .operation)
+  kept-operation step = operation-law n r step apart (kr .apart)
+
+-- what computes to true at the four states holds of each
+pub each-state : (p : ColourState → Bool) → (p empty && p present && p dirty && p stale) ≡ true → (s : ColourState) → p s ≡ true
+each-state p e empty = search (and-left, and-right)
+each-state p e present = search (and-left, and-right)
+each-state p e dirty = search (and-left, and-right)
+each-state p e stale = search (and-left, and-right)

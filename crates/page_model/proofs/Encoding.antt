@@ -1,0 +1,98 @@
+-- Encoding and decoding are inverse.
+use mathlib.Core.Path.{_≡_, refl, sym, ap, ap₂, _∙_}
+use mathlib.Core.Bool.{Bool, true, false, not, _&&_, _||_, false≢true}
+use Prim.Native.Nat.{ℕ, _≤_, _<_}
+use native.Mathlib.Omega.{arith}
+use borrow.Author.Tests.{eq-eqb, ne-eqb}
+use lib.Count.{trailingZeros}
+use lib.Dec.{eqb}
+use Rattle.bits.specs.Mask.{bit, digit, maskOf, countOf, any}
+use Rattle.bits.proofs.Mask.{mask-of, maskOf-lt, bit-maskOf, any-cong, any-none, any-of, any-at, any-one, one-countOf, digit-lt, eqb-digit}
+use Rattle.page_model.specs.declared.FrameRecord.{FrameRecord}
+use Rattle.page_model.specs.Record.{stateFrom, stateOf, encode, isHeld, isDirty, isStale}
+use Rattle.page_model.specs.Table.{ColourState, empty, present, dirty, stale}
+use Rattle.page_model.specs.Theorems.{EncodeDecode, OneOwner, DecodeEncode}
+use Rattle.page_model.proofs.Rules.{Keeps, keeps, kept, flag, flag-digit, dirty-only, dirty-at}
+use Rattle.page_model.proofs.Cells.{kept-state, each-state}
+
+-- ---- a record that is decoded and encoded
+
+-- a record has a dirty colour if its flag is set
+any-dirty : (n : ℕ) (r : FrameRecord) → Keeps n r → any n (λ k. flag r && bit (r .held) k) ≡ flag r
+any-dirty n r kr = go (flag r) refl
+  where
+    go : (b : Bool) → flag r ≡ b → any n (λ k. flag r && bit (r .held) k) ≡ b
+    go true e = any-one n _ true _ (dirty-only n r kr e .0) (λ k l. dirty-at n r kr k ∙ ap (λ (b : Bool). b && eqb (trailingZeros n (r .held)) k) e)
+    go false e = any-none n _ (λ k l. ap (λ (b : Bool). b && bit (r .held) k) e)
+
+pub encode-decode : EncodeDecode
+unfolding encode
+encode-decode n r e =
+    let kr = keeps n r e in
+    let says = kept-state n r kr in
+    let h = mask-of n (r .held) _ (kr .held-lt) (says isHeld (λ o s h d. h) refl) in
+    let t = mask-of n (r .stale) _ (kr .stale-lt) (says isStale (λ o s h d. s) refl) in
+    let d = flag-digit (kr .flag-le) ∙ ap digit (sym (any-dirty n r kr) ∙ any-cong n _ _ (says isDirty (λ o s h d. d && h) refl)) in
+    λ i. record { held = sym h i; stale = sym t i; dirty = sym d i }
+
+-- ---- states that are encoded and decoded
+
+dirty-true : (s : ColourState) → isDirty s ≡ true → s ≡ dirty
+dirty-true empty e = absurd (false≢true e)
+dirty-true present e = absurd (false≢true e)
+dirty-true dirty e = refl
+dirty-true stale e = absurd (false≢true e)
+
+module _ (n : ℕ) (states : ℕ → ColourState) (one : OneOwner n states) where
+  -- with a dirty colour, the held ones are that one
+  held-only : (d : ℕ) → d < n → isDirty (states d) ≡ true → (k : ℕ) → k < n → isHeld (states k) ≡ eqb d k
+  held-only d ld e k lk = go (isHeld (states k)) refl
+    where
+      here : states d ≡ dirty
+      here = dirty-true (states d) e
+
+      go : (b : Bool) → isHeld (states k) ≡ b → b ≡ eqb d k
+      go true h = sym (eq-eqb d k (one d k ld lk here h))
+      go false h = sym (ne-eqb d k (λ q. false≢true (sym h ∙ ap (λ (j : ℕ). isHeld (states j)) (sym q) ∙ ap isHeld here)))
+
+  encode-keeps : Keeps n (encode n states)
+  unfolding encode
+  encode-keeps =
+      record {
+        held-lt = maskOf-lt n _;
+        stale-lt = maskOf-lt n _;
+        apart = λ k l. ap not (ap₂ _&&_ (bit-maskOf n _ k l) (bit-maskOf n _ k l)) ∙ each-state (λ s. not (isHeld s && isStale s)) refl (states k);
+        flag-le = omega (arith, digit-lt (any n (λ k. isDirty (states k))));
+        one-held = single (any n (λ k. isDirty (states k))) refl;
+      }
+    where
+      single : (b : Bool) → any n (λ k. isDirty (states k)) ≡ b → (not (eqb (digit b) 1) || eqb (countOf n (bit (maskOf n (λ k. isHeld (states k))))) 1) ≡ true
+      single true e =
+          let d = any-at n _ e in
+          eq-eqb _ 1 (one-countOf n (d .0) _ (d .1) (λ k l. bit-maskOf n _ k l ∙ held-only (d .0) (d .1) (d .2) k l))
+      single false e = refl
+
+  -- a present colour is there only where none is dirty
+  decoded : (k : ℕ) → k < n → stateFrom (isStale (states k)) (isHeld (states k)) (any n (λ j. isDirty (states j))) ≡ states k
+  decoded k l = go (states k) refl
+    where
+      go : (s : ColourState) → states k ≡ s → stateFrom (isStale s) (isHeld s) (any n (λ j. isDirty (states j))) ≡ s
+      go empty e = refl
+      go present e = flagged (any n (λ j. isDirty (states j))) refl
+        where
+          flagged : (b : Bool) → any n (λ j. isDirty (states j)) ≡ b → stateFrom false true b ≡ present
+          flagged true a =
+              let d = any-at n _ a in
+              absurd (false≢true (ap isDirty (sym e) ∙ ap (λ (j : ℕ). isDirty (states j)) (sym (one (d .0) k (d .1) l (dirty-true _ (d .2)) (ap isHeld e))) ∙ d .2))
+          flagged false a = refl
+      go dirty e = ap (stateFrom false true) (any-of n (λ j. isDirty (states j)) k l (ap isDirty e))
+      go stale e = refl
+
+pub decode-encode : DecodeEncode
+unfolding encode stateOf
+decode-encode n states one = (
+  kept n (encode n states) (encode-keeps n states one),
+  λ k l.
+      (λ i. stateFrom (bit-maskOf n (λ j. isStale (states j)) k l i) (bit-maskOf n (λ j. isHeld (states j)) k l i) (eqb-digit (any n (λ j. isDirty (states j))) i))
+      ∙ decoded n states one k l,
+)

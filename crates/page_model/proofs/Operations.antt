@@ -1,0 +1,100 @@
+-- The operations of a step: there are few, the answer has them all, and each is on a colour below n.
+use mathlib.Core.Path.{_≡_, refl, sym, _∙_, subst}
+use mathlib.Core.Bool.{Bool, true, _&&_}
+use mathlib.Core.List.{List, [], _∷_, _++_, map, List·Memᴰ, List·Memᴰ·head, List·Memᴰ·tail, List·Memᴰ·append-cases, Memᴰ·of-map}
+use mathlib.Core.Logic.{⊎-elim}
+use Prim.Native.Nat.{ℕ, _≤_, _<_}
+use native.Mathlib.Omega.{arith}
+use borrow.Author.Tests.{eqb-true}
+use lib.Count.{trailingZeros}
+use lib.Dec.{eqb}
+use lib.ListN.{length, length-append, length-map}
+use Rattle.bits.specs.Mask.{placesOf}
+use Rattle.bits.proofs.Mask.{places-at, places-few}
+use Rattle.bits.proofs.Tautology.{and-right}
+use Rattle.page_model.specs.declared.FrameRecord.{FrameRecord}
+use Rattle.page_model.specs.declared.Op.{Op}
+use Rattle.page_model.specs.declared.Op.the-variants.{Flush, Purge}
+use Rattle.page_model.specs.Step.{isFlush, isPurge, cellOf, operations, opList, firstTwo, OpBelow}
+use Rattle.page_model.specs.Table.{Operation, Step, read, write, deviceRead, deviceWrite}
+use Rattle.page_model.specs.Theorems.{FewOperations, OpsComplete, OperationsBelow}
+use Rattle.page_model.proofs.Rules.{Keeps, keeps, flag, dirty-at}
+use Rattle.page_model.proofs.Cells.{Test, Agree, apart, operationTest, ownOf, at, kept-operation}
+
+-- the colours on which a step has an operation that f picks
+abbrev placesWith : ℕ → Step → FrameRecord → (Operation → Bool) → List ℕ
+placesWith n step r f = placesOf n (λ k. f (cellOf step r k .operation))
+
+-- ---- there are few
+
+module _ (n : ℕ) (r : FrameRecord) (kr : Keeps n r) where
+  module _ (step : Step) (f : Operation → Bool) where
+    -- if only colours of which q holds have one, and q holds of c alone
+    few : (q : Test) (c : ℕ) → ((k : ℕ) → at r (ownOf step) k q ≡ true → eqb c k ≡ true)
+        → Agree apart (λ o s h d. operationTest step f o s h d && q o s h d) (operationTest step f) → length (placesWith n step r f) ≤ 1
+    few q c only a = places-few n _ (λ j k lj lk ej ek. sym (at-c j lj ej) ∙ at-c k lk ek)
+      where
+        at-c : (k : ℕ) → k < n → f (cellOf step r k .operation) ≡ true → c ≡ k
+        at-c k l e =
+            eqb-true c k
+            (only k (and-right (at r (ownOf step) k (operationTest step f)) _ (kept-operation n r kr step f (λ o s h d. operationTest step f o s h d && q o s h d) a k l ∙ e)))
+
+    on-dirty : Agree apart (λ o s h d. operationTest step f o s h d && (d && h)) (operationTest step f) → length (placesWith n step r f) ≤ 1
+    on-dirty = few (λ o s h d. d && h) (trailingZeros n (r .held)) (λ k e. and-right (flag r) _ (sym (dirty-at n r kr k) ∙ e))
+
+    on-own : Agree apart (λ o s h d. operationTest step f o s h d && o) (operationTest step f) → length (placesWith n step r f) ≤ 1
+    on-own = few (λ o s h d. o) (ownOf step) (λ k e. e)
+
+  few-flushes : (step : Step) → length (placesWith n step r isFlush) ≤ 1
+  few-flushes (read c) = on-dirty (read c) isFlush refl
+  few-flushes (write c) = on-dirty (write c) isFlush refl
+  few-flushes deviceRead = on-dirty deviceRead isFlush refl
+  few-flushes deviceWrite = on-dirty deviceWrite isFlush refl
+
+  few-purges : (step : Step) → length (placesWith n step r isPurge) ≤ 1
+  few-purges (read c) = on-own (read c) isPurge refl
+  few-purges (write c) = on-own (write c) isPurge refl
+  few-purges deviceRead = on-dirty deviceRead isPurge refl
+  few-purges deviceWrite = on-dirty deviceWrite isPurge refl
+
+pub few-operations : FewOperations
+unfolding operations
+few-operations n step r e =
+    let kr = keeps n r e in
+    let f = few-flushes n r kr step in
+    let p = few-purges n r kr step in (simp (length-append, length-map) (omega arith), placesWith n step r isFlush, placesWith n step r isPurge, refl)
+
+-- ---- the answer has them all
+
+complete : (a b : List ℕ) → length a ≤ 1 → length b ≤ 1
+    → opList (firstTwo (map Flush a ++ map Purge b) .first) ++ opList (firstTwo (map Flush a ++ map Purge b) .second) ≡ map Flush a ++ map Purge b
+complete [] [] la lb = refl
+complete [] (d ∷ []) la lb = refl
+complete (c ∷ []) [] la lb = refl
+complete (c ∷ []) (d ∷ []) la lb = refl
+complete (c ∷ (x ∷ l)) b la lb = absurd (omega arith)
+complete [] (d ∷ (x ∷ l)) la lb = absurd (omega arith)
+complete (c ∷ []) (d ∷ (x ∷ l)) la lb = absurd (omega arith)
+
+pub ops-complete : OpsComplete
+unfolding operations
+ops-complete n step r e = let kr = keeps n r e in complete (placesWith n step r isFlush) (placesWith n step r isPurge) (few-flushes n r kr step) (few-purges n r kr step)
+
+-- ---- each is on a colour below n
+
+two-below : (n : ℕ) (l : List Op) → ((o : Op) → List·Memᴰ o l → OpBelow n o) → OpBelow n (firstTwo l .first) × OpBelow n (firstTwo l .second)
+two-below n [] h = (tt, tt)
+two-below n (a ∷ []) h = (h a (List·Memᴰ·head refl), tt)
+two-below n (a ∷ (b ∷ l)) h = (h a (List·Memᴰ·head refl), h b (List·Memᴰ·tail (List·Memᴰ·head refl)))
+
+below : (n : ℕ) (op : ℕ → Op) (p : ℕ → Bool) → ((c : ℕ) → c < n → OpBelow n (op c)) → (o : Op) → List·Memᴰ o (map op (placesOf n p)) → OpBelow n o
+below n op p h o m =
+    let c = Memᴰ·of-map op (placesOf n p) m in
+    subst (OpBelow n) (c .2) (h (c .0) (places-at n p (c .0) (c .1) .0))
+
+pub operations-below : OperationsBelow
+unfolding operations
+operations-below n step r =
+    let each : (o : Op) → List·Memᴰ o (operations n step r) → OpBelow n o
+    = λ o m. ⊎-elim (below n Flush _ (λ c l. l) o) (below n Purge _ (λ c l. l) o) (List·Memᴰ·append-cases _ m) in
+    let two = two-below n _ each in (each, two .0, two .1)

@@ -1,0 +1,36 @@
+-- An access has no operation and alters nothing exactly if its colour's state lets it pass.
+use mathlib.Core.Path.{_≡_, refl, sym, ap, _∙_}
+use mathlib.Core.Bool.{Bool, true}
+use Prim.Native.Nat.{ℕ, _<_}
+use borrow.Author.Tests.{eq-eqb}
+use Rattle.page_model.specs.declared.FrameRecord.{FrameRecord}
+use Rattle.page_model.specs.Record.{stateOf, keepsRules, isDirty}
+use Rattle.page_model.specs.Step.{recordAfter}
+use Rattle.page_model.specs.Table.{ColourState, own, Cell, Step, read, write, roleIf}
+use Rattle.page_model.specs.Theorems.{passesRead, passesWrite, ReadPasses, WritePasses}
+use Rattle.page_model.proofs.Rules.{keeps}
+use Rattle.page_model.proofs.Cells.{stateTest, rowOf, ownOf, row-cell, at-law, each-state}
+use Rattle.page_model.proofs.Steps.{read-idle, write-idle}
+use Rattle.page_model.proofs.After.{state-after}
+
+-- an access that alters nothing passes, if what it makes of its own colour lets it pass
+idle-passes : (n : ℕ) (step : Step) (r : FrameRecord) (passes : ColourState → Bool) → ownOf step < n → keepsRules n r ≡ true
+    → ((s : ColourState) → passes (rowOf step own s .next) ≡ true) → recordAfter n step r ≡ r → passes (stateOf r (ownOf step)) ≡ true
+idle-passes n step r passes l e own-next same =
+    let c = ownOf step in
+    let cell = row-cell step r c ∙ ap (λ (b : Bool). rowOf step (roleIf b) (stateOf r c)) (eq-eqb c c refl) in
+    ap passes (sym (ap (λ (x : FrameRecord). stateOf x c) same) ∙ state-after n step r e c l ∙ ap (λ (x : Cell). x .next) cell) ∙ own-next (stateOf r c)
+
+pub read-passes : ReadPasses
+unfolding stateOf
+read-passes n c r lc e = (
+  λ z. read-idle n r (keeps n r e) c lc (at-law r 0 c (stateTest passesRead) (λ o s h d. h) (λ o s h d. true) refl z),
+  λ idle. idle-passes n (read c) r passesRead lc e (each-state _ refl) (idle .1),
+)
+
+pub write-passes : WritePasses
+unfolding stateOf
+write-passes n c r lc e = (
+  λ z. write-idle n r (keeps n r e) c lc (at-law r 0 c (stateTest passesWrite) (stateTest isDirty) (λ o s h d. true) refl z),
+  λ idle. idle-passes n (write c) r passesWrite lc e (each-state _ refl) (idle .1),
+)
