@@ -1,7 +1,9 @@
 -- The page model's laws and theorems.
 pub mod Rules
 pub mod Cells
+pub mod Build
 pub mod Steps
+pub mod Idle
 pub mod Start
 pub mod Encoding
 pub mod After

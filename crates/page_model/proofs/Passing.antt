@@ -10,7 +10,7 @@ use Rattle.page_model.specs.Table.{ColourState, own, Cell, Step, read, w
 use Rattle.page_model.specs.Theorems.{passesRead, passesWrite, ReadPasses, WritePasses}
 use Rattle.page_model.proofs.Rules.{keeps}
 use Rattle.page_model.proofs.Cells.{stateTest, rowOf, ownOf, row-cell, at-law, each-state}
-use Rattle.page_model.proofs.Steps.{read-idle, write-idle}
+use Rattle.page_model.proofs.Idle.{read-idle, write-idle}
 use Rattle.page_model.proofs.After.{state-after}
 
 -- an access that alters nothing passes, if what it makes of its own colour lets it pass

@@ -6,7 +6,7 @@ use Rattle.page_model.proofs.FrameRecord.dirty_colour.Statement.{statem
 use Rattle.page_model.proofs.FrameRecord.dirty_colour.Tie as tie
 
 cast-result : tie.Need-cast-result
-cast-result c = fits-le (trailing-le 8 _) (fits-lit tt)
+cast-result c = fits-le (trailing-le _ _) (fits-lit tt)
 
 returns : tie.Need-returns
 returns c = search needs

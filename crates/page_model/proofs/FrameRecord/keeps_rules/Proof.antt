@@ -12,16 +12,16 @@ two-up : {d : ℕ} → (d ≡ 0 → ⊥) → (d ≡ 1 → ⊥) → 1 < d
 two-up {d} h l = omega arith
 
 returns : tie.Need-returns
-returns c = sym (rules-are 8 _ (search needs) (search needs) ∙ rw (ne-eqb _ _ (c .if1 .taken)))
+returns c = sym (rules-are _ _ (search needs) (search needs) ∙ rw (ne-eqb _ _ (c .if1 .taken)))
 
 returns-2 : tie.Need-returns-2
-returns-2 c = sym (rules-are 8 _ (search needs) (search needs) ∙ rw (eq-eqb _ _ (c .before .before .if1 .left), c .if2 .taken))
+returns-2 c = sym (rules-are _ _ (search needs) (search needs) ∙ rw (eq-eqb _ _ (c .before .before .if1 .left), c .if2 .taken))
 
 returns-3 : tie.Need-returns-3
-returns-3 c = sym (rules-are 8 _ (search needs) (search needs) ∙ rw (eq-eqb _ _ (c .before .before .before .before .before .if1 .left), c .before .if3 .taken))
+returns-3 c = sym (rules-are _ _ (search needs) (search needs) ∙ rw (eq-eqb _ _ (c .before .before .before .before .before .if1 .left), c .before .if3 .taken))
 
 returns-4 : tie.Need-returns-4
-returns-4 c = ne-eqb _ _ (c .if3 .left) ∙ sym (rules-are 8 _ (search needs) (search needs) ∙ rw (eq-eqb _ _ (c .before .before .before .before .if1 .left), lt-leb _ _ (two-up (c .before .before .if2 .left) (c .if3 .left))))
+returns-4 c = ne-eqb _ _ (c .if3 .left) ∙ sym (rules-are _ _ (search needs) (search needs) ∙ rw (eq-eqb _ _ (c .before .before .before .before .if1 .left), lt-leb _ _ (two-up (c .before .before .if2 .left) (c .if3 .left))))
 
 pub keeps-rules-spec : {M : Type 1} → statement M
 keeps-rules-spec = tie.close (tie.spec returns returns-2 returns-3 returns-4)

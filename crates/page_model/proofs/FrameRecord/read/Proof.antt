@@ -1,7 +1,9 @@
 -- `page_model::FrameRecord::read` meets its contract.
 use mathlib.Core.Path.{sym, _∙_}
 use Rattle.page_model.proofs.Rules.{keeps}
-use Rattle.page_model.proofs.Steps.{idle-step, read-idle, read-step}
+use Rattle.page_model.proofs.Build.{idle-step}
+use Rattle.page_model.proofs.Idle.{read-idle}
+use Rattle.page_model.proofs.Steps.{read-step}
 use borrow.Author.Needs.{needs}
 use Rattle.page_model.proofs.FrameRecord.read.Statement.{statement}
 use Rattle.page_model.proofs.FrameRecord.read.Tie as tie
@@ -15,7 +17,7 @@ unchanged-requires c κs = search needs
 returns : tie.Need-returns
 returns c =
     let s = c .before .before .before in
-    c .unchanged .ensures ∙ idle-step 8 _ _ (read-idle 8 _ (keeps 8 _ (s .pre .0)) _ (s .pre .1) (sym (c .before .before .bit .ensures) ∙ c .before .if1 .taken))
+    c .unchanged .ensures ∙ idle-step _ _ _ (read-idle _ _ (keeps _ _ (s .pre .0)) _ (s .pre .1) (sym (c .before .before .bit .ensures) ∙ c .before .if1 .taken))
 
 dirty-colour-requires : tie.Need-dirty-colour-requires
 dirty-colour-requires c κs = search needs
@@ -50,7 +52,7 @@ returns-2 c =
     c .to .ensures
     ∙ simp
     (at-without .without-bit .ensures, at-without .before .with-bit .ensures, at-present .present .ensures, at-purge .purge-stale .ensures, at-if .if-dirty .ensures, at-colour .dirty-colour .ensures)
-    (read-step 8 _ (keeps 8 _ (s .pre .0)) _ (s .pre .1) (sym (at-else .before .bit .ensures) ∙ at-else .if1 .left))
+    (read-step _ _ (keeps _ _ (s .pre .0)) _ (s .pre .1) (sym (at-else .before .bit .ensures) ∙ at-else .if1 .left))
 
 pub read-spec : {M : Type 1} → statement M
 read-spec =

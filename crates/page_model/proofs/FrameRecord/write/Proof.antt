@@ -2,7 +2,9 @@
 use mathlib.Core.Path.{sym, _∙_}
 use borrow.Author.Needs.{needs}
 use Rattle.page_model.proofs.Rules.{keeps}
-use Rattle.page_model.proofs.Steps.{idle-step, write-idle, write-step}
+use Rattle.page_model.proofs.Build.{idle-step}
+use Rattle.page_model.proofs.Idle.{write-idle}
+use Rattle.page_model.proofs.Steps.{write-step}
 use Rattle.page_model.proofs.FrameRecord.write.Statement.{statement}
 use Rattle.page_model.proofs.FrameRecord.write.Tie as tie
 
@@ -15,7 +17,7 @@ unchanged-requires c κs = search needs
 returns : tie.Need-returns
 returns c =
     let s = c .before .before .before in
-    c .unchanged .ensures ∙ idle-step 8 _ _ (write-idle 8 _ (keeps 8 _ (s .pre .0)) _ (s .pre .1) (sym (c .before .before .holds-dirty .ensures) ∙ c .before .if1 .taken))
+    c .unchanged .ensures ∙ idle-step _ _ _ (write-idle _ _ (keeps _ _ (s .pre .0)) _ (s .pre .1) (sym (c .before .before .holds-dirty .ensures) ∙ c .before .if1 .taken))
 
 dirty-colour-requires : tie.Need-dirty-colour-requires
 dirty-colour-requires c κs = search needs
@@ -51,7 +53,7 @@ returns-2 c =
     c .to .ensures
     ∙ simp
     (at-without .without-bit .ensures, at-present .present .ensures, at-with .with-bit .ensures, at-purge .purge-stale .ensures, at-if .if-dirty .ensures, at-colour .dirty-colour .ensures)
-    (write-step 8 _ (keeps 8 _ (s .pre .0)) _ (s .pre .1) (sym (at-else .before .holds-dirty .ensures) ∙ at-else .if1 .left))
+    (write-step _ _ (keeps _ _ (s .pre .0)) _ (s .pre .1) (sym (at-else .before .holds-dirty .ensures) ∙ at-else .if1 .left))
 
 pub write-spec : {M : Type 1} → statement M
 write-spec =

@@ -1,0 +1,65 @@
+-- An access through a colour that lets it pass changes nothing.
+use mathlib.Core.Path.{_≡_, refl, sym, ap, ap₂, _∙_}
+use mathlib.Core.Bool.{Bool, true, false, _&&_, Bool·beq}
+use mathlib.Core.List.{_++_}
+use Prim.Native.Nat.{ℕ, _<_}
+use borrow.Author.Tests.{eqb-true}
+use lib.Count.{trailingZeros}
+use lib.Dec.{eqb}
+use Rattle.bits.specs.Mask.{bit, digit}
+use Rattle.bits.proofs.Mask.{bit-one, at-place, any-one}
+use Rattle.bits.proofs.Tautology.{beq-of, and-left, and-right}
+use Rattle.page_model.specs.declared.FrameRecord.{FrameRecord}
+use Rattle.page_model.specs.declared.Op.the-variants.{Flush, Purge}
+use Rattle.page_model.specs.Record.{stateOf, isHeld, isDirty, isStale}
+use Rattle.page_model.specs.Step.{isFlush, isPurge, operations}
+use Rattle.page_model.specs.Table.{Step, read, write}
+use Rattle.page_model.specs.Theorems.{Idle}
+use Rattle.page_model.proofs.Rules.{Keeps, flag, flag-digit, dirty-only}
+use Rattle.page_model.proofs.Cells.{Test, Agree, apart, nextTest, operationTest, ownOf, at, next-law, operation-law, kept-state}
+use Rattle.page_model.proofs.Build.{record-is, no-operation}
+
+module _ (n : ℕ) (r : FrameRecord) (kr : Keeps n r) (c : ℕ) (lc : c < n) where
+  -- a colour that is held is the dirty one, if one is
+  own-dirty : bit (r .held) c ≡ true → (k : ℕ) → (flag r && bit (r .held) k) ≡ (flag r && eqb c k)
+  own-dirty z k = go (flag r) refl
+    where
+      go : (b : Bool) → flag r ≡ b → (b && bit (r .held) k) ≡ (b && eqb c k)
+      go true e =
+          let only = dirty-only n r kr e .1 in
+          let own = eqb-true (trailingZeros n (r .held)) c (sym (bit-one _ c) ∙ ap (λ (m : ℕ). bit m c) (sym only) ∙ z) in
+          ap (λ (m : ℕ). bit m k) only ∙ bit-one _ k ∙ ap (λ (d : ℕ). eqb d k) own
+      go false e = refl
+
+  -- the tests of a colour where c is held
+  abbrev ownHeld : Test
+  ownHeld o s h d = apart o s h d && Bool·beq (o && h) o && Bool·beq (d && h) (d && o)
+
+  own-held : bit (r .held) c ≡ true → (k : ℕ) → k < n → at r c k ownHeld ≡ true
+  own-held z k l =
+      ap₂ _&&_ (ap₂ _&&_ (kr .apart k l) (beq-of _ _ (at-place (bit (r .held)) c k ∙ ap (λ (b : Bool). b && eqb c k) z))) (beq-of _ _ (own-dirty z k))
+
+  -- a row that keeps the states of colours of which given holds, where c is held
+  idle-of : (step : Step) (given : Test) → ownOf step < n → (holds : (k : ℕ) → k < n → at r (ownOf step) k given ≡ true)
+      → Agree given (λ o s h d. h) (nextTest step isHeld)
+      → Agree given (λ o s h d. s) (nextTest step isStale)
+      → Agree given (λ o s h d. d && o) (nextTest step isDirty)
+      → Agree given (λ o s h d. false) (operationTest step isFlush)
+      → Agree given (λ o s h d. false) (operationTest step isPurge)
+      → Idle n step r
+  unfolding operations
+  idle-of step given lo holds eh es ed ef ep =
+      let next = next-law n r step given holds in
+      let operation = operation-law n r step given holds in (
+        sym (ap₂ _++_ (no-operation n Flush _ (operation isFlush (λ o s h d. false) ef)) (no-operation n Purge _ (operation isPurge (λ o s h d. false) ep))),
+        sym (record-is n step r (kr .held-lt) (kr .stale-lt) (next isHeld (λ o s h d. h) eh) (next isStale (λ o s h d. s) es)
+            (flag-digit (kr .flag-le) ∙ ap digit (sym (any-one n (ownOf step) (flag r) _ lo (λ k l. sym (next isDirty (λ o s h d. d && o) ed k l)))))),
+      )
+
+  pub read-idle : bit (r .held) c ≡ true → Idle n (read c) r
+  read-idle z = idle-of (read c) ownHeld lc (own-held z) refl refl refl refl refl
+
+  pub write-idle : isDirty (stateOf r c) ≡ true → Idle n (write c) r
+  write-idle z =
+      let both = kept-state n r kr isDirty (λ o s h d. d && h) refl c lc ∙ z in
+      idle-of (write c) (λ o s h d. ownHeld o s h d && d) lc (λ k l. ap₂ _&&_ (own-held (and-right (flag r) _ both) k l) (and-left (flag r) _ both)) refl refl refl refl refl
