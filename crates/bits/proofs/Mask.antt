@@ -94,27 +94,30 @@ ones-bits (suc n) m h =
 
 -- ---- bit k of an and, an or, a complement, a shift of one
 
--- what holds of two binary digits written out holds of any two
-two-digits : (P : ℕ → ℕ → Type 0) → P 0 0 → P 0 1 → P 1 0 → P 1 1 → (x y : ℕ) → x < 2 → y < 2 → P x y
-two-digits P a b c d zero zero h l = a
-two-digits P a b c d zero (suc zero) h l = b
-two-digits P a b c d (suc zero) zero h l = c
-two-digits P a b c d (suc zero) (suc zero) h l = d
-two-digits P a b c d (suc (suc x)) y h l = absurd (omega arith)
-two-digits P a b c d zero (suc (suc y)) h l = absurd (omega arith)
-two-digits P a b c d (suc zero) (suc (suc y)) h l = absurd (omega arith)
+-- an operation that works on each binary digit works on each bit
+module _ (op : ℕ → ℕ → ℕ) (f : Bool → Bool → Bool) where
+  abbrev Digits : ℕ → ℕ → Type 0
+  Digits x y = eqb (op x y) 1 ≡ f (eqb x 1) (eqb y 1)
+
+  two-digits : Digits 0 0 → Digits 0 1 → Digits 1 0 → Digits 1 1 → (x y : ℕ) → x < 2 → y < 2 → Digits x y
+  two-digits a b c d zero zero h l = a
+  two-digits a b c d zero (suc zero) h l = b
+  two-digits a b c d (suc zero) zero h l = c
+  two-digits a b c d (suc zero) (suc zero) h l = d
+  two-digits a b c d (suc (suc x)) y h l = absurd (omega arith)
+  two-digits a b c d zero (suc (suc y)) h l = absurd (omega arith)
+  two-digits a b c d (suc zero) (suc (suc y)) h l = absurd (omega arith)
+
+  bit-op : ((a b k : ℕ) → op a b / 2 ^ k ≡ op (a / 2 ^ k) (b / 2 ^ k)) → ((a b k : ℕ) → op a b % 2 ^ k ≡ op (a % 2 ^ k) (b % 2 ^ k))
+      → Digits 0 0 → Digits 0 1 → Digits 1 0 → Digits 1 1 → (a b k : ℕ) → bit (op a b) k ≡ f (bit a k) (bit b k)
+  unfolding bit
+  bit-op shr low none right left both a b k = rw (shr, low _ _ 1) (two-digits none right left both _ _ (omega arith) (omega arith))
 
 pub bit-and : (a b k : ℕ) → bit (bitAnd a b) k ≡ (bit a k && bit b k)
-unfolding bit
-bit-and a b k =
-    ap (λ (x : ℕ). eqb (x % 2) 1) (and-shr a b k) ∙ ap (λ (x : ℕ). eqb x 1) (and-mod (a / 2 ^ k) (b / 2 ^ k) 1)
-    ∙ two-digits (λ x y. eqb (bitAnd x y) 1 ≡ (eqb x 1 && eqb y 1)) refl refl refl refl (a / 2 ^ k % 2) (b / 2 ^ k % 2) (omega arith) (omega arith)
+bit-and = bit-op bitAnd _&&_ and-shr and-mod refl refl refl refl
 
 pub bit-or : (a b k : ℕ) → bit (bitOr a b) k ≡ (bit a k || bit b k)
-unfolding bit
-bit-or a b k =
-    ap (λ (x : ℕ). eqb (x % 2) 1) (or-shr a b k) ∙ ap (λ (x : ℕ). eqb x 1) (or-mod (a / 2 ^ k) (b / 2 ^ k) 1)
-    ∙ two-digits (λ x y. eqb (bitOr x y) 1 ≡ (eqb x 1 || eqb y 1)) refl refl refl refl (a / 2 ^ k % 2) (b / 2 ^ k % 2) (omega arith) (omega arith)
+bit-or = bit-op bitOr _||_ or-shr or-mod refl refl refl refl
 
 not-digit : (x y : ℕ) → x + y ≡ 1 → eqb x 1 ≡ not (eqb y 1)
 not-digit zero y e = let f : y ≡ 1 = omega arith in rw f
@@ -154,12 +157,11 @@ bit-one (suc j) (suc k) =
 
 pub bit-with : (m j k : ℕ) → bit (withBit m j) k ≡ (bit m k || eqb j k)
 unfolding withBit
-bit-with m j k = bit-or m (2 ^ j) k ∙ ap (λ (b : Bool). bit m k || b) (bit-one j k)
+bit-with m j k = rw (bit-or, bit-one)
 
 pub bit-without : (n m j k : ℕ) → j < n → k < n → bit (withoutBit n m j) k ≡ (bit m k && not (eqb j k))
 unfolding withoutBit
-bit-without n m j k lj lk =
-    bit-and m (2 ^ n - 1 - 2 ^ j) k ∙ ap (λ (b : Bool). bit m k && b) (bit-not n (2 ^ j) k (pow-lt lj) lk ∙ ap not (bit-one j k))
+bit-without n m j k lj lk = let fits = pow-lt lj in rw (bit-and, bit-not, bit-one)
 
 pub with-lt : (n m j : ℕ) → m < 2 ^ n → j < n → withBit m j < 2 ^ n
 unfolding withBit
