@@ -64,10 +64,10 @@ unfolding maskOf
 bit-maskOf zero p k h = absurd (omega arith)
 bit-maskOf (suc n) p zero h =
     let low : (digit (p 0) + 2 * maskOf n (λ j. p (suc j))) % 2 ≡ digit (p 0) = omega (arith, digit-lt (p 0)) in
-    bit-zero _ ∙ ap (λ (x : ℕ). eqb x 1) low ∙ eqb-digit (p 0)
+    rw (bit-zero, low, eqb-digit)
 bit-maskOf (suc n) p (suc k) h =
     let rest : (digit (p 0) + 2 * maskOf n (λ j. p (suc j))) / 2 ≡ maskOf n (λ j. p (suc j)) = omega (arith, digit-lt (p 0)) in
-    bit-suc _ k ∙ ap (λ (x : ℕ). bit x k) rest ∙ bit-maskOf n (λ j. p (suc j)) k (omega arith)
+    rw (bit-suc, rest) (bit-maskOf n (λ j. p (suc j)) k (omega arith))
 
 -- a mask below 2 ^ n is the mask of its own bits
 pub maskOf-bit : (n m : ℕ) → m < 2 ^ n → maskOf n (bit m) ≡ m
@@ -129,11 +129,11 @@ pub bit-not : (n a k : ℕ) → a < 2 ^ n → k < n → bit (2 ^ n - 1 - a) k �
 bit-not zero a k h l = absurd (omega arith)
 bit-not (suc n) a zero h l =
     let e : 2 ^ suc n ≡ 2 ^ n * 2 = pow-suc 2 n in
-    bit-zero _ ∙ not-digit ((2 ^ suc n - 1 - a) % 2) (a % 2) (omega arith) ∙ sym (ap not (bit-zero a))
+    simp bit-zero (not-digit ((2 ^ suc n - 1 - a) % 2) (a % 2) (omega arith))
 bit-not (suc n) a (suc k) h l =
     let e : 2 ^ suc n ≡ 2 ^ n * 2 = pow-suc 2 n in
     let half : (2 ^ suc n - 1 - a) / 2 ≡ 2 ^ n - 1 - a / 2 = omega arith in
-    bit-suc _ k ∙ ap (λ (x : ℕ). bit x k) half ∙ bit-not n (a / 2) k (half-lt n h) (omega arith) ∙ sym (ap not (bit-suc a k))
+    simp (bit-suc, half) (bit-not n (a / 2) k (half-lt n h) (omega arith))
 
 pub bit-none : (k : ℕ) → bit 0 k ≡ false
 unfolding bit
@@ -145,13 +145,13 @@ one-shl w k h = ap (λ (x : ℕ). x % 2 ^ w) (one-mul (2 ^ k)) ∙ mod-eq-of-lt 
 
 pub bit-one : (j k : ℕ) → bit (2 ^ j) k ≡ eqb j k
 bit-one zero zero = bit-zero 1
-bit-one zero (suc k) = bit-suc 1 k ∙ bit-none k ∙ sym (eqb·zero-suc k)
+bit-one zero (suc k) = rw (bit-suc, bit-none, eqb·zero-suc)
 bit-one (suc j) zero =
     let even : 2 ^ suc j % 2 ≡ 0 = omega (arith, pow-suc 2 j) in
-    bit-zero _ ∙ ap (λ (x : ℕ). eqb x 1) even ∙ sym (eqb·suc-zero j)
+    rw (bit-zero, even, eqb·suc-zero)
 bit-one (suc j) (suc k) =
     let half : 2 ^ suc j / 2 ≡ 2 ^ j = omega (arith, pow-suc 2 j) in
-    bit-suc _ k ∙ ap (λ (x : ℕ). bit x k) half ∙ bit-one j k ∙ sym (eqb·suc-suc j k)
+    rw (bit-suc, half, eqb·suc-suc) (bit-one j k)
 
 -- ---- a bit set, a bit cleared
 

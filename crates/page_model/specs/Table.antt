@@ -3,7 +3,6 @@ use mathlib.Core.Bool.{Bool, true, false}
 use Prim.Native.Nat.{ℕ}
 use lib.Dec.{eqb}
 
-infix 30 _⇒_
 -- The state of one colour of a frame. Document 01 calls present "held".
 pub data ColourState : Type 0 where
   empty present dirty stale : ColourState
@@ -17,6 +16,7 @@ pub record Cell : Type 0 where
   pub operation : Operation
   pub next : ColourState
 
+infix 30 _⇒_
 abbrev pub _⇒_ : Operation → ColourState → Cell
 o ⇒ s = record { operation = o; next = s }
 
