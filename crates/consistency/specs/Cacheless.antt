@@ -1,0 +1,45 @@
+-- Document 01, "The cacheless memory": what memory would hold if there were no cache, fed each call and whether it was refused.
+use mathlib.Core.Bool.{Bool, true, false, cond, _&&_}
+use mathlib.Core.List.{List}
+use mathlib.Core.Option.{Option, none, some}
+use Prim.Native.Nat.{ℕ}
+use lib.Dec.{eqb}
+use lib.ListN.{getD}
+use Rattle.board.specs.Board.{Board, memoryAt}
+use Rattle.machine.specs.State.{Call, map, unmap, read, write, deviceRead, deviceWrite, evict}
+
+-- a word for each frame and offset, and for each space and page a frame or none
+pub record Cacheless : Type 0 where
+  pub word : ℕ → ℕ → ℕ
+  pub frame : ℕ → ℕ → Option ℕ
+
+abbrev pub cacheless : (ℕ → ℕ → ℕ) → (ℕ → ℕ → Option ℕ) → Cacheless
+cacheless word frame = record { word = word; frame = frame }
+
+-- at the start the words of the lent memory, and no frame
+unfoldable pub start : Board → List ℕ → Cacheless
+start b memory = cacheless (λ f o. getD memory (memoryAt b f o) 0) (λ space page. none)
+
+-- a function of two numbers with one value replaced
+abbrev pub replaced {ℓ} : {A : Type ℓ} → (ℕ → ℕ → A) → ℕ → ℕ → A → ℕ → ℕ → A
+replaced g i j a x y = cond (eqb i x && eqb j y) a (g x y)
+
+-- words with one of them replaced, in the frame of a page if it has one
+abbrev pub stored : (ℕ → ℕ → ℕ) → Option ℕ → ℕ → ℕ → ℕ → ℕ → ℕ
+stored word none offset v = word
+stored word (some f) offset v = replaced word f offset v
+
+-- what an accepted call makes of it
+unfoldable pub accepted : Cacheless → Call → Cacheless
+accepted m (map space page frame rights) = cacheless (m .word) (replaced (m .frame) space page (some frame))
+accepted m (unmap space page) = cacheless (m .word) (replaced (m .frame) space page none)
+accepted m (read space page offset) = m
+accepted m (write space page offset word) = cacheless (stored (m .word) (m .frame space page) offset word) (m .frame)
+accepted m (deviceRead frame buffer) = m
+accepted m (deviceWrite frame buffer) = cacheless (λ f o. cond (eqb frame f) (getD buffer o 0) (m .word f o)) (m .frame)
+accepted m (evict line) = m
+
+-- a refused call changes nothing
+abbrev pub after : Cacheless → Call → Bool → Cacheless
+after m call true = m
+after m call false = accepted m call

@@ -1,0 +1,95 @@
+-- Demand 3: over any list of calls from the start, every accepted read finds what memory without a cache would give, and once every line
+-- has been turned out memory equals that memory word for word. Over any board whose line divides its page.
+use mathlib.Core.Bool.{Bool, true, false, not}
+use mathlib.Core.List.{List, [], _∷_}
+use mathlib.Core.Logic.{_⊎_}
+use mathlib.Core.Option.{Option, none, some}
+use mathlib.Core.Path.{_≡_}
+use Prim.Native.Nat.{ℕ, _*_, _<_}
+use lib.Dec.{eqb}
+use lib.ListN.{length, replicate}
+use Rattle.board.specs.Board.{Board, Regular, memoryWords, cacheWords, lines}
+use Rattle.mapping.specs.Change.{empty}
+use Rattle.mapping.specs.Entry.{capacity}
+use Rattle.manager.specs.Tables.{tables, tabulate, recordBytes}
+use Rattle.cache.specs.Store.{store, memoryWord}
+use Rattle.machine.specs.State.{State, state, Call, map, unmap, read, write, deviceRead, deviceWrite, evict, Answer}
+use Rattle.machine.specs.Step.{step}
+use Rattle.consistency.specs.Cacheless.{Cacheless, start, after}
+
+-- ---- the start: empty list, page states and cache, whatever words memory, cache and protections hold
+
+abbrev pub startState : Board → List ℕ → List ℕ → List ℕ → State
+startState b memory words protections =
+    state (tables empty (replicate (b .frames * recordBytes) 0) protections) (store memory words (replicate (lines b) 0))
+
+-- ---- what an accepted read must find
+
+abbrev pub isRefused : Answer → Bool
+isRefused a = not (eqb (a .outcome .number) 0)
+
+-- the word at an offset of the page's frame
+abbrev pub wordOf : Cacheless → Option ℕ → ℕ → Option ℕ
+wordOf m none offset = none
+wordOf m (some f) offset = some (m .word f offset)
+
+abbrev pub Finds : Board → Cacheless → Call → Answer → Type 0
+Finds b m (map space page frame rights) a = Unit {0}
+Finds b m (unmap space page) a = Unit {0}
+Finds b m (read space page offset) a = a .word ≡ wordOf m (m .frame space page) offset
+Finds b m (write space page offset word) a = Unit {0}
+Finds b m (deviceRead frame buffer) a = a .buffer ≡ tabulate (b .pageWords) (m .word frame)
+Finds b m (deviceWrite frame buffer) a = Unit {0}
+Finds b m (evict line) a = Unit {0}
+
+-- ---- a list of calls, with the cacheless memory beside it
+
+-- every accepted read of the list finds its words
+abbrev pub AllFind : Board → State → Cacheless → List Call → Type 0
+AllFind b st m [] = Unit {0}
+AllFind b st m (call ∷ calls) =
+    (isRefused (step b st call .answer) ≡ false → Finds b m call (step b st call .answer))
+    × AllFind b (step b st call .after) (after m call (isRefused (step b st call .answer))) calls
+
+abbrev pub stateAfter : Board → State → List Call → State
+stateAfter b st [] = st
+stateAfter b st (call ∷ calls) = stateAfter b (step b st call .after) calls
+
+abbrev pub cachelessAfter : Board → State → Cacheless → List Call → Cacheless
+cachelessAfter b st m [] = m
+cachelessAfter b st m (call ∷ calls) = cachelessAfter b (step b st call .after) (after m call (isRefused (step b st call .answer))) calls
+
+-- ---- turning out lines
+
+abbrev pub evictions : List ℕ → List Call
+evictions [] = []
+evictions (n ∷ ns) = evict n ∷ evictions ns
+
+-- n stands in the list
+abbrev pub Occurs : ℕ → List ℕ → Type 0
+Occurs n [] = ⊥
+Occurs n (m ∷ ms) = (n ≡ m) ⊎ Occurs n ms
+
+-- none is refused
+abbrev pub NoneRefused : Board → State → List Call → Type 0
+NoneRefused b st [] = Unit {0}
+NoneRefused b st (call ∷ calls) = (isRefused (step b st call .answer) ≡ false) × NoneRefused b (step b st call .after) calls
+
+-- memory holds the cacheless memory's words, frame after frame
+pub record MemoryIs (b : Board) (m : Cacheless) (st : State) : Type 0 where
+  pub memory-length : length (st .store .memory) ≡ memoryWords b
+  pub memory-words : (f o : ℕ) → f < b .frames → o < b .pageWords → memoryWord b (st .store) f o ≡ m .word f o
+
+-- ---- the demand
+
+pub record Holds (b : Board) (st : State) (m : Cacheless) (calls : List Call) : Type 0 where
+  pub finds : AllFind b st m calls
+  pub turned-out :
+    (ns : List ℕ) → ((n : ℕ) → Occurs n ns → n < lines b) → ((n : ℕ) → n < lines b → Occurs n ns)
+    → NoneRefused b (stateAfter b st calls) (evictions ns)
+    × MemoryIs b (cachelessAfter b st m calls) (stateAfter b (stateAfter b st calls) (evictions ns))
+
+abbrev pub Demand3 : Type 0
+Demand3 =
+    (b : Board) (memory words protections : List ℕ) (calls : List Call) → Regular b → length memory ≡ memoryWords b → length words ≡ cacheWords b
+    → length protections ≡ capacity → Holds b (startState b memory words protections) (start b memory) calls

@@ -1,0 +1,3 @@
+-- The cacheless memory, and demand 3.
+pub mod Cacheless
+pub mod Demand3
