@@ -85,9 +85,9 @@ pub record MemoryIs (b : Board) (m : Cacheless) (st : State) : Type 0 where
 pub record Holds (b : Board) (st : State) (m : Cacheless) (calls : List Call) : Type 0 where
   pub finds : AllFind b st m calls
   pub turned-out :
-    (ns : List ℕ) → ((n : ℕ) → Occurs n ns → n < lines b) → ((n : ℕ) → n < lines b → Occurs n ns)
-    → NoneRefused b (stateAfter b st calls) (evictions ns)
-    × MemoryIs b (cachelessAfter b st m calls) (stateAfter b (stateAfter b st calls) (evictions ns))
+      (ns : List ℕ) → ((n : ℕ) → Occurs n ns → n < lines b) → ((n : ℕ) → n < lines b → Occurs n ns)
+      → NoneRefused b (stateAfter b st calls) (evictions ns)
+      × MemoryIs b (cachelessAfter b st m calls) (stateAfter b (stateAfter b st calls) (evictions ns))
 
 abbrev pub Demand3 : Type 0
 Demand3 =

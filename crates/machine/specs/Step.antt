@@ -48,7 +48,7 @@ abbrev pub stepped : Board → State → Change → (Store → Option ℕ) → (
 stepped b st change word buffer access =
     let o : Outcome = accepted (change .frame) (change .ops) in
     let s : Store = carryOut b o (st .store) in
-    result (answer o (word s) (buffer s)) (state (commitChange b (st .tables) change) (access s))
+    result (answer o (word s) (buffer s)) (state (commitChange b (st .tables) (change .frame) (change .next)) (access s))
 
 -- the frame of a page of a space
 abbrev pub frameOf : State → ℕ → ℕ → ℕ
@@ -78,6 +78,6 @@ unfoldable pub step : Board → State → Call → Result
 unfolding accept
 step b st call =
     elim (firstRefusal (causes b st call)) [
-      zero ↦ accept b st call
-    | suc n ↦ result (answer (refused (suc n)) none (lentBuffer call)) st
+      | zero ↦ accept b st call
+      | suc n ↦ result (answer (refused (suc n)) none (lentBuffer call)) st
     ]

@@ -16,6 +16,10 @@ use Rattle.page_model.specs.Record.{stateOf, isHeld, isDirty}
 use Rattle.page_model.specs.Table.{ColourState, empty, present, dirty, stale}
 use Rattle.mapping.specs.declared.Mapping.{Mapping}
 use Rattle.mapping.specs.Entry.{readWrite}
+use Rattle.manager.specs.declared.Change.{Change}
+use Rattle.manager.specs.declared.Plan.the-variants as step-plan
+use Rattle.manager.specs.declared.ListPlan.the-variants as list-plan
+use Rattle.manager.specs.Calls.{planned, placed}
 use Rattle.manager.specs.Tables.{recordAt, protection, mappingState, tabulate}
 
 -- ---- f at each place below n
@@ -41,8 +45,8 @@ pub set-more : (l : List ℕ) (i v : ℕ) (f : ℕ → ℕ) → i < length l →
     → (k : ℕ) → k < i + 1 → getD (set l i v) k 0 ≡ f k
 set-more l i v f li h e =
     below-more (λ k. getD (set l i v) k 0 ≡ f k) i
-      (λ k lk. getD-set-other l i k v 0 (λ q. let z : i < i = subst (λ (j : ℕ). j < i) q lk in lt-irrefl i z) ∙ h k lk)
-      (getD-set-same l i v 0 li ∙ e)
+    (λ k lk. getD-set-other l i k v 0 (λ q. let z : i < i = subst (λ (j : ℕ). j < i) q lk in lt-irrefl i z) ∙ h k lk)
+    (getD-set-same l i v 0 li ∙ e)
 
 -- ---- protections
 
@@ -72,3 +76,14 @@ pub state-at : (b : Board) (rs : List ℕ) (m : Mapping) {r : FrameRecord} {k : 
     → stateOf r k ≡ mappingState b rs m
 unfolding mappingState
 state-at b rs m er ek = ap₂ stateOf er ek
+
+-- ---- plans
+
+-- a refusal's number is not 0
+pub planned-refused : (n : ℕ) (change : Change) → (n ≡ 0 → ⊥) → step-plan.Refused n ≡ planned n change
+planned-refused zero change h = absurd (h refl)
+planned-refused (suc n) change h = refl
+
+pub placed-refused : (n place : ℕ) → (n ≡ 0 → ⊥) → list-plan.Refused n ≡ placed n place
+placed-refused zero place h = absurd (h refl)
+placed-refused (suc n) place h = refl

@@ -45,9 +45,9 @@ planDeviceRead b t frame = planned (firstRefusal (transferCauses b t frame)) (ch
 abbrev pub planDeviceWrite : Board → Tables → ℕ → Plan
 planDeviceWrite b t frame = planned (firstRefusal (transferCauses b t frame)) (changeOf b t frame deviceWrite)
 
--- the tables with the changed record, and the protections that agree with it
-abbrev pub commitChange : Board → Tables → Change → Tables
-commitChange b t change = refill b (tables (t .list) (putRecord (t .records) (change .frame) (change .next)) (t .protections))
+-- the tables with a frame's next record, and the protections that agree with it
+abbrev pub commitChange : Board → Tables → ℕ → FrameRecord → Tables
+commitChange b t frame next = refill b (tables (t .list) (putRecord (t .records) frame next) (t .protections))
 
 -- ---- the mapping list
 
@@ -85,11 +85,11 @@ noOps = record { first = None; second = None }
 -- a refusal leaves the tables as they were
 abbrev pub stepResult : Board → Tables → Plan → Result
 stepResult b t (step-plan.Refused n) = result (refused n) t
-stepResult b t (step-plan.Step change) = result (accepted (change .frame) (change .ops)) (commitChange b t change)
+stepResult b t (step-plan.Step change) = result (accepted (change .frame) (change .ops)) (commitChange b t (change .frame) (change .next))
 
-abbrev pub listResult : Tables → Tables → ListPlan → Result
+abbrev pub listResult : Tables → (ℕ → Tables) → ListPlan → Result
 listResult t next (list-plan.Refused n) = result (refused n) t
-listResult t next (list-plan.Place place) = result (accepted 0 noOps) next
+listResult t next (list-plan.Place place) = result (accepted 0 noOps) (next place)
 
 abbrev pub readCall : Board → Tables → ℕ → ℕ → Result
 readCall b t space page = stepResult b t (planRead b t space page)
@@ -105,7 +105,7 @@ deviceWriteCall b t frame = stepResult b t (planDeviceWrite b t frame)
 
 abbrev pub mapCall : Board → Tables → ℕ → ℕ → ℕ → ℕ → Result
 mapCall b t space page frame rights =
-    listResult t (commitMap b t (record { space = space; page = page; frame = frame; rights = rights })) (planMap b t space page frame rights)
+    listResult t (λ place. commitMap b t (record { space = space; page = page; frame = frame; rights = rights })) (planMap b t space page frame rights)
 
 abbrev pub unmapCall : Board → Tables → ℕ → ℕ → Result
-unmapCall b t space page = listResult t (commitUnmap b t (placeOf (lookup (t .list) space page))) (planUnmap b t space page)
+unmapCall b t space page = listResult t (commitUnmap b t) (planUnmap b t space page)

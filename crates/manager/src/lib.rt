@@ -270,12 +270,17 @@ pub fn commit_unmap(
     next
 }
 
-// Stores a frame's changed record, and brings the protections up to it.
-pub fn commit_change(list: MappingList, records: &mut [u8], protections: &mut [u8], change: Change)
-    ensures { λ _. ⌜ tables list (now (records .exit)) (now (protections .exit)) ≡ commitChange board01 (tables list (now (records .entry)) (now (protections .entry))) change ⌝ }
+// Stores a frame's next record, and brings the protections up to it.
+pub fn commit_change(
+    list: MappingList,
+    records: &mut [u8],
+    protections: &mut [u8],
+    frame: u8,
+    next: FrameRecord,
+)
+    ensures { λ _. ⌜ tables list (now (records .exit)) (now (protections .exit)) ≡ commitChange board01 (tables list (now (records .entry)) (now (protections .entry))) frame next ⌝ }
 {
-    let next = change.next;
-    put_record(records, change.frame, next);
+    put_record(records, frame, next);
     refill(list, records, protections);
 }
 
@@ -287,8 +292,9 @@ fn carry_out(list: MappingList, records: &mut [u8], protections: &mut [u8], plan
     match plan {
         Plan::Refused(number) => Answer::Refused(number),
         Plan::Step(change) => {
-            commit_change(list, records, protections, change);
+            let next = change.next;
             let ops = change.ops;
+            commit_change(list, records, protections, change.frame, next);
             Answer::Accepted(FrameOps {
                 frame: change.frame,
                 ops,

@@ -1,10 +1,10 @@
 -- `manager::carry_out` meets its contract.
+use mathlib.Core.Path.{ap}
+use Rattle.manager.specs.Answers.{accepted}
+use Rattle.manager.specs.Calls.{result}
 use borrow.Author.Needs.{needs}
 use Rattle.manager.proofs.carry_out.Statement.{statement}
 use Rattle.manager.proofs.carry_out.Tie as tie
-use Rattle.manager.proofs.carry_out.Reads as reads
-use Rattle.manager.proofs.carry_out.Lts as lts
-use Rattle.manager.proofs.commit_change.Reads as commit-change-reads
 
 enum-known-plan : tie.Need-enum-known-plan
 enum-known-plan c = search needs
@@ -16,7 +16,7 @@ commit-change-requires : tie.Need-commit-change-requires
 commit-change-requires c κs = search needs
 
 returns : tie.Need-returns
-returns c = ?
+returns c = rw (c .before .plan .given .1)
 
 same-length : tie.Need-same-length
 same-length c = search needs
@@ -25,7 +25,9 @@ same-length-2 : tie.Need-same-length-2
 same-length-2 c = search needs
 
 returns-2 : tie.Need-returns-2
-returns-2 c = ?
+returns-2 c =
+    let change = c .before .before .before .before .before .before .before .before .before .before .plan2 .given .0 .0 in
+    rw (c .before .before .before .before .before .before .before .before .before .before .plan2 .given .1) (ap (result (accepted (change .frame) (change .ops))) (c .before .before .before .before .commit-change .ensures))
 
 pub carry-out-spec : {M : Type 1} → statement M
 carry-out-spec =

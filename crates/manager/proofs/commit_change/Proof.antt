@@ -1,11 +1,8 @@
 -- `manager::commit_change` meets its contract.
+use Rattle.manager.specs.Tables.{refill}
 use borrow.Author.Needs.{needs}
 use Rattle.manager.proofs.commit_change.Statement.{statement}
 use Rattle.manager.proofs.commit_change.Tie as tie
-use Rattle.manager.proofs.commit_change.Reads as reads
-use Rattle.manager.proofs.commit_change.Lts as lts
-use Rattle.manager.proofs.records.put_record.Reads as put-record-reads
-use Rattle.manager.proofs.records.refill.Reads as refill-reads
 
 put-record-requires : tie.Need-put-record-requires
 put-record-requires c κs = search needs
@@ -20,7 +17,8 @@ same-length-2 : tie.Need-same-length-2
 same-length-2 c = search needs
 
 returns : tie.Need-returns
-returns c = ?
+unfolding refill
+returns c = rw (c .before .before .refill .ensures, c .before .before .before .before .before .before .before .put-record .ensures)
 
 pub commit-change-spec : {M : Type 1} → statement M
 commit-change-spec =

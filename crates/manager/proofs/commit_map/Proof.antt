@@ -1,11 +1,8 @@
 -- `manager::commit_map` meets its contract.
+use Rattle.manager.specs.Tables.{refill}
 use borrow.Author.Needs.{needs}
 use Rattle.manager.proofs.commit_map.Statement.{statement}
 use Rattle.manager.proofs.commit_map.Tie as tie
-use Rattle.manager.proofs.commit_map.Reads as reads
-use Rattle.manager.proofs.commit_map.Lts as lts
-use Rattle.manager.proofs.records.refill.Reads as refill-reads
-use Rattle.mapping.proofs.append.Reads as append-reads
 
 append-requires : tie.Need-append-requires
 append-requires c κs = search needs
@@ -17,7 +14,8 @@ same-length : tie.Need-same-length
 same-length c = search needs
 
 returns : tie.Need-returns
-returns c = ?
+unfolding refill
+returns c = rw (c .before .before .refill .ensures, c .before .before .before .before .append .ensures)
 
 pub commit-map-spec : {M : Type 1} → statement M
 commit-map-spec = tie.close (tie.spec append-requires refill-requires same-length returns)

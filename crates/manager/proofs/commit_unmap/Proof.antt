@@ -1,11 +1,8 @@
 -- `manager::commit_unmap` meets its contract.
+use Rattle.manager.specs.Tables.{refill}
 use borrow.Author.Needs.{needs}
 use Rattle.manager.proofs.commit_unmap.Statement.{statement}
 use Rattle.manager.proofs.commit_unmap.Tie as tie
-use Rattle.manager.proofs.commit_unmap.Reads as reads
-use Rattle.manager.proofs.commit_unmap.Lts as lts
-use Rattle.manager.proofs.records.refill.Reads as refill-reads
-use Rattle.mapping.proofs.remove.Reads as remove-reads
 
 remove-requires : tie.Need-remove-requires
 remove-requires c κs = search needs
@@ -17,7 +14,8 @@ same-length : tie.Need-same-length
 same-length c = search needs
 
 returns : tie.Need-returns
-returns c = ?
+unfolding refill
+returns c = rw (c .before .before .refill .ensures, c .before .before .before .before .remove .ensures)
 
 pub commit-unmap-spec : {M : Type 1} → statement M
 commit-unmap-spec = tie.close (tie.spec remove-requires refill-requires same-length returns)

@@ -1,11 +1,10 @@
 -- `manager::device_read` meets its contract.
+use mathlib.Core.Path.{ap, _∙_}
+use Rattle.board.specs.Board.{board01}
+use Rattle.manager.specs.Calls.{stepResult}
 use borrow.Author.Needs.{needs}
 use Rattle.manager.proofs.device_read.Statement.{statement}
 use Rattle.manager.proofs.device_read.Tie as tie
-use Rattle.manager.proofs.device_read.Reads as reads
-use Rattle.manager.proofs.device_read.Lts as lts
-use Rattle.manager.proofs.carry_out.Reads as carry-out-reads
-use Rattle.manager.proofs.plan_device_read.Reads as plan-device-read-reads
 
 plan-device-read-requires : tie.Need-plan-device-read-requires
 plan-device-read-requires c κs = search needs
@@ -20,7 +19,7 @@ same-length-2 : tie.Need-same-length-2
 same-length-2 c = search needs
 
 returns : tie.Need-returns
-returns c = ?
+returns c = c .before .before .before .before .carry-out .ensures ∙ ap (stepResult board01 _) (c .before .before .before .before .before .before .before .plan-device-read .ensures)
 
 pub device-read-spec : {M : Type 1} → statement M
 device-read-spec =

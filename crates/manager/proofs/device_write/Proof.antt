@@ -1,11 +1,10 @@
 -- `manager::device_write` meets its contract.
+use mathlib.Core.Path.{ap, _∙_}
+use Rattle.board.specs.Board.{board01}
+use Rattle.manager.specs.Calls.{stepResult}
 use borrow.Author.Needs.{needs}
 use Rattle.manager.proofs.device_write.Statement.{statement}
 use Rattle.manager.proofs.device_write.Tie as tie
-use Rattle.manager.proofs.device_write.Reads as reads
-use Rattle.manager.proofs.device_write.Lts as lts
-use Rattle.manager.proofs.carry_out.Reads as carry-out-reads
-use Rattle.manager.proofs.plan_device_write.Reads as plan-device-write-reads
 
 plan-device-write-requires : tie.Need-plan-device-write-requires
 plan-device-write-requires c κs = search needs
@@ -20,7 +19,7 @@ same-length-2 : tie.Need-same-length-2
 same-length-2 c = search needs
 
 returns : tie.Need-returns
-returns c = ?
+returns c = c .before .before .before .before .carry-out .ensures ∙ ap (stepResult board01 _) (c .before .before .before .before .before .before .before .plan-device-write .ensures)
 
 pub device-write-spec : {M : Type 1} → statement M
 device-write-spec =

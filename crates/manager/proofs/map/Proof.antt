@@ -1,13 +1,10 @@
 -- `manager::map` meets its contract.
+use mathlib.Core.Path.{sym, ap, _∙_}
+use Rattle.manager.specs.Answers.{accepted}
+use Rattle.manager.specs.Calls.{noOps, result}
 use borrow.Author.Needs.{needs}
 use Rattle.manager.proofs.map.Statement.{statement}
 use Rattle.manager.proofs.map.Tie as tie
-use Rattle.manager.proofs.map.Reads as reads
-use Rattle.manager.proofs.map.Lts as lts
-use Rattle.manager.proofs.commit_map.Reads as commit-map-reads
-use Rattle.manager.proofs.listed_as.Reads as listed-as-reads
-use Rattle.manager.proofs.plan_map.Reads as plan-map-reads
-use Rattle.manager.proofs.refused_as.Reads as refused-as-reads
 
 plan-map-requires : tie.Need-plan-map-requires
 plan-map-requires c κs = search needs
@@ -31,13 +28,13 @@ same-length : tie.Need-same-length
 same-length c = search needs
 
 returns : tie.Need-returns
-returns c = ?
+returns c = rw (c .refused-as .ensures .0, c .refused-as .ensures .1, sym (c .before .before .before .before .plan-map .ensures) ∙ c .before .before .plan .given .1)
 
 same-length-2 : tie.Need-same-length-2
 same-length-2 c = search needs
 
 returns-2 : tie.Need-returns-2
-returns-2 c = ?
+returns-2 c = rw (c .listed-as .ensures .0, c .listed-as .ensures .1, sym (c .before .before .before .before .before .before .before .plan-map .ensures) ∙ c .before .before .before .before .before .enum-told .given .1) (ap (result (accepted 0 noOps)) (c .before .before .before .commit-map .ensures))
 
 pub map-spec : {M : Type 1} → statement M
 map-spec =

@@ -1,31 +1,36 @@
 -- `manager::plan_device_write` meets its contract.
+use mathlib.Core.Path.{sym, ap, _∙_}
+use Rattle.board.specs.Board.{board01}
+use Rattle.page_model.specs.Record.{keepsRules}
+use Rattle.manager.specs.declared.Plan.the-variants as step-plan
+use Rattle.manager.specs.Tables.{Tables, tables}
+use Rattle.manager.proofs.CauseLaws.{transfer-rules}
+use Rattle.manager.proofs.Laws.{planned-refused}
 use borrow.Author.Needs.{needs}
 use Rattle.manager.proofs.plan_device_write.Statement.{statement}
 use Rattle.manager.proofs.plan_device_write.Tie as tie
-use Rattle.manager.proofs.plan_device_write.Reads as reads
-use Rattle.manager.proofs.plan_device_write.Lts as lts
-use Rattle.manager.proofs.records.record_at.Reads as record-at-reads
-use Rattle.manager.proofs.refusals.transfer_refusal.Reads as transfer-refusal-reads
-use Rattle.manager.proofs.step_of.Reads as step-of-reads
-use Rattle.page_model.proofs.FrameRecord.device_write.Reads as device-write-reads
+
+-- what the function is lent
+abbrev T : tie.Start → Tables
+T s = tables (s .args .list) (s .args .records .now) (s .args .protections .now)
 
 transfer-refusal-requires : tie.Need-transfer-refusal-requires
 transfer-refusal-requires c κs = search needs
 
 returns : tie.Need-returns
-returns c = ?
+returns c = ap step-plan.Refused (c .before .transfer-refusal .ensures) ∙ planned-refused _ _ (λ z. c .if1 .taken (c .before .transfer-refusal .ensures ∙ z))
 
 record-at-requires : tie.Need-record-at-requires
 record-at-requires c κs = search needs
 
 device-write-requires : tie.Need-device-write-requires
-device-write-requires c κs = ?
+device-write-requires c κs = ap (keepsRules (board01 .colours)) (c .record-at .ensures) ∙ transfer-rules board01 (T (c .before .before .before .before .before)) _ (sym (c .before .before .transfer-refusal .ensures) ∙ c .before .if1 .left)
 
 step-of-requires : tie.Need-step-of-requires
 step-of-requires c κs = search needs
 
 returns-2 : tie.Need-returns-2
-returns-2 c = ?
+returns-2 c = c .step-of .ensures ∙ simp (c .before .device-write .ensures, c .before .before .record-at .ensures, sym (c .before .before .before .before .transfer-refusal .ensures) ∙ c .before .before .before .if1 .left)
 
 pub plan-device-write-spec : {M : Type 1} → statement M
 plan-device-write-spec =

@@ -1,21 +1,27 @@
 -- `manager::plan_read` meets its contract.
+use mathlib.Core.Path.{sym, ap, subst⁻¹, _∙_}
+use Prim.Native.Nat.{ℕ, _<_}
+use Rattle.board.specs.Board.{board01}
+use Rattle.board.proofs.Geometry.{board01-regular, colourOf-lt}
+use Rattle.page_model.specs.Record.{keepsRules}
+use Rattle.mapping.specs.declared.Mapping.{Mapping}
+use Rattle.manager.specs.declared.Plan.the-variants as step-plan
+use Rattle.manager.specs.Tables.{Tables, tables, recordAt}
+use Rattle.manager.proofs.CauseLaws.{page-rules}
+use Rattle.manager.proofs.Laws.{planned-refused}
 use borrow.Author.Needs.{needs}
 use Rattle.manager.proofs.plan_read.Statement.{statement}
 use Rattle.manager.proofs.plan_read.Tie as tie
-use Rattle.manager.proofs.plan_read.Reads as reads
-use Rattle.manager.proofs.plan_read.Lts as lts
-use Rattle.board.proofs.colour_of.Reads as colour-of-reads
-use Rattle.manager.proofs.records.record_at.Reads as record-at-reads
-use Rattle.manager.proofs.refusals.mapping_of.Reads as mapping-of-reads
-use Rattle.manager.proofs.refusals.page_refusal.Reads as page-refusal-reads
-use Rattle.manager.proofs.step_of.Reads as step-of-reads
-use Rattle.page_model.proofs.FrameRecord.read.Reads as read-reads
+
+-- what the function is lent
+abbrev T : tie.Start → Tables
+T s = tables (s .args .list) (s .args .records .now) (s .args .protections .now)
 
 page-refusal-requires : tie.Need-page-refusal-requires
 page-refusal-requires c κs = search needs
 
 returns : tie.Need-returns
-returns c = ?
+returns c = ap step-plan.Refused (c .before .page-refusal .ensures) ∙ planned-refused _ _ (λ z. c .if1 .taken (c .before .page-refusal .ensures ∙ z))
 
 mapping-of-requires : tie.Need-mapping-of-requires
 mapping-of-requires c κs = search needs
@@ -27,13 +33,18 @@ record-at-requires : tie.Need-record-at-requires
 record-at-requires c κs = search needs
 
 read-requires : tie.Need-read-requires
-read-requires c κs = ?
+read-requires c κs =
+    let s = c .before .before .before .before .before .before .before in (
+      ap (keepsRules (board01 .colours)) (c .record-at .ensures ∙ ap (λ (m : Mapping). recordAt (s .args .records .now) (m .frame)) (c .before .before .mapping-of .ensures))
+          ∙ page-rules board01 (T s) (s .args .space) (s .args .page) (sym (c .before .before .before .before .page-refusal .ensures) ∙ c .before .before .before .if1 .left),
+      subst⁻¹ (λ (k : ℕ). k < board01 .colours) (c .before .colour-of .ensures) (colourOf-lt board01 board01-regular _),
+    )
 
 step-of-requires : tie.Need-step-of-requires
 step-of-requires c κs = search needs
 
 returns-2 : tie.Need-returns-2
-returns-2 c = ?
+returns-2 c = c .step-of .ensures ∙ simp (c .before .read .ensures, c .before .before .record-at .ensures, c .before .before .before .colour-of .ensures, c .before .before .before .before .mapping-of .ensures, sym (c .before .before .before .before .before .before .page-refusal .ensures) ∙ c .before .before .before .before .before .if1 .left)
 
 pub plan-read-spec : {M : Type 1} → statement M
 plan-read-spec =

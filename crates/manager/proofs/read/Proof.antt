@@ -1,11 +1,10 @@
 -- `manager::read` meets its contract.
+use mathlib.Core.Path.{ap, _∙_}
+use Rattle.board.specs.Board.{board01}
+use Rattle.manager.specs.Calls.{stepResult}
 use borrow.Author.Needs.{needs}
 use Rattle.manager.proofs.read.Statement.{statement}
 use Rattle.manager.proofs.read.Tie as tie
-use Rattle.manager.proofs.read.Reads as reads
-use Rattle.manager.proofs.read.Lts as lts
-use Rattle.manager.proofs.carry_out.Reads as carry-out-reads
-use Rattle.manager.proofs.plan_read.Reads as plan-read-reads
 
 plan-read-requires : tie.Need-plan-read-requires
 plan-read-requires c κs = search needs
@@ -20,7 +19,7 @@ same-length-2 : tie.Need-same-length-2
 same-length-2 c = search needs
 
 returns : tie.Need-returns
-returns c = ?
+returns c = c .before .before .before .before .carry-out .ensures ∙ ap (stepResult board01 _) (c .before .before .before .before .before .before .before .plan-read .ensures)
 
 pub read-spec : {M : Type 1} → statement M
 read-spec =

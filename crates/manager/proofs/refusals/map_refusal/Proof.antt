@@ -1,49 +1,77 @@
 -- `manager::map_refusal` meets its contract.
+use mathlib.Core.Path.{_≡_, sym, _∙_}
+use mathlib.Core.Bool.{true}
+use Rattle.board.specs.Board.{board01}
+use Rattle.manager.specs.Tables.{Tables, tables, lengthsRight, rulesKept}
+use Rattle.manager.proofs.CauseLaws.{tables-refuse, tables-clear}
+use borrow.Author.Tests.{le-leb, lt-leb, eq-eqb, ne-eqb, not-true, not-false}
+use Rattle.manager.specs.Refusals.{firstRefusal, mapCauses}
 use borrow.Author.Needs.{needs}
 use Rattle.manager.proofs.refusals.map_refusal.Statement.{statement}
 use Rattle.manager.proofs.refusals.map_refusal.Tie as tie
-use Rattle.manager.proofs.refusals.map_refusal.Reads as reads
-use Rattle.manager.proofs.refusals.map_refusal.Lts as lts
-use Rattle.manager.proofs.refusals.is_mapped.Reads as is-mapped-reads
-use Rattle.manager.proofs.refusals.is_right.Reads as is-right-reads
-use Rattle.manager.proofs.refusals.out_of_space.Reads as out-of-space-reads
-use Rattle.manager.proofs.refusals.tables_refusal.Reads as tables-refusal-reads
+
+-- what the function is lent
+abbrev T : tie.Start → Tables
+T s = tables (s .args .list) (s .args .records .now) (s .args .protections .now)
+
+-- past the test of the tables
+clear : (c : tie.Else1) → (lengthsRight board01 (T (c .before .before .before .before)) ≡ true) × (rulesKept board01 (T (c .before .before .before .before)) ≡ true)
+clear c = tables-clear board01 (T (c .before .before .before .before)) (sym (c .before .tables-refusal .ensures) ∙ c .if1 .left)
 
 tables-refusal-requires : tie.Need-tables-refusal-requires
 tables-refusal-requires c κs = search needs
 
 returns : tie.Need-returns
-returns c = ?
+unfolding firstRefusal mapCauses
+returns c = c .before .tables-refusal .ensures ∙ tables-refuse board01 (T (c .before .before .before .before)) _ (λ z. c .if1 .taken (c .before .tables-refusal .ensures ∙ z))
 
 out-of-space-requires : tie.Need-out-of-space-requires
 out-of-space-requires c κs = search needs
 
 returns-2 : tie.Need-returns-2
-returns-2 c = ?
+unfolding firstRefusal mapCauses
+returns-2 c =
+    let t = clear (c .before .before) in
+    rw (t .0, t .1, sym (c .before .out-of-space .ensures) ∙ c .if2 .taken)
 
 cast-if3 : tie.Need-cast-if3
 cast-if3 c = search needs
 
 returns-3 : tie.Need-returns-3
-returns-3 c = ?
+unfolding firstRefusal mapCauses
+returns-3 c =
+    let t = clear (c .before .before .before .before) in
+    rw (t .0, t .1, sym (c .before .before .before .out-of-space .ensures) ∙ c .before .before .if2 .left, le-leb _ _ (c .if3 .taken))
 
 is-right-requires : tie.Need-is-right-requires
 is-right-requires c κs = search needs
 
 returns-4 : tie.Need-returns-4
-returns-4 c = ?
+unfolding firstRefusal mapCauses
+returns-4 c =
+    let t = clear (c .before .before .before .before .before .before) in
+    rw (t .0, t .1, sym (c .before .before .before .before .before .out-of-space .ensures) ∙ c .before .before .before .before .if2 .left, lt-leb _ _ (c .before .before .if3 .left), sym (c .before .is-right .ensures) ∙ not-true _ (c .if4 .taken))
 
 is-mapped-requires : tie.Need-is-mapped-requires
 is-mapped-requires c κs = search needs
 
 returns-5 : tie.Need-returns-5
-returns-5 c = ?
+unfolding firstRefusal mapCauses
+returns-5 c =
+    let t = clear (c .before .before .before .before .before .before .before .before) in
+    rw (t .0, t .1, sym (c .before .before .before .before .before .before .before .out-of-space .ensures) ∙ c .before .before .before .before .before .before .if2 .left, lt-leb _ _ (c .before .before .before .before .if3 .left), sym (c .before .before .before .is-right .ensures) ∙ not-false _ (c .before .before .if4 .left), sym (c .before .is-mapped .ensures) ∙ c .if5 .taken)
 
 returns-6 : tie.Need-returns-6
-returns-6 c = ?
+unfolding firstRefusal mapCauses
+returns-6 c =
+    let t = clear (c .before .before .before .before .before .before .before .before .before .before) in
+    rw (t .0, t .1, sym (c .before .before .before .before .before .before .before .before .before .out-of-space .ensures) ∙ c .before .before .before .before .before .before .before .before .if2 .left, lt-leb _ _ (c .before .before .before .before .before .before .if3 .left), sym (c .before .before .before .before .before .is-right .ensures) ∙ not-false _ (c .before .before .before .before .if4 .left), sym (c .before .before .before .is-mapped .ensures) ∙ c .before .before .if5 .left, eq-eqb _ _ (c .if6 .taken))
 
 returns-7 : tie.Need-returns-7
-returns-7 c = ?
+unfolding firstRefusal mapCauses
+returns-7 c =
+    let t = clear (c .before .before .before .before .before .before .before .before .before .before) in
+    rw (t .0, t .1, sym (c .before .before .before .before .before .before .before .before .before .out-of-space .ensures) ∙ c .before .before .before .before .before .before .before .before .if2 .left, lt-leb _ _ (c .before .before .before .before .before .before .if3 .left), sym (c .before .before .before .before .before .is-right .ensures) ∙ not-false _ (c .before .before .before .before .if4 .left), sym (c .before .before .before .is-mapped .ensures) ∙ c .before .before .if5 .left, ne-eqb _ _ (c .if6 .left))
 
 pub map-refusal-spec : {M : Type 1} → statement M
 map-refusal-spec =

@@ -1,33 +1,53 @@
 -- `manager::page_refusal` meets its contract.
+use mathlib.Core.Path.{_≡_, sym, _∙_}
+use mathlib.Core.Bool.{true}
+use Rattle.board.specs.Board.{board01}
+use Rattle.manager.specs.Tables.{Tables, tables, lengthsRight, rulesKept}
+use Rattle.manager.proofs.CauseLaws.{tables-refuse, tables-clear}
+use borrow.Author.Tests.{not-true, not-false}
+use Rattle.manager.specs.Refusals.{firstRefusal, pageCauses}
 use borrow.Author.Needs.{needs}
 use Rattle.manager.proofs.refusals.page_refusal.Statement.{statement}
 use Rattle.manager.proofs.refusals.page_refusal.Tie as tie
-use Rattle.manager.proofs.refusals.page_refusal.Reads as reads
-use Rattle.manager.proofs.refusals.page_refusal.Lts as lts
-use Rattle.manager.proofs.refusals.is_mapped.Reads as is-mapped-reads
-use Rattle.manager.proofs.refusals.out_of_space.Reads as out-of-space-reads
-use Rattle.manager.proofs.refusals.tables_refusal.Reads as tables-refusal-reads
+
+-- what the function is lent
+abbrev T : tie.Start → Tables
+T s = tables (s .args .list) (s .args .records .now) (s .args .protections .now)
+
+-- past the test of the tables
+clear : (c : tie.Else1) → (lengthsRight board01 (T (c .before .before .before .before)) ≡ true) × (rulesKept board01 (T (c .before .before .before .before)) ≡ true)
+clear c = tables-clear board01 (T (c .before .before .before .before)) (sym (c .before .tables-refusal .ensures) ∙ c .if1 .left)
 
 tables-refusal-requires : tie.Need-tables-refusal-requires
 tables-refusal-requires c κs = search needs
 
 returns : tie.Need-returns
-returns c = ?
+unfolding firstRefusal pageCauses
+returns c = c .before .tables-refusal .ensures ∙ tables-refuse board01 (T (c .before .before .before .before)) _ (λ z. c .if1 .taken (c .before .tables-refusal .ensures ∙ z))
 
 out-of-space-requires : tie.Need-out-of-space-requires
 out-of-space-requires c κs = search needs
 
 returns-2 : tie.Need-returns-2
-returns-2 c = ?
+unfolding firstRefusal pageCauses
+returns-2 c =
+    let t = clear (c .before .before) in
+    rw (t .0, t .1, sym (c .before .out-of-space .ensures) ∙ c .if2 .taken)
 
 is-mapped-requires : tie.Need-is-mapped-requires
 is-mapped-requires c κs = search needs
 
 returns-3 : tie.Need-returns-3
-returns-3 c = ?
+unfolding firstRefusal pageCauses
+returns-3 c =
+    let t = clear (c .before .before .before .before) in
+    rw (t .0, t .1, sym (c .before .before .before .out-of-space .ensures) ∙ c .before .before .if2 .left, sym (c .before .is-mapped .ensures) ∙ not-true _ (c .if3 .taken))
 
 returns-4 : tie.Need-returns-4
-returns-4 c = ?
+unfolding firstRefusal pageCauses
+returns-4 c =
+    let t = clear (c .before .before .before .before) in
+    rw (t .0, t .1, sym (c .before .before .before .out-of-space .ensures) ∙ c .before .before .if2 .left, sym (c .before .is-mapped .ensures) ∙ not-false _ (c .if3 .left))
 
 pub page-refusal-spec : {M : Type 1} → statement M
 page-refusal-spec =

@@ -1,22 +1,41 @@
 -- `manager::transfer_refusal` meets its contract.
+use mathlib.Core.Path.{_≡_, sym, _∙_}
+use mathlib.Core.Bool.{true}
+use Rattle.board.specs.Board.{board01}
+use Rattle.manager.specs.Tables.{Tables, tables, lengthsRight, rulesKept}
+use Rattle.manager.proofs.CauseLaws.{tables-refuse, tables-clear}
+use borrow.Author.Tests.{le-leb, lt-leb}
+use Rattle.manager.specs.Refusals.{firstRefusal, transferCauses}
 use borrow.Author.Needs.{needs}
 use Rattle.manager.proofs.refusals.transfer_refusal.Statement.{statement}
 use Rattle.manager.proofs.refusals.transfer_refusal.Tie as tie
-use Rattle.manager.proofs.refusals.transfer_refusal.Reads as reads
-use Rattle.manager.proofs.refusals.transfer_refusal.Lts as lts
-use Rattle.manager.proofs.refusals.tables_refusal.Reads as tables-refusal-reads
+
+-- what the function is lent
+abbrev T : tie.Start → Tables
+T s = tables (s .args .list) (s .args .records .now) (s .args .protections .now)
+
+-- past the test of the tables
+clear : (c : tie.Else1) → (lengthsRight board01 (T (c .before .before .before .before)) ≡ true) × (rulesKept board01 (T (c .before .before .before .before)) ≡ true)
+clear c = tables-clear board01 (T (c .before .before .before .before)) (sym (c .before .tables-refusal .ensures) ∙ c .if1 .left)
 
 tables-refusal-requires : tie.Need-tables-refusal-requires
 tables-refusal-requires c κs = search needs
 
 returns : tie.Need-returns
-returns c = ?
+unfolding firstRefusal transferCauses
+returns c = c .before .tables-refusal .ensures ∙ tables-refuse board01 (T (c .before .before .before .before)) _ (λ z. c .if1 .taken (c .before .tables-refusal .ensures ∙ z))
 
 returns-2 : tie.Need-returns-2
-returns-2 c = ?
+unfolding firstRefusal transferCauses
+returns-2 c =
+    let t = clear (c .before) in
+    rw (t .0, t .1, le-leb _ _ (c .if2 .taken))
 
 returns-3 : tie.Need-returns-3
-returns-3 c = ?
+unfolding firstRefusal transferCauses
+returns-3 c =
+    let t = clear (c .before) in
+    rw (t .0, t .1, lt-leb _ _ (c .if2 .left))
 
 pub transfer-refusal-spec : {M : Type 1} → statement M
 transfer-refusal-spec = tie.close (tie.spec tables-refusal-requires returns returns-2 returns-3)

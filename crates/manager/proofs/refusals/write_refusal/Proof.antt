@@ -1,26 +1,51 @@
 -- `manager::write_refusal` meets its contract.
+use mathlib.Core.Path.{_≡_, refl, sym, ap, _∙_}
+use mathlib.Core.Bool.{Bool, cond}
+use mathlib.Core.List.{List, [], _∷_}
+use borrow.Author.Tests.{eq-eqb, ne-eqb}
+use lib.Dec.{eqb}
+use Rattle.board.specs.Board.{board01}
+use Rattle.mapping.specs.declared.Mapping.{Mapping}
+use Rattle.mapping.specs.Entry.{readOnly}
+use Rattle.manager.specs.Refusals.{Cause, _if_, firstRefusal, pageCauses, writeCauses, mappingOf}
+use Rattle.manager.specs.Tables.{Tables, tables}
+use Rattle.manager.proofs.CauseLaws.{refusal-prefix, refusal-rest}
 use borrow.Author.Needs.{needs}
 use Rattle.manager.proofs.refusals.write_refusal.Statement.{statement}
 use Rattle.manager.proofs.refusals.write_refusal.Tie as tie
-use Rattle.manager.proofs.refusals.write_refusal.Reads as reads
-use Rattle.manager.proofs.refusals.write_refusal.Lts as lts
-use Rattle.manager.proofs.refusals.mapping_of.Reads as mapping-of-reads
-use Rattle.manager.proofs.refusals.page_refusal.Reads as page-refusal-reads
+
+-- what the function is lent
+abbrev T : tie.Start → Tables
+T s = tables (s .args .list) (s .args .records .now) (s .args .protections .now)
+
+-- the cause that a write adds to a read's
+abbrev own : tie.Start → List Cause
+own s = (10 if eqb (mappingOf (s .args .list) (s .args .space) (s .args .page) .rights) readOnly) ∷ []
+
+-- past the causes of a read it decides
+rest : (c : tie.Else1) → firstRefusal (own (c .before .before .before .before)) ≡ firstRefusal (writeCauses board01 (T (c .before .before .before .before)) (c .before .before .before .before .args .space) (c .before .before .before .before .args .page))
+unfolding writeCauses
+rest c =
+    let s = c .before .before .before .before in
+    refusal-rest (pageCauses board01 (T s) (s .args .space) (s .args .page)) (own s) refl (sym (c .before .page-refusal .ensures) ∙ c .if1 .left)
 
 page-refusal-requires : tie.Need-page-refusal-requires
 page-refusal-requires c κs = search needs
 
 returns : tie.Need-returns
-returns c = ?
+unfolding firstRefusal writeCauses
+returns c = c .before .page-refusal .ensures ∙ refusal-prefix (pageCauses board01 (T (c .before .before .before .before)) (c .before .before .before .before .args .space) (c .before .before .before .before .args .page)) (own (c .before .before .before .before)) (λ z. c .if1 .taken (c .before .page-refusal .ensures ∙ z))
 
 mapping-of-requires : tie.Need-mapping-of-requires
 mapping-of-requires c κs = search needs
 
 returns-2 : tie.Need-returns-2
-returns-2 c = ?
+unfolding firstRefusal writeCauses
+returns-2 c = sym (ap (λ (t : Bool). cond t 10 0) (ap (λ (m : Mapping). eqb (m .rights) readOnly) (sym (c .before .before .mapping-of .ensures)) ∙ eq-eqb _ _ (c .if2 .taken))) ∙ rest (c .before .before .before)
 
 returns-3 : tie.Need-returns-3
-returns-3 c = ?
+unfolding firstRefusal writeCauses
+returns-3 c = sym (ap (λ (t : Bool). cond t 10 0) (ap (λ (m : Mapping). eqb (m .rights) readOnly) (sym (c .before .before .mapping-of .ensures)) ∙ ne-eqb _ _ (c .if2 .left))) ∙ rest (c .before .before .before)
 
 pub write-refusal-spec : {M : Type 1} → statement M
 write-refusal-spec =
