@@ -1,6 +1,6 @@
 // The manager: keeps the page states of all frames and gives the orders. A call is a plan, which changes nothing, and a commit.
-mod records;
-mod refusals;
+pub mod records;
+pub mod refusals;
 
 ghost use mathlib.Core.Path.{_≡_};
 ghost use Rattle.board.specs.Board.{board01};

@@ -11,7 +11,7 @@ use mapping::Mapping;
 use mapping::MappingList;
 
 // Of what every call is lent.
-fn tables_refusal(list: MappingList, records: &[u8], protections: &[u8]) -> u8
+pub fn tables_refusal(list: MappingList, records: &[u8], protections: &[u8]) -> u8
     ensures { λ r. ⌜ r ≡ firstRefusal (tableCauses board01 (tables list (now (records .entry)) (now (protections .entry)))) ⌝ }
 {
     if records.len() != board::FRAMES * RECORD_BYTES {

@@ -1,0 +1,60 @@
+-- How a call is planned: the machine's own refusal beside the manager's plan, of which the number that stands earlier is given.
+use mathlib.Core.Bool.{Bool, true, not, cond, _&&_}
+use mathlib.Core.List.{List, [], _∷_, _++_}
+use mathlib.Core.Option.{none, some}
+use Prim.Native.Nat.{ℕ, zero, suc, min}
+use lib.Dec.{leb}
+use Rattle.board.specs.Board.{Board}
+use Rattle.manager.specs.declared.Plan.{Plan}
+use Rattle.manager.specs.declared.Plan.the-variants as step-plan
+use Rattle.manager.specs.declared.ListPlan.{ListPlan}
+use Rattle.manager.specs.declared.ListPlan.the-variants as list-plan
+use Rattle.manager.specs.Answers.{refused, accepted}
+use Rattle.manager.specs.Refusals.{Cause, _if_}
+use Rattle.cache.specs.Store.{Store}
+use Rattle.cache.specs.Tag.{tagsKeepRules}
+use Rattle.machine.specs.declared.Loaded.{Loaded}
+use Rattle.machine.specs.declared.Loaded.the-variants.{Refused, Word}
+use Rattle.machine.specs.Refusals.{storeLengths}
+use Rattle.machine.specs.State.{Answer}
+use Rattle.machine.specs.Step.{answer}
+
+-- the causes in memory, cache words and tags, and whether a device's buffer has its length
+unfoldable pub storeCauses : Board → Store → Bool → List Cause
+storeCauses b s buffer = (1 if not (storeLengths b s && buffer)) ∷ (2 if not (tagsKeepRules b (s .tags))) ∷ []
+
+-- and in an offset, or a line, with its limit
+unfoldable pub accessCauses : Board → Store → ℕ → ℕ → List Cause
+unfolding storeCauses
+accessCauses b s limit offset = storeCauses b s true ++ (6 if leb limit offset) ∷ []
+
+-- of two refusals, each a number or 0 for none, the earlier
+abbrev pub earlier : ℕ → ℕ → ℕ
+earlier zero n = n
+earlier (suc m) zero = suc m
+earlier (suc m) (suc n) = min (suc m) (suc n)
+
+-- the number of a plan's refusal, or 0
+abbrev pub stepNumber : Plan → ℕ
+stepNumber (step-plan.Refused n) = n
+stepNumber (step-plan.Step change) = 0
+
+abbrev pub placeNumber : ListPlan → ℕ
+placeNumber (list-plan.Refused n) = n
+placeNumber (list-plan.Place place) = 0
+
+-- a plan beside a refusal
+abbrev pub withStep : ℕ → Plan → Plan
+withStep own (step-plan.Refused n) = step-plan.Refused (earlier own n)
+withStep zero (step-plan.Step change) = step-plan.Step change
+withStep (suc own) (step-plan.Step change) = step-plan.Refused (suc own)
+
+abbrev pub withPlace : ℕ → ListPlan → ListPlan
+withPlace own (list-plan.Refused n) = list-plan.Refused (earlier own n)
+withPlace zero (list-plan.Place place) = list-plan.Place place
+withPlace (suc own) (list-plan.Place place) = list-plan.Refused (suc own)
+
+-- what a read's answer says
+abbrev pub loaded : Loaded → Answer
+loaded (Refused n) = answer (refused n) none []
+loaded (Word ops word) = answer (accepted (ops .frame) (ops .ops)) (some word) []

@@ -1,0 +1,112 @@
+// What a call would do, told before anything changes: the machine's own refusal beside the manager's plan.
+ghost use mathlib.Core.Path.{_≡_};
+ghost use mathlib.Core.Bool.{true};
+ghost use lib.Dec.{eqb};
+ghost use lib.ListN.{length};
+ghost use Rattle.board.specs.Board.{board01};
+ghost use Rattle.manager.specs.Refusals.{firstRefusal};
+ghost use Rattle.cache.specs.Store.{store};
+ghost use Rattle.machine.specs.Plans.{storeCauses, accessCauses, earlier, stepNumber, placeNumber, withStep, withPlace};
+use manager::ListPlan;
+use manager::Plan;
+
+// The refusal in memory, cache words and tags, or 0.
+pub fn store_refusal(memory: &[u32], words: &[u32], tags: &[u8]) -> u8
+    ensures { λ r. ⌜ r ≡ firstRefusal (storeCauses board01 (store (now (memory .entry)) (now (words .entry)) (now (tags .entry))) true) ⌝ }
+{
+    if memory.len() != board::MEMORY_WORDS {
+        return 1;
+    }
+    if words.len() != board::CACHE_WORDS {
+        return 1;
+    }
+    if tags.len() != board::LINES {
+        return 1;
+    }
+    if !cache::tag::tags_keep_rules(tags) {
+        return 2;
+    }
+    0
+}
+
+// The same with a device's buffer.
+pub fn transfer_refusal(memory: &[u32], words: &[u32], tags: &[u8], buffer: &[u32]) -> u8
+    ensures { λ r. ⌜ r ≡ firstRefusal (storeCauses board01 (store (now (memory .entry)) (now (words .entry)) (now (tags .entry))) (eqb (length (now (buffer .entry))) (board01 .pageWords))) ⌝ }
+{
+    if buffer.len() != board::PAGE_WORDS {
+        return 1;
+    }
+    store_refusal(memory, words, tags)
+}
+
+// The same with an offset, or a line, and its limit.
+pub fn access_refusal(memory: &[u32], words: &[u32], tags: &[u8], limit: usize, offset: usize) -> u8
+    ensures { λ r. ⌜ r ≡ firstRefusal (accessCauses board01 (store (now (memory .entry)) (now (words .entry)) (now (tags .entry))) limit offset) ⌝ }
+{
+    let refusal = store_refusal(memory, words, tags);
+    if refusal != 0 {
+        return refusal;
+    }
+    if offset >= limit {
+        return 6;
+    }
+    0
+}
+
+// The manager's refusal is handed on, unless the machine's own stands earlier.
+pub fn with_step(own: u8, plan: Plan) -> Plan
+    ensures { λ r. ⌜ r ≡ withStep own plan ⌝ }
+{
+    let Plan::Step(change) = plan else {
+        return Plan::Refused(earlier(own, step_number(plan)));
+    };
+    if own != 0 {
+        return Plan::Refused(own);
+    }
+    Plan::Step(change)
+}
+
+// The same for a plan of the list.
+pub fn with_place(own: u8, plan: ListPlan) -> ListPlan
+    ensures { λ r. ⌜ r ≡ withPlace own plan ⌝ }
+{
+    let ListPlan::Place(place) = plan else {
+        return ListPlan::Refused(earlier(own, place_number(plan)));
+    };
+    if own != 0 {
+        return ListPlan::Refused(own);
+    }
+    ListPlan::Place(place)
+}
+
+// Of two refusals, 0 for none, the earlier.
+pub fn earlier(own: u8, managers: u8) -> u8
+    ensures { λ r. ⌜ r ≡ earlier own managers ⌝ }
+{
+    if own == 0 {
+        return managers;
+    }
+    if managers == 0 {
+        return own;
+    }
+    if own < managers { own } else { managers }
+}
+
+// The number of a refusal.
+fn step_number(plan: Plan) -> u8
+    ensures { λ r. ⌜ r ≡ stepNumber plan ⌝ }
+{
+    match plan {
+        Plan::Refused(number) => number,
+        Plan::Step(_) => 0,
+    }
+}
+
+fn place_number(plan: ListPlan) -> u8
+    ensures { λ r. ⌜ r ≡ placeNumber plan ⌝ }
+{
+    match plan {
+        ListPlan::Refused(number) => number,
+        ListPlan::Place(_) => 0,
+    }
+}
