@@ -10,13 +10,15 @@ use Rattle.manager.specs.declared.Plan.the-variants as step-plan
 use Rattle.manager.specs.declared.ListPlan.{ListPlan}
 use Rattle.manager.specs.declared.ListPlan.the-variants as list-plan
 use Rattle.manager.specs.Answers.{refused, accepted}
-use Rattle.manager.specs.Refusals.{Cause, _if_}
+use Rattle.manager.specs.declared.Change.{Change}
+use Rattle.manager.specs.Calls.{planned, placed}
+use Rattle.manager.specs.Refusals.{Cause, _if_, firstRefusal}
 use Rattle.cache.specs.Store.{Store}
 use Rattle.cache.specs.Tag.{tagsKeepRules}
 use Rattle.machine.specs.declared.Loaded.{Loaded}
 use Rattle.machine.specs.declared.Loaded.the-variants.{Refused, Word}
-use Rattle.machine.specs.Refusals.{storeLengths}
-use Rattle.machine.specs.State.{Answer}
+use Rattle.machine.specs.Refusals.{storeLengths, causes}
+use Rattle.machine.specs.State.{State, Call, Answer}
 use Rattle.machine.specs.Step.{answer}
 
 -- the causes in memory, cache words and tags, and whether a device's buffer has its length
@@ -29,7 +31,7 @@ unfolding storeCauses
 accessCauses b s limit offset = storeCauses b s true ++ (6 if leb limit offset) ∷ []
 
 -- of two refusals, each a number or 0 for none, the earlier
-abbrev pub earlier : ℕ → ℕ → ℕ
+unfoldable pub earlier : ℕ → ℕ → ℕ
 earlier zero n = n
 earlier (suc m) zero = suc m
 earlier (suc m) (suc n) = min (suc m) (suc n)
@@ -44,15 +46,24 @@ placeNumber (list-plan.Refused n) = n
 placeNumber (list-plan.Place place) = 0
 
 -- a plan beside a refusal
-abbrev pub withStep : ℕ → Plan → Plan
+unfoldable pub withStep : ℕ → Plan → Plan
+unfolding earlier
 withStep own (step-plan.Refused n) = step-plan.Refused (earlier own n)
 withStep zero (step-plan.Step change) = step-plan.Step change
 withStep (suc own) (step-plan.Step change) = step-plan.Refused (suc own)
 
-abbrev pub withPlace : ℕ → ListPlan → ListPlan
+unfoldable pub withPlace : ℕ → ListPlan → ListPlan
+unfolding earlier
 withPlace own (list-plan.Refused n) = list-plan.Refused (earlier own n)
 withPlace zero (list-plan.Place place) = list-plan.Place place
 withPlace (suc own) (list-plan.Place place) = list-plan.Refused (suc own)
+
+-- a call's plan: the refusal of the first cause that applies, else the change, or the place
+abbrev pub planStep : Board → State → Call → Change → Plan
+planStep b st call change = planned (firstRefusal (causes b st call)) change
+
+abbrev pub planPlace : Board → State → Call → ℕ → ListPlan
+planPlace b st call place = placed (firstRefusal (causes b st call)) place
 
 -- what a read's answer says
 abbrev pub loaded : Loaded → Answer

@@ -26,3 +26,240 @@ pub enum Loaded {
     Refused(u8),
     Word(FrameOps, u32),
 }
+
+// Gives a page of a space its frame.
+pub fn map(
+    list: MappingList,
+    records: &[u8],
+    protections: &mut [u8],
+    memory: &[u32],
+    words: &[u32],
+    tags: &[u8],
+    m: Mapping,
+) -> Listed
+    ensures { λ r. ⌜ result (answer (outcome (r .answer)) none []) (state (tables (r .list) (now (records .entry)) (now (protections .exit))) (store (now (memory .entry)) (now (words .entry)) (now (tags .entry))))
+        ≡ step board01 (state (tables list (now (records .entry)) (now (protections .entry))) (store (now (memory .entry)) (now (words .entry)) (now (tags .entry)))) (call.map (m .space) (m .page) (m .frame) (m .rights)) ⌝ }
+{
+    let plan = plans::plan_map(list, records, protections, memory, words, tags, m);
+    match plan {
+        ListPlan::Refused(number) => manager::refused_as(list, number),
+        ListPlan::Place(_) => manager::listed_as(manager::commit_map(
+            list,
+            records,
+            protections,
+            m,
+        )),
+    }
+}
+
+// Takes a page of a space its frame.
+pub fn unmap(
+    list: MappingList,
+    records: &[u8],
+    protections: &mut [u8],
+    memory: &[u32],
+    words: &[u32],
+    tags: &[u8],
+    space: u8,
+    page: u16,
+) -> Listed
+    ensures { λ r. ⌜ result (answer (outcome (r .answer)) none []) (state (tables (r .list) (now (records .entry)) (now (protections .exit))) (store (now (memory .entry)) (now (words .entry)) (now (tags .entry))))
+        ≡ step board01 (state (tables list (now (records .entry)) (now (protections .entry))) (store (now (memory .entry)) (now (words .entry)) (now (tags .entry)))) (call.unmap space page) ⌝ }
+{
+    let plan = plans::plan_unmap(list, records, protections, memory, words, tags, space, page);
+    match plan {
+        ListPlan::Refused(number) => manager::refused_as(list, number),
+        ListPlan::Place(place) => manager::listed_as(manager::commit_unmap(
+            list,
+            records,
+            protections,
+            place,
+        )),
+    }
+}
+
+// The processor reads a word.
+pub fn read(
+    list: MappingList,
+    records: &mut [u8],
+    protections: &mut [u8],
+    memory: &mut [u32],
+    words: &mut [u32],
+    tags: &mut [u8],
+    space: u8,
+    page: u16,
+    offset: usize,
+) -> Loaded
+    ensures { λ r. ⌜ result (loaded r) (state (tables list (now (records .exit)) (now (protections .exit))) (store (now (memory .exit)) (now (words .exit)) (now (tags .exit))))
+        ≡ step board01 (state (tables list (now (records .entry)) (now (protections .entry))) (store (now (memory .entry)) (now (words .entry)) (now (tags .entry)))) (call.read space page offset) ⌝ }
+{
+    let plan = plans::plan_read(
+        list,
+        records,
+        protections,
+        memory,
+        words,
+        tags,
+        space,
+        page,
+        offset,
+    );
+    match plan {
+        Plan::Refused(number) => Loaded::Refused(number),
+        Plan::Step(change) => {
+            let frame = change.frame;
+            let next = change.next;
+            let ops = change.ops;
+            manager::commit_change(list, records, protections, frame, next);
+            let colour = board::colour_of(page as usize);
+            let word = orders::load(memory, words, tags, frame as usize, ops, colour, offset);
+            Loaded::Word(FrameOps { frame, ops }, word)
+        }
+    }
+}
+
+// The processor writes a word.
+pub fn write(
+    list: MappingList,
+    records: &mut [u8],
+    protections: &mut [u8],
+    memory: &mut [u32],
+    words: &mut [u32],
+    tags: &mut [u8],
+    space: u8,
+    page: u16,
+    offset: usize,
+    word: u32,
+) -> Answer
+    ensures { λ r. ⌜ result (answer (outcome r) none []) (state (tables list (now (records .exit)) (now (protections .exit))) (store (now (memory .exit)) (now (words .exit)) (now (tags .exit))))
+        ≡ step board01 (state (tables list (now (records .entry)) (now (protections .entry))) (store (now (memory .entry)) (now (words .entry)) (now (tags .entry)))) (call.write space page offset word) ⌝ }
+{
+    let plan = plans::plan_write(
+        list,
+        records,
+        protections,
+        memory,
+        words,
+        tags,
+        space,
+        page,
+        offset,
+    );
+    match plan {
+        Plan::Refused(number) => Answer::Refused(number),
+        Plan::Step(change) => {
+            let frame = change.frame;
+            let next = change.next;
+            let ops = change.ops;
+            manager::commit_change(list, records, protections, frame, next);
+            let colour = board::colour_of(page as usize);
+            orders::put(
+                memory,
+                words,
+                tags,
+                frame as usize,
+                ops,
+                colour,
+                offset,
+                word,
+            );
+            Answer::Accepted(FrameOps { frame, ops })
+        }
+    }
+}
+
+// A device reads a frame: its buffer is filled.
+pub fn device_read(
+    list: MappingList,
+    records: &mut [u8],
+    protections: &mut [u8],
+    memory: &mut [u32],
+    words: &[u32],
+    tags: &mut [u8],
+    buffer: &mut [u32],
+    frame: u8,
+) -> Answer
+    ensures { λ r. ⌜ result (answer (outcome r) none (now (buffer .exit))) (state (tables list (now (records .exit)) (now (protections .exit))) (store (now (memory .exit)) (now (words .entry)) (now (tags .exit))))
+        ≡ step board01 (state (tables list (now (records .entry)) (now (protections .entry))) (store (now (memory .entry)) (now (words .entry)) (now (tags .entry)))) (call.deviceRead frame (now (buffer .entry))) ⌝ }
+{
+    let plan = plans::plan_device_read(
+        list,
+        records,
+        protections,
+        memory,
+        words,
+        tags,
+        buffer,
+        frame,
+    );
+    match plan {
+        Plan::Refused(number) => Answer::Refused(number),
+        Plan::Step(change) => {
+            let frame = change.frame;
+            let next = change.next;
+            let ops = change.ops;
+            manager::commit_change(list, records, protections, frame, next);
+            orders::send(memory, words, tags, frame as usize, ops, buffer);
+            Answer::Accepted(FrameOps { frame, ops })
+        }
+    }
+}
+
+// A device writes a frame: its buffer is only read.
+pub fn device_write(
+    list: MappingList,
+    records: &mut [u8],
+    protections: &mut [u8],
+    memory: &mut [u32],
+    words: &[u32],
+    tags: &mut [u8],
+    buffer: &[u32],
+    frame: u8,
+) -> Answer
+    ensures { λ r. ⌜ result (answer (outcome r) none []) (state (tables list (now (records .exit)) (now (protections .exit))) (store (now (memory .exit)) (now (words .entry)) (now (tags .exit))))
+        ≡ step board01 (state (tables list (now (records .entry)) (now (protections .entry))) (store (now (memory .entry)) (now (words .entry)) (now (tags .entry)))) (call.deviceWrite frame (now (buffer .entry))) ⌝ }
+{
+    let plan = plans::plan_device_write(
+        list,
+        records,
+        protections,
+        memory,
+        words,
+        tags,
+        buffer,
+        frame,
+    );
+    match plan {
+        Plan::Refused(number) => Answer::Refused(number),
+        Plan::Step(change) => {
+            let frame = change.frame;
+            let next = change.next;
+            let ops = change.ops;
+            manager::commit_change(list, records, protections, frame, next);
+            orders::receive(memory, words, tags, frame as usize, ops, buffer);
+            Answer::Accepted(FrameOps { frame, ops })
+        }
+    }
+}
+
+// A line is written back if it is dirty, and emptied: document 01's turning out.
+pub fn evict(
+    list: MappingList,
+    records: &[u8],
+    protections: &mut [u8],
+    memory: &mut [u32],
+    words: &[u32],
+    tags: &mut [u8],
+    line: usize,
+) -> Answer
+    ensures { λ r. ⌜ result (answer (outcome r) none []) (state (tables list (now (records .entry)) (now (protections .exit))) (store (now (memory .exit)) (now (words .entry)) (now (tags .exit))))
+        ≡ step board01 (state (tables list (now (records .entry)) (now (protections .entry))) (store (now (memory .entry)) (now (words .entry)) (now (tags .entry)))) (call.evict line) ⌝ }
+{
+    let refusal = plans::evict_refusal(list, records, protections, memory, words, tags, line);
+    if refusal != 0 {
+        return Answer::Refused(refusal);
+    }
+    manager::records::refill(list, records, protections);
+    cache::line::evict(memory, words, tags, line);
+    manager::no_orders()
+}

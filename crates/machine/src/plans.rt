@@ -3,12 +3,147 @@ ghost use mathlib.Core.Path.{_≡_};
 ghost use mathlib.Core.Bool.{true};
 ghost use lib.Dec.{eqb};
 ghost use lib.ListN.{length};
-ghost use Rattle.board.specs.Board.{board01};
-ghost use Rattle.manager.specs.Refusals.{firstRefusal};
+ghost use Rattle.board.specs.Board.{board01, colourOf};
+ghost use Rattle.page_model.specs.Table as step;
+ghost use Rattle.mapping.specs.Lookup.{lookup};
+ghost use Rattle.manager.specs.Calls.{changeOf};
+ghost use Rattle.manager.specs.Tables.{tables};
+ghost use Rattle.manager.specs.Refusals.{firstRefusal, placeOf, mappingOf};
 ghost use Rattle.cache.specs.Store.{store};
-ghost use Rattle.machine.specs.Plans.{storeCauses, accessCauses, earlier, stepNumber, placeNumber, withStep, withPlace};
+ghost use Rattle.machine.specs.Refusals.{causes};
+ghost use Rattle.machine.specs.State as call;
+ghost use Rattle.machine.specs.State.{state};
+ghost use Rattle.machine.specs.Plans.{planStep, planPlace, storeCauses, accessCauses, earlier, stepNumber, placeNumber, withStep, withPlace};
 use manager::ListPlan;
 use manager::Plan;
+use mapping::Mapping;
+use mapping::MappingList;
+
+// What `map` would do.
+pub fn plan_map(
+    list: MappingList,
+    records: &[u8],
+    protections: &[u8],
+    memory: &[u32],
+    words: &[u32],
+    tags: &[u8],
+    m: Mapping,
+) -> ListPlan
+    ensures { λ r. ⌜ r ≡ planPlace board01 (state (tables list (now (records .entry)) (now (protections .entry))) (store (now (memory .entry)) (now (words .entry)) (now (tags .entry)))) (call.map (m .space) (m .page) (m .frame) (m .rights)) (list .count) ⌝ }
+{
+    let own = store_refusal(memory, words, tags);
+    let plan = manager::plan_map(list, records, protections, m);
+    with_place(own, plan)
+}
+
+// What `unmap` would do.
+pub fn plan_unmap(
+    list: MappingList,
+    records: &[u8],
+    protections: &[u8],
+    memory: &[u32],
+    words: &[u32],
+    tags: &[u8],
+    space: u8,
+    page: u16,
+) -> ListPlan
+    ensures { λ r. ⌜ r ≡ planPlace board01 (state (tables list (now (records .entry)) (now (protections .entry))) (store (now (memory .entry)) (now (words .entry)) (now (tags .entry)))) (call.unmap space page) (placeOf (lookup list space page)) ⌝ }
+{
+    let own = store_refusal(memory, words, tags);
+    let plan = manager::plan_unmap(list, records, protections, space, page);
+    with_place(own, plan)
+}
+
+// What `read` would do.
+pub fn plan_read(
+    list: MappingList,
+    records: &[u8],
+    protections: &[u8],
+    memory: &[u32],
+    words: &[u32],
+    tags: &[u8],
+    space: u8,
+    page: u16,
+    offset: usize,
+) -> Plan
+    ensures { λ r. ⌜ r ≡ planStep board01 (state (tables list (now (records .entry)) (now (protections .entry))) (store (now (memory .entry)) (now (words .entry)) (now (tags .entry)))) (call.read space page offset) (changeOf board01 (tables list (now (records .entry)) (now (protections .entry))) (mappingOf list space page .frame) (step.read (colourOf board01 page))) ⌝ }
+{
+    let own = access_refusal(memory, words, tags, board::PAGE_WORDS, offset);
+    let plan = manager::plan_read(list, records, protections, space, page);
+    with_step(own, plan)
+}
+
+// What `write` would do, whatever the word.
+pub fn plan_write(
+    list: MappingList,
+    records: &[u8],
+    protections: &[u8],
+    memory: &[u32],
+    words: &[u32],
+    tags: &[u8],
+    space: u8,
+    page: u16,
+    offset: usize,
+) -> Plan
+    ensures { λ r. ⌜ r ≡ planStep board01 (state (tables list (now (records .entry)) (now (protections .entry))) (store (now (memory .entry)) (now (words .entry)) (now (tags .entry)))) (call.write space page offset 0) (changeOf board01 (tables list (now (records .entry)) (now (protections .entry))) (mappingOf list space page .frame) (step.write (colourOf board01 page))) ⌝ }
+{
+    let own = access_refusal(memory, words, tags, board::PAGE_WORDS, offset);
+    let plan = manager::plan_write(list, records, protections, space, page);
+    with_step(own, plan)
+}
+
+// What `device_read` would do.
+pub fn plan_device_read(
+    list: MappingList,
+    records: &[u8],
+    protections: &[u8],
+    memory: &[u32],
+    words: &[u32],
+    tags: &[u8],
+    buffer: &[u32],
+    frame: u8,
+) -> Plan
+    ensures { λ r. ⌜ r ≡ planStep board01 (state (tables list (now (records .entry)) (now (protections .entry))) (store (now (memory .entry)) (now (words .entry)) (now (tags .entry)))) (call.deviceRead frame (now (buffer .entry))) (changeOf board01 (tables list (now (records .entry)) (now (protections .entry))) frame step.deviceRead) ⌝ }
+{
+    let own = transfer_refusal(memory, words, tags, buffer);
+    let plan = manager::plan_device_read(list, records, protections, frame);
+    with_step(own, plan)
+}
+
+// What `device_write` would do.
+pub fn plan_device_write(
+    list: MappingList,
+    records: &[u8],
+    protections: &[u8],
+    memory: &[u32],
+    words: &[u32],
+    tags: &[u8],
+    buffer: &[u32],
+    frame: u8,
+) -> Plan
+    ensures { λ r. ⌜ r ≡ planStep board01 (state (tables list (now (records .entry)) (now (protections .entry))) (store (now (memory .entry)) (now (words .entry)) (now (tags .entry)))) (call.deviceWrite frame (now (buffer .entry))) (changeOf board01 (tables list (now (records .entry)) (now (protections .entry))) frame step.deviceWrite) ⌝ }
+{
+    let own = transfer_refusal(memory, words, tags, buffer);
+    let plan = manager::plan_device_write(list, records, protections, frame);
+    with_step(own, plan)
+}
+
+// The refusal of `evict`, or 0.
+pub fn evict_refusal(
+    list: MappingList,
+    records: &[u8],
+    protections: &[u8],
+    memory: &[u32],
+    words: &[u32],
+    tags: &[u8],
+    line: usize,
+) -> u8
+    ensures { λ r. ⌜ r ≡ firstRefusal (causes board01 (state (tables list (now (records .entry)) (now (protections .entry))) (store (now (memory .entry)) (now (words .entry)) (now (tags .entry)))) (call.evict line)) ⌝ }
+{
+    let own = access_refusal(memory, words, tags, board::LINES, line);
+    let managers = manager::refusals::tables_refusal(list, records, protections);
+    earlier(own, managers)
+}
 
 // The refusal in memory, cache words and tags, or 0.
 pub fn store_refusal(memory: &[u32], words: &[u32], tags: &[u8]) -> u8

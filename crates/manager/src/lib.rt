@@ -315,7 +315,7 @@ fn step_of(frame: u8, stepped: Stepped) -> Plan
 }
 
 // A refusal leaves the list as it was.
-fn refused_as(list: MappingList, number: u8) -> Listed
+pub fn refused_as(list: MappingList, number: u8) -> Listed
     ensures { λ r. ⌜ (outcome (r .answer) ≡ refused number) × (r .list ≡ list) ⌝ }
 {
     Listed {
@@ -325,17 +325,24 @@ fn refused_as(list: MappingList, number: u8) -> Listed
 }
 
 // The next list, with no orders.
-fn listed_as(list: MappingList) -> Listed
+pub fn listed_as(list: MappingList) -> Listed
     ensures { λ r. ⌜ (outcome (r .answer) ≡ accepted 0 noOps) × (r .list ≡ list) ⌝ }
 {
     Listed {
-        answer: Answer::Accepted(FrameOps {
-            frame: 0,
-            ops: Ops {
-                first: Op::None,
-                second: Op::None,
-            },
-        }),
+        answer: no_orders(),
         list,
     }
+}
+
+// An accepted call that orders nothing.
+pub fn no_orders() -> Answer
+    ensures { λ r. ⌜ outcome r ≡ accepted 0 noOps ⌝ }
+{
+    Answer::Accepted(FrameOps {
+        frame: 0,
+        ops: Ops {
+            first: Op::None,
+            second: Op::None,
+        },
+    })
 }

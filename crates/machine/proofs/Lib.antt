@@ -1,0 +1,3 @@
+-- The machine's laws.
+pub mod StoreLaws
+pub mod MergeLaws

@@ -1,0 +1,54 @@
+-- Laws of the refusals in memory, cache words and tags, and of what the orders leave of them.
+use mathlib.Core.Path.{_≡_, refl, sym, ap, ap₂, _∙_}
+use mathlib.Core.Bool.{Bool, true, false, not, cond, _&&_, and-false}
+use Prim.Native.Nat.{ℕ, zero, suc, _<_}
+use borrow.Author.Tests.{eq-eqb, eqb-true}
+use lib.Dec.{eqb}
+use lib.ListN.{length}
+use Rattle.bits.proofs.Tautology.{and-left, and-right}
+use Rattle.board.specs.Board.{Board, Regular, memoryWords, cacheWords, lines}
+use Rattle.page_model.specs.declared.Op.{Op}
+use Rattle.page_model.specs.declared.Op.the-variants.{None, Flush, Purge}
+use Rattle.page_model.specs.Step.{OpBelow}
+use Rattle.manager.specs.Answers.{operationOn}
+use Rattle.cache.specs.Store.{Store, WellFormed}
+use Rattle.cache.specs.Tag.{tagsKeepRules}
+use Rattle.cache.proofs.Laws.Orders.{flush-kept, purge-kept}
+use Rattle.machine.specs.Refusals.{storeLengths}
+use Rattle.machine.specs.Step.{operate}
+
+module _ (b : Board) (s : Store) where
+  pub lengths-memory : eqb (length (s .memory)) (memoryWords b) ≡ false → storeLengths b s ≡ false
+  unfolding storeLengths
+  lengths-memory e = rw e
+
+  pub lengths-words : eqb (length (s .words)) (cacheWords b) ≡ false → storeLengths b s ≡ false
+  unfolding storeLengths
+  lengths-words e = rw (e, and-false)
+
+  pub lengths-tags : eqb (length (s .tags)) (lines b) ≡ false → storeLengths b s ≡ false
+  unfolding storeLengths
+  lengths-tags e = rw (e, and-false)
+
+  pub lengths-right : length (s .memory) ≡ memoryWords b → length (s .words) ≡ cacheWords b → length (s .tags) ≡ lines b → storeLengths b s ≡ true
+  unfolding storeLengths
+  lengths-right m w t = ap₂ _&&_ (ap₂ _&&_ (eq-eqb _ _ m) (eq-eqb _ _ w)) (eq-eqb _ _ t)
+
+  -- a store of its lengths whose tags keep the rules
+  pub well-formed : storeLengths b s ≡ true → tagsKeepRules b (s .tags) ≡ true → WellFormed b s
+  unfolding storeLengths
+  well-formed l r =
+      record {
+        memory-length = eqb-true (length (s .memory)) (memoryWords b) (search (and-left, and-right));
+        words-length = eqb-true (length (s .words)) (cacheWords b) (search (and-left, and-right));
+        tags-length = eqb-true (length (s .tags)) (lines b) (search (and-left, and-right));
+        tags-rules = r;
+      }
+
+-- an operation on a frame leaves a store of its lengths, whose tags keep the rules
+pub operate-kept : (b : Board) → Regular b → (f : ℕ) → f < b .frames → (op : Op) → OpBelow (b .colours) op → (s : Store) → WellFormed b s
+    → WellFormed b (operate b (operationOn f op) s)
+unfolding operate
+operate-kept b reg f hf None below s wf = wf
+operate-kept b reg f hf (Flush c) below s wf = flush-kept b reg f c hf below s wf
+operate-kept b reg f hf (Purge c) below s wf = purge-kept b reg f c below s wf

@@ -1,0 +1,64 @@
+-- `machine::operate` meets its contract.
+use mathlib.Core.Path.{subst}
+use Rattle.board.specs.Board.{board01}
+use Rattle.page_model.specs.Step.{OpBelow}
+use Rattle.machine.specs.Step.{operate}
+use borrow.Author.Needs.{needs}
+use Rattle.machine.proofs.orders.operate.Statement.{statement}
+use Rattle.machine.proofs.orders.operate.Tie as tie
+
+enum-told : tie.Need-enum-told
+enum-told c = search needs
+
+enum-known-op : tie.Need-enum-known-op
+enum-known-op c = search needs
+
+flush-requires : tie.Need-flush-requires
+flush-requires c κs =
+    let s = c .before .before .before .before .before .before .before .before in
+    (s .pre .0, s .pre .1, subst (OpBelow (board01 .colours)) (c .before .before .before .op .given .1) (s .pre .2))
+
+enum-known-op-2 : tie.Need-enum-known-op-2
+enum-known-op-2 c = search needs
+
+purge-requires : tie.Need-purge-requires
+purge-requires c κs =
+    let s = c .before .before .before .before .before .before .before in
+    (s .pre .0 .tags-length, s .pre .1, subst (OpBelow (board01 .colours)) (c .before .before .op2 .given .1) (s .pre .2))
+
+returns : tie.Need-returns
+unfolding operate
+returns c = rw (c .enum-told .given .1)
+
+same-length : tie.Need-same-length
+same-length c = search needs
+
+same-length-2 : tie.Need-same-length-2
+same-length-2 c = search needs
+
+returns-2 : tie.Need-returns-2
+unfolding operate
+returns-2 c = rw (c .before .before .before .before .before .before .before .before .op .given .1) (c .before .before .before .before .flush .ensures)
+
+same-length-3 : tie.Need-same-length-3
+same-length-3 c = search needs
+
+returns-3 : tie.Need-returns-3
+unfolding operate
+returns-3 c = rw (c .before .before .before .before .before .op2 .given .1) (c .before .before .purge .ensures _ _)
+
+pub operate-spec : {M : Type 1} → statement M
+operate-spec =
+    tie.close
+    (tie.spec
+    enum-told
+    enum-known-op
+    flush-requires
+    enum-known-op-2
+    purge-requires
+    returns
+    same-length
+    same-length-2
+    returns-2
+    same-length-3
+    returns-3)

@@ -1,0 +1,34 @@
+-- `machine::plan_device_write` meets its contract.
+use mathlib.Core.Path.{ap₂, _∙_}
+use Rattle.board.specs.Board.{board01}
+use Rattle.manager.specs.Tables.{tables}
+use Rattle.cache.specs.Store.{store}
+use Rattle.machine.specs.State.{State, state}
+use Rattle.machine.specs.Plans.{withStep}
+use Rattle.machine.proofs.MergeLaws.{deviceWrite-merge, withStep-merged}
+use borrow.Author.Needs.{needs}
+use Rattle.machine.proofs.plans.plan_device_write.Statement.{statement}
+use Rattle.machine.proofs.plans.plan_device_write.Tie as tie
+
+-- what the function is lent
+abbrev St : tie.Start → State
+St s = state (tables (s .args .list) (s .args .records .now) (s .args .protections .now)) (store (s .args .memory .now) (s .args .words .now) (s .args .tags .now))
+
+transfer-refusal-requires : tie.Need-transfer-refusal-requires
+transfer-refusal-requires c κs = search needs
+
+plan-device-write-requires : tie.Need-plan-device-write-requires
+plan-device-write-requires c κs = search needs
+
+with-step-requires : tie.Need-with-step-requires
+with-step-requires c κs = search needs
+
+returns : tie.Need-returns
+returns c =
+    let s = c .before .before .before .before .before .before .before .before .before in
+    c .with-step .ensures ∙ ap₂ withStep (c .before .before .transfer-refusal .ensures) (c .before .plan-device-write .ensures) ∙ withStep-merged _ _ _ (deviceWrite-merge board01 (St s) (s .args .frame) (s .args .buffer .now))
+
+pub plan-device-write-spec : {M : Type 1} → statement M
+plan-device-write-spec =
+    tie.close
+    (tie.spec transfer-refusal-requires plan-device-write-requires with-step-requires returns)
