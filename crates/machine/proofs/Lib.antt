@@ -1,3 +1,4 @@
 -- The machine's laws.
 pub mod StoreLaws
 pub mod MergeLaws
+pub mod StepLaws

@@ -9,13 +9,14 @@ use Rattle.bits.proofs.Tautology.{and-left, and-right}
 use Rattle.board.specs.Board.{Board, Regular, memoryWords, cacheWords, lines}
 use Rattle.page_model.specs.declared.Op.{Op}
 use Rattle.page_model.specs.declared.Op.the-variants.{None, Flush, Purge}
+use Rattle.page_model.specs.declared.Ops.{Ops}
 use Rattle.page_model.specs.Step.{OpBelow}
-use Rattle.manager.specs.Answers.{operationOn}
+use Rattle.manager.specs.Answers.{operationOn, accepted}
 use Rattle.cache.specs.Store.{Store, WellFormed}
 use Rattle.cache.specs.Tag.{tagsKeepRules}
 use Rattle.cache.proofs.Laws.Orders.{flush-kept, purge-kept}
 use Rattle.machine.specs.Refusals.{storeLengths}
-use Rattle.machine.specs.Step.{operate}
+use Rattle.machine.specs.Step.{operate, carryOut}
 
 module _ (b : Board) (s : Store) where
   pub lengths-memory : eqb (length (s .memory)) (memoryWords b) ≡ false → storeLengths b s ≡ false
@@ -52,3 +53,9 @@ unfolding operate
 operate-kept b reg f hf None below s wf = wf
 operate-kept b reg f hf (Flush c) below s wf = flush-kept b reg f c hf below s wf
 operate-kept b reg f hf (Purge c) below s wf = purge-kept b reg f c below s wf
+
+-- and so do two
+pub carryOut-kept : (b : Board) → Regular b → (f : ℕ) → f < b .frames → (ops : Ops) → OpBelow (b .colours) (ops .first) → OpBelow (b .colours) (ops .second)
+    → (s : Store) → WellFormed b s → WellFormed b (carryOut b (accepted f ops) s)
+unfolding carryOut
+carryOut-kept b reg f hf ops first second s wf = operate-kept b reg f hf (ops .second) second _ (operate-kept b reg f hf (ops .first) first s wf)

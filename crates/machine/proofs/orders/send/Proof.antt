@@ -1,0 +1,38 @@
+-- `machine::send` meets its contract.
+use mathlib.Core.Path.{ap, _∙_}
+use Rattle.board.specs.Board.{board01}
+use Rattle.cache.specs.Cache.{deviceRead}
+use borrow.Author.Needs.{needs}
+use Rattle.machine.proofs.orders.send.Statement.{statement}
+use Rattle.machine.proofs.orders.send.Tie as tie
+
+carry-out-requires : tie.Need-carry-out-requires
+carry-out-requires c κs = search needs
+
+device-read-requires : tie.Need-device-read-requires
+device-read-requires c κs = search needs
+
+same-length : tie.Need-same-length
+same-length c = search needs
+
+same-length-2 : tie.Need-same-length-2
+same-length-2 c = search needs
+
+same-length-3 : tie.Need-same-length-3
+same-length-3 c = search needs
+
+returns : tie.Need-returns
+returns c =
+    let s = c .before .before .before .before .before .before .before .before .before .before .before .before .before .before .before .before in
+    (c .before .before .before .before .before .before .before .before .before .carry-out .ensures, c .before .before .device-read .ensures _ _ ∙ ap (deviceRead board01 (s .args .frame)) (c .before .before .before .before .before .before .before .before .before .carry-out .ensures))
+
+pub send-spec : {M : Type 1} → statement M
+send-spec =
+    tie.close
+    (tie.spec
+    carry-out-requires
+    device-read-requires
+    same-length
+    same-length-2
+    same-length-3
+    returns)
