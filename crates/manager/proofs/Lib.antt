@@ -1,3 +1,4 @@
 -- The manager's laws and theorems.
 pub mod Laws
 pub mod CauseLaws
+pub mod RecordLaws

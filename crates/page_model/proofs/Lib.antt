@@ -10,3 +10,4 @@ pub mod After
 pub mod Operations
 pub mod Passing
 pub mod Theorems
+pub mod Listed

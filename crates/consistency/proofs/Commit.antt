@@ -1,0 +1,99 @@
+-- The invariant after a change of the tables: a step of a frame's record, or another list.
+use mathlib.Core.Path.{_≡_, refl, ap, _∙_, subst⁻¹}
+use mathlib.Core.Bool.{true}
+use mathlib.Core.Logic.{_≢_}
+use mathlib.Core.List.{List}
+use Prim.Native.Nat.{ℕ, _<_}
+use native.Mathlib.Omega.{arith}
+use native.Mathlib.Decide.{ℕ-discrete}
+use Rattle.board.specs.Board.{Board}
+use Rattle.page_model.specs.declared.FrameRecord.{FrameRecord}
+use Rattle.page_model.specs.Record.{stateOf, keepsRules}
+use Rattle.page_model.specs.Step.{cellOf, recordAfter}
+use Rattle.page_model.specs.Table.{ColourState, Step}
+use Rattle.page_model.proofs.Cells.{each-state}
+use Rattle.page_model.proofs.Theorems.{step-keeps-rules, state-after}
+use Rattle.manager.specs.Calls.{changeOf, commitChange}
+use Rattle.manager.specs.Tables.{Tables, tables, recordAt, putRecord, refill}
+use Rattle.manager.proofs.Laws.{length-tabulate}
+use Rattle.manager.proofs.RecordLaws.{length-putRecord, recordAt-put-same, recordAt-put-other}
+use Rattle.cache.specs.Store.{Store, WellFormed}
+use Rattle.machine.specs.State.{State, state}
+use Rattle.consistency.specs.Cacheless.{Cacheless}
+use Rattle.consistency.proofs.Agrees.{Agrees}
+use Rattle.consistency.proofs.Invariant.{Sound, Invariant}
+use Rattle.consistency.proofs.Orders.{statesAfter}
+use Rattle.consistency.proofs.Weaker.{weaker, weaken}
+
+-- protections filled anew leave the tables sound
+pub refill-sound : (b : Board) (t : Tables) → Sound b t → Sound b (refill b t)
+unfolding refill
+refill-sound b t s =
+    record {
+      items-length = s .items-length;
+      records-length = s .records-length;
+      protections-length = length-tabulate _ _ ∙ s .protections-length;
+      list-rules = s .list-rules;
+      record-rules = s .record-rules;
+    }
+
+weaker-self : (s : ColourState) → weaker s s ≡ true
+weaker-self s = each-state (λ s. weaker s s) refl s
+
+module _ (b : Board) (st : State) (m : Cacheless) (inv : Invariant b st m) (f : ℕ) (hf : f < b .frames) (step : Step) where
+  frame-rules : keepsRules (b .colours) (recordAt (st .tables .records) f) ≡ true
+  frame-rules = inv .sound .record-rules f hf
+
+  next : FrameRecord
+  next = recordAfter (b .colours) step (recordAt (st .tables .records) f)
+
+  put : List ℕ
+  put = putRecord (st .tables .records) f next
+
+  at-same : recordAt put f ≡ next
+  unfolding put
+  at-same = let e = inv .sound .records-length in recordAt-put-same (st .tables .records) f next (omega arith)
+
+  at-other : (g : ℕ) → g ≢ f → recordAt put g ≡ recordAt (st .tables .records) g
+  unfolding put
+  at-other g ne = recordAt-put-other (st .tables .records) f next g ne
+
+  rules-after : (g : ℕ) → g < b .frames → Dec (g ≡ f) → keepsRules (b .colours) (recordAt put g) ≡ true
+  unfolding next
+  rules-after g hg (yes e) = ap (λ (x : ℕ). keepsRules (b .colours) (recordAt put x)) e ∙ ap (keepsRules (b .colours)) at-same ∙ step-keeps-rules (b .colours) step (recordAt (st .tables .records) f) frame-rules
+  rules-after g hg (no ne) = ap (keepsRules (b .colours)) (at-other g ne) ∙ inv .sound .record-rules g hg
+
+  commit-sound : Sound b (commitChange b (st .tables) f (changeOf b (st .tables) f step .next))
+  unfolding put next
+  commit-sound =
+      refill-sound b (tables (st .tables .list) put (st .tables .protections)) (record {
+        items-length = inv .sound .items-length;
+        records-length = length-putRecord (st .tables .records) f next ∙ inv .sound .records-length;
+        protections-length = inv .sound .protections-length;
+        list-rules = inv .sound .list-rules;
+        record-rules = λ g hg. rules-after g hg (ℕ-discrete g f);
+      })
+
+  -- the invariant after a step of f's record, if f's states after the step and the other frames' as they were agree with the store
+  module _ (s : Store) (words : ℕ → ℕ → ℕ) (kept : WellFormed b s)
+      (own : Agrees b f (statesAfter step (recordAt (st .tables .records) f)) (words f) s)
+      (others : (g : ℕ) → g < b .frames → g ≢ f → Agrees b g (stateOf (recordAt (st .tables .records) g)) (words g) s) where
+    agrees-after : (g : ℕ) → g < b .frames → Dec (g ≡ f) → Agrees b g (stateOf (recordAt put g)) (words g) s
+    unfolding next
+    agrees-after g hg (no ne) = subst⁻¹ (λ (x : FrameRecord). Agrees b g (stateOf x) (words g) s) (at-other g ne) (others g hg ne)
+    agrees-after g hg (yes e) =
+        subst⁻¹ (λ (x : ℕ). Agrees b x (stateOf (recordAt put x)) (words x) s) e
+        (subst⁻¹ (λ (x : FrameRecord). Agrees b f (stateOf x) (words f) s) at-same
+        (weaken b f (statesAfter step (recordAt (st .tables .records) f)) (stateOf next)
+        (λ k l. rw (state-after (b .colours) step (recordAt (st .tables .records) f) frame-rules k l) (weaker-self (cellOf step (recordAt (st .tables .records) f) k .next)))
+        s (words f) own))
+
+    pub commit-invariant : Invariant b (state (commitChange b (st .tables) f (changeOf b (st .tables) f step .next)) s) (record { word = words; frame = m .frame })
+    unfolding refill put next
+    commit-invariant =
+        record {
+          sound = commit-sound;
+          kept = kept;
+          agrees = λ g hg. agrees-after g hg (ℕ-discrete g f);
+          listed = inv .listed;
+        }

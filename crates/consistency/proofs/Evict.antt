@@ -1,0 +1,38 @@
+-- An accepted eviction loses no word and leaves no line that was not there.
+use mathlib.Core.Path.{_≡_, refl}
+use Prim.Native.Nat.{ℕ, _<_}
+use borrow.Author.Tests.{leb-false}
+use Rattle.board.specs.Board.{Board, Regular, lines}
+use Rattle.page_model.specs.Record.{stateOf}
+use Rattle.manager.specs.Refusals.{firstRefusal}
+use Rattle.manager.specs.Tables.{recordAt, refill}
+use Rattle.cache.specs.Cache as hardware
+use Rattle.cache.proofs.Laws.Evict.{evict-kept, evict-words, evict-tag-from}
+use Rattle.cache.proofs.Current.Line.{evict-current}
+use Rattle.machine.specs.Refusals.{causes}
+use Rattle.machine.specs.State.{State, state, evict}
+use Rattle.machine.specs.Step.{accept}
+use Rattle.consistency.specs.Cacheless.{Cacheless, accepted}
+use Rattle.consistency.proofs.Agrees.{emptied, untouched-agrees}
+use Rattle.consistency.proofs.Commit.{refill-sound}
+use Rattle.consistency.proofs.Invariant.{Invariant, Taken}
+use Rattle.consistency.proofs.Refused.{none-applies}
+
+module _ (b : Board) (reg : Regular b) (st : State) (m : Cacheless) (inv : Invariant b st m) (line : ℕ) where
+  pub evict-invariant : line < lines b → Invariant b (state (refill b (st .tables)) (hardware.evict b line (st .store))) m
+  unfolding refill
+  evict-invariant h =
+      record {
+        sound = refill-sound b (st .tables) (inv .sound);
+        kept = evict-kept b reg (st .store) (inv .kept) line h;
+        agrees = λ f hf.
+            untouched-agrees b f (stateOf (recordAt (st .tables .records) f)) (st .store) (hardware.evict b line (st .store))
+            (emptied b reg (st .store) (hardware.evict b line (st .store)) (λ n g _ e. evict-tag-from b reg (st .store) (inv .kept) line h n g e)
+            (evict-words b reg (st .store) (inv .kept) line h) f)
+            (m .word f) (evict-current b reg line h f (m .word f) (st .store) (inv .kept) (inv .agrees f hf .current)) (inv .agrees f hf);
+        listed = inv .listed;
+      }
+
+  pub evict-taken : firstRefusal (causes b st (evict line)) ≡ 0 → Taken b st m (evict line)
+  unfolding causes accept accepted
+  evict-taken e = (tt, evict-invariant (leb-false (lines b) line (none-applies (causes b st (evict line)) refl e .1 .1 .0)))

@@ -1,0 +1,42 @@
+-- Demand 3's invariant: what holds of the board's state and the cacheless memory between any two calls.
+use mathlib.Core.Path.{_≡_}
+use mathlib.Core.Bool.{true}
+use mathlib.Core.Option.{Option, none, some}
+use Prim.Native.Nat.{ℕ, _*_, _<_}
+use lib.ListN.{length}
+use Rattle.board.specs.Board.{Board}
+use Rattle.page_model.specs.Record.{stateOf, keepsRules}
+use Rattle.mapping.specs.declared.Mapping.{Mapping}
+use Rattle.mapping.specs.Entry.{capacity}
+use Rattle.mapping.specs.Facts.{Rules}
+use Rattle.mapping.specs.Lookup.{mappingOf}
+use Rattle.manager.specs.Tables.{Tables, recordBytes, recordAt}
+use Rattle.cache.specs.Store.{WellFormed}
+use Rattle.machine.specs.State.{State, Call}
+use Rattle.machine.specs.Step.{accept}
+use Rattle.consistency.specs.Cacheless.{Cacheless, accepted}
+use Rattle.consistency.specs.Demand3.{Finds}
+use Rattle.consistency.proofs.Agrees.{Agrees}
+
+-- the tables have their lengths and keep their rules
+pub record Sound (b : Board) (t : Tables) : Type 0 where
+  pub items-length : length (t .list .items) ≡ capacity
+  pub records-length : length (t .records) ≡ b .frames * recordBytes
+  pub protections-length : length (t .protections) ≡ capacity
+  pub list-rules : Rules b (t .list)
+  pub record-rules : (f : ℕ) → f < b .frames → keepsRules (b .colours) (recordAt (t .records) f) ≡ true
+
+-- the frame of a mapping, if there is one
+abbrev pub frameIn : Option Mapping → Option ℕ
+frameIn none = none
+frameIn (some m) = some (m .frame)
+
+pub record Invariant (b : Board) (st : State) (m : Cacheless) : Type 0 where
+  pub sound : Sound b (st .tables)
+  pub kept : WellFormed b (st .store)
+  pub agrees : (f : ℕ) → f < b .frames → Agrees b f (stateOf (recordAt (st .tables .records) f)) (m .word f) (st .store)
+  pub listed : (space page : ℕ) → m .frame space page ≡ frameIn (mappingOf (st .tables .list) space page)
+
+-- an accepted call finds its words and keeps the invariant
+abbrev pub Taken : Board → State → Cacheless → Call → Type 0
+Taken b st m call = Finds b m call (accept b st call .answer) × Invariant b (accept b st call .after) (accepted m call)

@@ -1,0 +1,20 @@
+-- Demand 3's proof: the invariant, what each call does to it, and the theorem.
+pub mod Agrees
+pub mod Invariant
+pub mod Weaker
+pub mod Table
+pub mod Operate
+pub mod Cleared
+pub mod Orders
+pub mod Access
+pub mod Write
+pub mod Commit
+pub mod Refused
+pub mod Mapped
+pub mod Map
+pub mod Processor
+pub mod Device
+pub mod Evict
+pub mod Start
+pub mod TurnedOut
+pub mod Theorem

@@ -1,0 +1,69 @@
+-- The operations of a step, carried out: the frame's lines then fit the states after the step, and other frames' are as they were.
+use mathlib.Core.Path.{_≡_, refl}
+use mathlib.Core.Bool.{true}
+use mathlib.Core.Logic.{_≢_}
+use Prim.Native.Nat.{ℕ, _<_}
+use Rattle.board.specs.Board.{Board, Regular}
+use Rattle.page_model.specs.declared.FrameRecord.{FrameRecord}
+use Rattle.page_model.specs.Record.{stateOf, keepsRules}
+use Rattle.page_model.specs.Step.{OpBelow, cellOf, stepped}
+use Rattle.page_model.specs.Table.{ColourState, Step}
+use Rattle.page_model.proofs.Theorems.{operations-below}
+use Rattle.manager.specs.Answers.{operationOn, accepted}
+use Rattle.cache.specs.Store.{Store, WellFormed}
+use Rattle.machine.specs.Step.{operate, carryOut}
+use Rattle.consistency.proofs.Agrees.{Tagged, Agrees}
+use Rattle.consistency.proofs.Cleared.{first, second, bothCleared, after-weaker, spares-first, spares-second}
+use Rattle.consistency.proofs.Operate.{cleared, operate-kept, operate-other, operate-tagged, operate-agrees}
+use Rattle.consistency.proofs.Table.{Spares}
+use Rattle.consistency.proofs.Weaker.{weaken, weaken-tagged}
+
+-- the store after the orders of a step of frame f, whose record is r
+abbrev pub ordered : Board → ℕ → Step → FrameRecord → Store → Store
+ordered b f step r s = carryOut b (accepted f (stepped (b .colours) step r .ops)) s
+
+-- the states of a record after a step
+abbrev pub statesAfter : Step → FrameRecord → ℕ → ColourState
+statesAfter step r k = cellOf step r k .next
+
+module _ (b : Board) (reg : Regular b) (f : ℕ) (hf : f < b .frames) (s : Store) (wf : WellFormed b s) (step : Step) (r : FrameRecord)
+    (rules : keepsRules (b .colours) r ≡ true) where
+  first-below : OpBelow (b .colours) (first (b .colours) step r)
+  first-below = operations-below (b .colours) step r .1
+
+  second-below : OpBelow (b .colours) (second (b .colours) step r)
+  second-below = operations-below (b .colours) step r .2
+
+  -- between the two
+  between : Store
+  between = operate b (operationOn f (first (b .colours) step r)) s
+
+  between-kept : WellFormed b between
+  unfolding between
+  between-kept = operate-kept b reg f hf s wf (first (b .colours) step r) first-below
+
+  pub ordered-kept : WellFormed b (ordered b f step r s)
+  unfolding carryOut between
+  ordered-kept = operate-kept b reg f hf between between-kept (second (b .colours) step r) second-below
+
+  pub ordered-other : (g : ℕ) (states : ℕ → ColourState) (words : ℕ → ℕ) → g ≢ f → Agrees b g states words s → Agrees b g states words (ordered b f step r s)
+  unfolding carryOut between
+  ordered-other g states words ne a =
+      operate-other b reg f hf between between-kept (second (b .colours) step r) second-below g states words ne
+      (operate-other b reg f hf s wf (first (b .colours) step r) first-below g states words ne a)
+
+  pub ordered-tagged : Tagged b f (stateOf r) s → Tagged b f (statesAfter step r) (ordered b f step r s)
+  unfolding carryOut between
+  ordered-tagged t =
+      weaken-tagged b f (bothCleared (b .colours) step r) (statesAfter step r) (after-weaker (b .colours) step r rules) (ordered b f step r s)
+      (operate-tagged b reg f hf between between-kept (second (b .colours) step r) second-below (cleared (first (b .colours) step r) (stateOf r))
+      (operate-tagged b reg f hf s wf (first (b .colours) step r) first-below (stateOf r) t))
+
+  pub ordered-agrees : (words : ℕ → ℕ) → Spares step → Agrees b f (stateOf r) words s → Agrees b f (statesAfter step r) words (ordered b f step r s)
+  unfolding carryOut between
+  ordered-agrees words spares a =
+      weaken b f (bothCleared (b .colours) step r) (statesAfter step r) (after-weaker (b .colours) step r rules) (ordered b f step r s) words
+      (operate-agrees b reg f hf between between-kept (second (b .colours) step r) second-below (cleared (first (b .colours) step r) (stateOf r)) words
+      (spares-second (b .colours) step r rules spares (second (b .colours) step r) refl)
+      (operate-agrees b reg f hf s wf (first (b .colours) step r) first-below (stateOf r) words
+      (spares-first (b .colours) step r rules spares (first (b .colours) step r) refl) a))

@@ -1,0 +1,152 @@
+-- Accepted reads and writes of the processor: the read finds the cacheless memory's word, and both keep the invariant.
+use mathlib.Core.Path.{_≡_, refl, sym, ap, _∙_, fun-ext, subst, subst⁻¹}
+use mathlib.Core.Bool.{Bool, true, cond, _&&_}
+use mathlib.Core.Logic.{_≢_}
+use mathlib.Core.Option.{Option, some}
+use Prim.Native.Nat.{ℕ, _<_}
+use native.Mathlib.Decide.{ℕ-discrete}
+use lib.Dec.{eqb}
+use borrow.Author.Tests.{eq-eqb, ne-eqb, leb-false, not-false}
+use Rattle.board.specs.Board.{Board, Regular, colourOf}
+use Rattle.board.proofs.Geometry.{colourOf-lt}
+use Rattle.page_model.specs.declared.FrameRecord.{FrameRecord}
+use Rattle.page_model.specs.Record.{stateOf}
+use Rattle.page_model.specs.Table as table
+use Rattle.page_model.specs.Table.{Step}
+use Rattle.manager.specs.Calls.{changeOf, commitChange}
+use Rattle.manager.specs.Refusals.{firstRefusal, isMapped}
+use Rattle.manager.specs.Tables.{recordAt}
+use Rattle.cache.specs.Cache as hardware
+use Rattle.cache.specs.Current.{written}
+use Rattle.cache.specs.Store.{Store, WellFormed}
+use Rattle.cache.proofs.Laws.Access.{access-kept, writeWord-kept}
+use Rattle.machine.specs.Refusals.{causes}
+use Rattle.machine.specs.State.{State, state, read, write}
+use Rattle.machine.specs.Step.{accept, frameOf}
+use Rattle.consistency.specs.Cacheless.{Cacheless, cacheless, replaced, stored, accepted}
+use Rattle.consistency.specs.Demand3.{wordOf}
+use Rattle.consistency.proofs.Access.{access-words, access-own, access-other}
+use Rattle.consistency.proofs.Agrees.{Agrees}
+use Rattle.consistency.proofs.Commit.{commit-invariant}
+use Rattle.consistency.proofs.Invariant.{Invariant, Taken}
+use Rattle.consistency.proofs.Mapped.{mapped-frame-lt, mapped-frame}
+use Rattle.consistency.proofs.Orders.{ordered, statesAfter, ordered-kept, ordered-other, ordered-agrees}
+use Rattle.consistency.proofs.Refused.{none-applies}
+use Rattle.consistency.proofs.Table.{Spares, read-held, read-alone, write-dirty, write-alone}
+use Rattle.consistency.proofs.Write.{write-own, write-other}
+
+eqb-sym : (i j : ℕ) → eqb i j ≡ eqb j i
+eqb-sym i j = go (ℕ-discrete i j)
+  where
+    go : Dec (i ≡ j) → eqb i j ≡ eqb j i
+    go (yes e) = eq-eqb i j e ∙ sym (eq-eqb j i (sym e))
+    go (no ne) = ne-eqb i j ne ∙ sym (ne-eqb j i (λ e. ne (sym e)))
+
+-- ---- an access to offset o of frame f through colour c
+
+module _ (b : Board) (reg : Regular b) (st : State) (m : Cacheless) (inv : Invariant b st m) (f c o : ℕ) (hf : f < b .frames) (hc : c < b .colours)
+    (ho : o < b .pageWords) where
+  r : FrameRecord
+  r = recordAt (st .tables .records) f
+
+  -- the store after a step's orders
+  now : Step → Store
+  now step = ordered b f step (recordAt (st .tables .records) f) (st .store)
+
+  module _ (step : Step) where
+    now-kept : WellFormed b (now step)
+    unfolding now
+    now-kept = ordered-kept b reg f hf (st .store) (inv .kept) step (recordAt (st .tables .records) f) (inv .sound .record-rules f hf)
+
+    now-other : (g : ℕ) → g < b .frames → g ≢ f → Agrees b g (stateOf (recordAt (st .tables .records) g)) (m .word g) (now step)
+    unfolding now
+    now-other g hg ne =
+        ordered-other b reg f hf (st .store) (inv .kept) step (recordAt (st .tables .records) f) (inv .sound .record-rules f hf) g
+        (stateOf (recordAt (st .tables .records) g)) (m .word g) ne (inv .agrees g hg)
+
+    now-own : Spares step → Agrees b f (statesAfter step r) (m .word f) (now step)
+    unfolding now r
+    now-own spares =
+        ordered-agrees b reg f hf (st .store) (inv .kept) step (recordAt (st .tables .records) f) (inv .sound .record-rules f hf) (m .word f) spares (inv .agrees f hf)
+
+  -- ---- read
+
+  read-word : hardware.readWord b f c o (now (table.read c)) ≡ m .word f o
+  unfolding hardware.readWord
+  read-word =
+      access-words b reg f c o hf hc ho (now (table.read c)) (now-kept (table.read c)) (statesAfter (table.read c) r) (m .word f) (now-own (table.read c) refl)
+      (read-held r c) (λ d hd ne. read-alone r c d ne) o ho refl
+
+  read-kept : Invariant b (state (commitChange b (st .tables) f (changeOf b (st .tables) f (table.read c) .next)) (hardware.access b f c o (now (table.read c)))) m
+  unfolding r
+  read-kept =
+      commit-invariant b st m inv f hf (table.read c) (hardware.access b f c o (now (table.read c))) (m .word)
+      (access-kept b reg f c o hf hc ho (now (table.read c)) (now-kept (table.read c)))
+      (access-own b reg f c o hf hc ho (now (table.read c)) (now-kept (table.read c)) (statesAfter (table.read c) r) (m .word f) (now-own (table.read c) refl)
+      (read-held r c) (λ d hd ne. read-alone r c d ne))
+      (λ g hg ne.
+      access-other b reg f c o hf hc ho (now (table.read c)) (now-kept (table.read c)) g hg ne (stateOf (recordAt (st .tables .records) g)) (m .word g)
+      (now-other (table.read c) g hg ne))
+
+  -- ---- write of v
+
+  module _ (v : ℕ) where
+    -- the words of the frame, and those of another
+    own-words : written o v (m .word f) ≡ replaced (m .word) f o v f
+    own-words = fun-ext (λ p. ap (λ (t : Bool). cond t v (m .word f p)) (eqb-sym p o ∙ ap (λ (t : Bool). t && eqb o p) (sym (eq-eqb f f refl))))
+
+    other-words : (g : ℕ) → g ≢ f → m .word g ≡ replaced (m .word) f o v g
+    other-words g ne = fun-ext (λ p. ap (λ (t : Bool). cond (t && eqb o p) v (m .word g p)) (sym (ne-eqb f g (λ e. ne (sym e)))))
+
+    put : Store
+    put = hardware.writeWord b f c o v (now (table.write c))
+
+    put-own : Agrees b f (statesAfter (table.write c) r) (written o v (m .word f)) put
+    unfolding put
+    put-own =
+        write-own b reg f c o hf hc ho (now (table.write c)) (now-kept (table.write c)) v (statesAfter (table.write c) r) (m .word f)
+        (now-own (table.write c) refl) (write-dirty r c) (λ d hd h. write-alone r c d h)
+
+    put-other : (g : ℕ) → g < b .frames → g ≢ f → Agrees b g (stateOf (recordAt (st .tables .records) g)) (m .word g) put
+    unfolding put
+    put-other g hg ne =
+        write-other b reg f c o hf hc ho (now (table.write c)) (now-kept (table.write c)) v g hg ne (stateOf (recordAt (st .tables .records) g)) (m .word g)
+        (now-other (table.write c) g hg ne)
+
+    write-kept : Invariant b (state (commitChange b (st .tables) f (changeOf b (st .tables) f (table.write c) .next)) put) (cacheless (replaced (m .word) f o v) (m .frame))
+    unfolding put r
+    write-kept =
+        commit-invariant b st m inv f hf (table.write c) put (replaced (m .word) f o v)
+        (writeWord-kept b reg f c o hf hc ho (now (table.write c)) (now-kept (table.write c)) v)
+        (subst (λ (x : ℕ → ℕ). Agrees b f (statesAfter (table.write c) r) x put) own-words put-own)
+        (λ g hg ne. subst (λ (x : ℕ → ℕ). Agrees b g (stateOf (recordAt (st .tables .records) g)) x put) (other-words g ne) (put-other g hg ne))
+
+-- ---- the calls
+
+module _ (b : Board) (reg : Regular b) (st : State) (m : Cacheless) (inv : Invariant b st m) (space page offset : ℕ) where
+  pub read-taken : firstRefusal (causes b st (read space page offset)) ≡ 0 → Taken b st m (read space page offset)
+  unfolding causes accept accepted now
+  read-taken e =
+      let h = none-applies (causes b st (read space page offset)) refl e .1 .1 in
+      let mapped : isMapped (st .tables .list) space page ≡ true = not-false _ (h .1 .1 .0) in
+      let hf = mapped-frame-lt b st m inv space page mapped in
+      let ho = leb-false (b .pageWords) offset (h .1 .0) in
+      let hc = colourOf-lt b reg page in (
+        ap {B = Option ℕ} some (read-word b reg st m inv (frameOf st space page) (colourOf b page) offset hf hc ho)
+            ∙ ap (λ (x : Option ℕ). wordOf m x offset) (sym (mapped-frame b st m inv space page mapped)),
+        read-kept b reg st m inv (frameOf st space page) (colourOf b page) offset hf hc ho,
+      )
+
+  pub write-taken : (word : ℕ) → firstRefusal (causes b st (write space page offset word)) ≡ 0 → Taken b st m (write space page offset word)
+  unfolding causes accept accepted now put
+  write-taken word e =
+      let h = none-applies (causes b st (write space page offset word)) refl e .1 .1 in
+      let mapped : isMapped (st .tables .list) space page ≡ true = not-false _ (h .1 .1 .0) in
+      let hf = mapped-frame-lt b st m inv space page mapped in
+      let ho = leb-false (b .pageWords) offset (h .1 .0) in
+      let hc = colourOf-lt b reg page in (
+        tt,
+        subst⁻¹ (λ (x : Option ℕ). Invariant b (accept b st (write space page offset word) .after) (cacheless (stored (m .word) x offset word) (m .frame)))
+            (mapped-frame b st m inv space page mapped)
+            (write-kept b reg st m inv (frameOf st space page) (colourOf b page) offset hf hc ho word),
+      )

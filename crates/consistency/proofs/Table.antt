@@ -1,0 +1,102 @@
+-- What the tables' cells say of the states before and after a step: each law is computed at every cell of the step's row.
+use mathlib.Core.Path.{_≡_, refl, sym, subst⁻¹}
+use mathlib.Core.Bool.{Bool, true, false, not, _&&_, _||_, false≢true}
+use mathlib.Core.Logic.{_≢_}
+use Prim.Native.Nat.{ℕ}
+use native.Mathlib.Decide.{ℕ-discrete}
+use lib.Dec.{eqb}
+use borrow.Author.Tests.{eq-eqb, ne-eqb}
+use Rattle.bits.proofs.Tautology.{and-left, and-right}
+use Rattle.page_model.specs.declared.FrameRecord.{FrameRecord}
+use Rattle.page_model.specs.Record.{stateOf, isHeld, isDirty}
+use Rattle.page_model.specs.Step.{isFlush, isPurge, cellOf}
+use Rattle.page_model.specs.Table.{ColourState, empty, present, dirty, stale, Operation, none, Cell, own, other, roleIf, Step, read, write, deviceRead, deviceWrite}
+use Rattle.page_model.proofs.Cells.{rowOf, ownOf, row-cell, each-state}
+use Rattle.consistency.proofs.Weaker.{weaker, is-dirty}
+
+-- ---- a law of a row
+
+-- of whether a colour is the step's own, its state and its cell
+abbrev Law : Type 0
+Law = Bool → ColourState → Cell → Bool
+
+abbrev everyState : (ColourState → Bool) → Bool
+everyState p = p empty && p present && p dirty && p stale
+
+abbrev everyCell : Law → Step → Bool
+everyCell p step = everyState (λ s. p true s (rowOf step own s)) && everyState (λ s. p false s (rowOf step other s))
+
+cell-law : (p : Law) (step : Step) → everyCell p step ≡ true → (r : FrameRecord) (k : ℕ) → p (eqb (ownOf step) k) (stateOf r k) (cellOf step r k) ≡ true
+cell-law p step e r k = subst⁻¹ (λ (x : Cell). p (eqb (ownOf step) k) (stateOf r k) x ≡ true) (row-cell step r k) (go (eqb (ownOf step) k))
+  where
+    go : (t : Bool) → p t (stateOf r k) (rowOf step (roleIf t) (stateOf r k)) ≡ true
+    go true =
+        each-state (λ s. p true s (rowOf step own s)) (and-left (everyState (λ s. p true s (rowOf step own s))) (everyState (λ s. p false s (rowOf step other s))) e) (stateOf r k)
+    go false =
+        each-state (λ s. p false s (rowOf step other s)) (and-right (everyState (λ s. p true s (rowOf step own s))) (everyState (λ s. p false s (rowOf step other s))) e) (stateOf r k)
+
+-- ---- operations
+
+-- a cell with no operation says no more after the step than the state did before it
+abbrev idleWeaker : Law
+idleWeaker o s cell = isFlush (cell .operation) || isPurge (cell .operation) || weaker s (cell .next)
+
+idle-cell : (step : Step) → everyCell idleWeaker step ≡ true
+idle-cell (read c) = refl
+idle-cell (write c) = refl
+idle-cell deviceRead = refl
+idle-cell deviceWrite = refl
+
+idle-from : {op : Operation} (w : Bool) → op ≡ none → (isFlush op || isPurge op || w) ≡ true → w ≡ true
+idle-from w e h = rw e at h
+
+pub idle-weaker : (step : Step) (r : FrameRecord) (k : ℕ) → cellOf step r k .operation ≡ none → weaker (stateOf r k) (cellOf step r k .next) ≡ true
+idle-weaker step r k e = idle-from (weaker (stateOf r k) (cellOf step r k .next)) e (cell-law idleWeaker step (idle-cell step) r k)
+
+-- no dirty colour is purged
+abbrev purgesClean : Law
+purgesClean o s cell = not (isPurge (cell .operation)) || not (isDirty s)
+
+-- by a step; `refl` shows it of each but a device write
+abbrev pub Spares : Step → Type 0
+Spares step = everyCell purgesClean step ≡ true
+
+clean-from : (op : Operation) {s : ColourState} → isPurge op ≡ true → (not (isPurge op) || not (isDirty s)) ≡ true → s ≢ dirty
+clean-from op p h e = let z : false ≡ true = rw (p, e) at h in false≢true z
+
+pub purge-clean : (step : Step) → Spares step → (r : FrameRecord) (k : ℕ) → isPurge (cellOf step r k .operation) ≡ true → stateOf r k ≢ dirty
+purge-clean step e r k p = clean-from (cellOf step r k .operation) p (cell-law purgesClean step e r k)
+
+-- ---- states after a step
+
+not-dirty : {s : ColourState} (t : Bool) → t ≡ false → (t || not (isDirty s)) ≡ true → s ≢ dirty
+not-dirty t q h e = let z : false ≡ true = rw (q, e) at h in false≢true z
+
+not-held : (s : ColourState) (t : Bool) → t ≡ false → (t || not (isHeld s)) ≡ true → isHeld s ≡ true → ⊥
+not-held s t q h e = let z : false ≡ true = rw (q, e) at h in false≢true z
+
+module _ (r : FrameRecord) (c : ℕ) where
+  -- after a read its colour is present or dirty, and no other is dirty
+  pub read-held : isHeld (cellOf (read c) r c .next) ≡ true
+  read-held = rw (eq-eqb c c refl) at (cell-law (λ o s cell. not o || isHeld (cell .next)) (read c) refl r c)
+
+  pub read-alone : (d : ℕ) → d ≢ c → cellOf (read c) r d .next ≢ dirty
+  read-alone d ne = not-dirty (eqb c d) (ne-eqb c d (λ q. ne (sym q))) (cell-law (λ o s cell. o || not (isDirty (cell .next))) (read c) refl r d)
+
+  -- after a write its colour is dirty, and no other is present or dirty
+  pub write-dirty : cellOf (write c) r c .next ≡ dirty
+  write-dirty = is-dirty (cellOf (write c) r c .next) (rw (eq-eqb c c refl) at (cell-law (λ o s cell. not o || isDirty (cell .next)) (write c) refl r c))
+
+  pub write-alone : (d : ℕ) → isHeld (cellOf (write c) r d .next) ≡ true → d ≡ c
+  write-alone d h = go (ℕ-discrete d c)
+    where
+      go : Dec (d ≡ c) → d ≡ c
+      go (yes e) = e
+      go (no ne) = absurd (not-held (cellOf (write c) r d .next) (eqb c d) (ne-eqb c d (λ q. ne (sym q))) (cell-law (λ o s cell. o || not (isHeld (cell .next))) (write c) refl r d) h)
+
+-- after a device's read no colour is dirty, and after its write none is present either
+pub device-read-clean : (r : FrameRecord) (k : ℕ) → cellOf deviceRead r k .next ≢ dirty
+device-read-clean r k = not-dirty false refl (cell-law (λ o s cell. not (isDirty (cell .next))) deviceRead refl r k)
+
+pub device-write-clean : (r : FrameRecord) (k : ℕ) → isHeld (cellOf deviceWrite r k .next) ≡ true → ⊥
+device-write-clean r k = not-held (cellOf deviceWrite r k .next) false refl (cell-law (λ o s cell. not (isHeld (cell .next))) deviceWrite refl r k)

@@ -1,0 +1,113 @@
+-- Every line turned out: none of the evictions is refused, and memory then holds the cacheless memory's words.
+use mathlib.Core.Path.{_≡_, refl, ap, ap₂, _∙_, subst⁻¹}
+use mathlib.Core.Bool.{true, false, not, _&&_}
+use mathlib.Core.List.{List, [], _∷_}
+use mathlib.Core.Logic.{_⊎_, inl, inr}
+use Prim.Native.Nat.{ℕ, _<_}
+use native.Mathlib.Omega.{arith}
+use native.Mathlib.Decide.{ℕ-discrete}
+use borrow.Author.Tests.{eq-eqb, lt-leb}
+use Rattle.bits.proofs.Mask.{all-of}
+use Rattle.board.specs.Board.{Board, Regular, lines, lineOf}
+use Rattle.board.proofs.Geometry.{lineOf-lt}
+use Rattle.mapping.proofs.Laws.{rules-keepsRules}
+use Rattle.manager.specs.Refusals.{firstRefusal}
+use Rattle.manager.specs.Tables.{Tables, recordsKeepRules, lengthsRight, rulesKept}
+use Rattle.manager.proofs.CauseLaws.{lengths-right, rules-kept}
+use Rattle.cache.specs.Store.{Store, WellFormed, tagAt}
+use Rattle.cache.specs.Tag.{emptyTag}
+use Rattle.cache.proofs.Laws.Evict.{evict-tag-same, evict-tag-other}
+use Rattle.machine.specs.Refusals.{storeLengths, causes}
+use Rattle.machine.specs.State.{State, evict, Result}
+use Rattle.machine.specs.Step.{accept, step}
+use Rattle.consistency.specs.Cacheless.{Cacheless}
+use Rattle.consistency.specs.Demand3.{isRefused, stateAfter, evictions, Occurs, NoneRefused, MemoryIs}
+use Rattle.consistency.proofs.Evict.{evict-invariant}
+use Rattle.consistency.proofs.Invariant.{Sound, Invariant}
+use Rattle.consistency.proofs.Refused.{none-refused, step-accepted}
+
+-- ---- what the invariant says to the tests
+
+sound-lengths : (b : Board) (t : Tables) → Sound b t → lengthsRight b t ≡ true
+sound-lengths b t s = lengths-right b t (s .items-length) (s .records-length) (s .protections-length)
+
+sound-records : (b : Board) (t : Tables) → Sound b t → recordsKeepRules b (t .records) ≡ true
+unfolding recordsKeepRules
+sound-records b t s = all-of _ _ (s .record-rules)
+
+sound-rules : (b : Board) (t : Tables) → Sound b t → rulesKept b t ≡ true
+sound-rules b t s = rules-kept b t (rules-keepsRules b (t .list) (s .list-rules)) (sound-records b t s)
+
+store-lengths : (b : Board) (s : Store) → WellFormed b s → storeLengths b s ≡ true
+unfolding storeLengths
+store-lengths b s w = ap₂ _&&_ (ap₂ _&&_ (eq-eqb _ _ (w .memory-length)) (eq-eqb _ _ (w .words-length))) (eq-eqb _ _ (w .tags-length))
+
+module _ (b : Board) (reg : Regular b) (m : Cacheless) where
+  module _ (st : State) (inv : Invariant b st m) (n : ℕ) (h : n < lines b) where
+    evict-clear : firstRefusal (causes b st (evict n)) ≡ 0
+    unfolding causes
+    evict-clear =
+        none-refused (causes b st (evict n)) (
+          ap not (ap₂ _&&_ (ap₂ _&&_ (sound-lengths b (st .tables) (inv .sound)) (store-lengths b (st .store) (inv .kept))) refl),
+          (ap not (ap₂ _&&_ (sound-rules b (st .tables) (inv .sound)) (inv .kept .tags-rules)), (lt-leb (lines b) n h, tt)),
+        )
+
+    evict-step : step b st (evict n) ≡ accept b st (evict n)
+    evict-step = step-accepted b st (evict n) evict-clear
+
+    -- it is not refused
+    evict-not-refused : isRefused (step b st (evict n) .answer) ≡ false
+    unfolding accept
+    evict-not-refused = ap (λ (r : Result). isRefused (r .answer)) evict-step
+
+    evict-after : Invariant b (step b st (evict n) .after) m
+    unfolding accept
+    evict-after = subst⁻¹ (λ (r : Result). Invariant b (r .after) m) evict-step (evict-invariant b reg st m inv n h)
+
+    -- its line is empty, and an empty one stays empty
+    evict-empties : (k : ℕ) → (k ≡ n) ⊎ (tagAt (st .store) k ≡ emptyTag) → tagAt (step b st (evict n) .after .store) k ≡ emptyTag
+    unfolding accept
+    evict-empties k e = ap (λ (r : Result). tagAt (r .after .store) k) evict-step ∙ go (ℕ-discrete k n) e
+      where
+        go : Dec (k ≡ n) → (k ≡ n) ⊎ (tagAt (st .store) k ≡ emptyTag) → tagAt (accept b st (evict n) .after .store) k ≡ emptyTag
+        go (yes q) e = ap (tagAt (accept b st (evict n) .after .store)) q ∙ evict-tag-same b reg (st .store) (inv .kept) n h
+        go (no ne) (inl q) = absurd (ne q)
+        go (no ne) (inr z) = evict-tag-other b reg (st .store) (inv .kept) n h k ne ∙ z
+
+  -- ---- a list of evictions
+
+  abbrev Lines : List ℕ → Type 0
+  Lines ns = (n : ℕ) → Occurs n ns → n < lines b
+
+  none-are-refused : (st : State) → Invariant b st m → (ns : List ℕ) → Lines ns → NoneRefused b st (evictions ns)
+  none-are-refused st inv [] h = tt
+  none-are-refused st inv (n ∷ ns) h =
+      (evict-not-refused st inv n (h n (inl refl)), none-are-refused (step b st (evict n) .after) (evict-after st inv n (h n (inl refl))) ns (λ k e. h k (inr e)))
+
+  invariant-after : (st : State) → Invariant b st m → (ns : List ℕ) → Lines ns → Invariant b (stateAfter b st (evictions ns)) m
+  invariant-after st inv [] h = inv
+  invariant-after st inv (n ∷ ns) h = invariant-after (step b st (evict n) .after) (evict-after st inv n (h n (inl refl))) ns (λ k e. h k (inr e))
+
+  empty-after : (st : State) → Invariant b st m → (ns : List ℕ) → Lines ns → (k : ℕ) → Occurs k ns ⊎ (tagAt (st .store) k ≡ emptyTag)
+      → tagAt (stateAfter b st (evictions ns) .store) k ≡ emptyTag
+  empty-after st inv [] h k (inr e) = e
+  empty-after st inv [] h k (inl e) = absurd e
+  empty-after st inv (n ∷ ns) h k e = empty-after (step b st (evict n) .after) (evict-after st inv n (h n (inl refl))) ns (λ j q. h j (inr q)) k (next e)
+    where
+      next : Occurs k (n ∷ ns) ⊎ (tagAt (st .store) k ≡ emptyTag) → Occurs k ns ⊎ (tagAt (step b st (evict n) .after .store) k ≡ emptyTag)
+      next (inl (inl q)) = inr (evict-empties st inv n (h n (inl refl)) k (inl q))
+      next (inl (inr o)) = inl o
+      next (inr z) = inr (evict-empties st inv n (h n (inl refl)) k (inr z))
+
+  -- with no dirty line left, memory holds the words
+  memory-is : (st : State) → Invariant b st m → ((n : ℕ) → n < lines b → tagAt (st .store) n ≡ emptyTag) → MemoryIs b m st
+  memory-is st inv zero =
+      record {
+        memory-length = inv .kept .memory-length;
+        memory-words = λ f o hf ho. inv .agrees f hf .current .in-memory o ho (λ c hc d. let z = zero (lineOf b c o) (lineOf-lt b reg c o hc ho) in omega arith);
+      }
+
+  pub all-turned-out : (st : State) → Invariant b st m → (ns : List ℕ) → Lines ns → ((n : ℕ) → n < lines b → Occurs n ns)
+      → NoneRefused b st (evictions ns) × MemoryIs b m (stateAfter b st (evictions ns))
+  all-turned-out st inv ns h every =
+      (none-are-refused st inv ns h, memory-is (stateAfter b st (evictions ns)) (invariant-after st inv ns h) (λ n l. empty-after st inv ns h n (inl (every n l))))
