@@ -16,7 +16,7 @@ use Rattle.page_model.proofs.Theorems.{step-keeps-rules, state-after}
 use Rattle.manager.specs.Calls.{changeOf, commitChange}
 use Rattle.manager.specs.Tables.{Tables, tables, recordAt, putRecord, refill}
 use Rattle.manager.proofs.Laws.{length-tabulate}
-use Rattle.manager.proofs.RecordLaws.{length-putRecord, recordAt-put-same, recordAt-put-other}
+use Rattle.manager.proofs.RecordLaws.{length-putRecord, recordAt-putRecord-same, recordAt-putRecord-other}
 use Rattle.cache.specs.Store.{Store, WellFormed}
 use Rattle.machine.specs.State.{State, state}
 use Rattle.consistency.specs.Cacheless.{Cacheless}
@@ -52,11 +52,11 @@ module _ (b : Board) (st : State) (m : Cacheless) (inv : Invariant b st m) (f : 
 
   at-same : recordAt put f ≡ next
   unfolding put
-  at-same = let e = inv .sound .records-length in recordAt-put-same (st .tables .records) f next (omega arith)
+  at-same = let e = inv .sound .records-length in recordAt-putRecord-same (st .tables .records) f next (omega arith)
 
   at-other : (g : ℕ) → g ≢ f → recordAt put g ≡ recordAt (st .tables .records) g
   unfolding put
-  at-other g ne = recordAt-put-other (st .tables .records) f next g ne
+  at-other g ne = recordAt-putRecord-other (st .tables .records) f next g ne
 
   rules-after : (g : ℕ) → g < b .frames → Dec (g ≡ f) → keepsRules (b .colours) (recordAt put g) ≡ true
   unfolding next

@@ -2,3 +2,5 @@
 pub mod Laws
 pub mod CauseLaws
 pub mod RecordLaws
+pub mod CallLaws
+pub mod KeepsRules

@@ -1,54 +1,64 @@
--- Laws of the frame records in their bytes: what stands at a frame after its record or another's is put, and at the start.
-use mathlib.Core.Path.{_≡_, _∙_}
-use mathlib.Core.Logic.{_≢_}
+-- The laws of the frame records in their bytes: a record stored is read back, the others stay, and so does the number of bytes.
+use mathlib.Core.Path.{_≡_, refl, sym, ap, _∙_}
+use mathlib.Core.Bool.{Bool, true, false}
 use mathlib.Core.List.{List}
+use mathlib.Core.Logic.{_≢_}
 use Prim.Native.Nat.{ℕ, _+_, _*_, _≤_, _<_}
 use native.Mathlib.Omega.{arith}
+use borrow.Author.Tests.{eqb-true, eqb-false}
+use lib.Dec.{eqb}
 use lib.ListN.{length, getD, set, replicate, length-set, getD-replicate}
 use lib.Seq.{getD-set-same, getD-set-other}
+use Rattle.bits.proofs.Mask.{all-at, all-of}
+use Rattle.board.specs.Board.{Board}
 use Rattle.page_model.specs.declared.FrameRecord.{FrameRecord}
-use Rattle.page_model.specs.Record.{startRecord}
-use Rattle.manager.specs.Tables.{recordBytes, recordAt, putRecord}
-
--- a record by its three bytes
-record-eq : {a b c x y z : ℕ} → a ≡ x → b ≡ y → c ≡ z
-    → _≡_ {A = FrameRecord} (record { held = a; stale = b; dirty = c }) (record { held = x; stale = y; dirty = z })
-record-eq p q r = λ i. record { held = p i; stale = q i; dirty = r i }
+use Rattle.page_model.specs.Record.{keepsRules, startRecord}
+use Rattle.manager.specs.Tables.{recordBytes, recordAt, putRecord, recordsKeepRules}
 
 module _ (rs : List ℕ) (f : ℕ) (r : FrameRecord) where
   pub length-putRecord : length (putRecord rs f r) ≡ length rs
   unfolding putRecord
   length-putRecord = simp length-set
 
-  pub recordAt-put-same : f * recordBytes + 3 ≤ length rs → recordAt (putRecord rs f r) f ≡ r
+  pub recordAt-putRecord-same : f * recordBytes + 2 < length rs → recordAt (putRecord rs f r) f ≡ r
   unfolding recordAt putRecord
-  recordAt-put-same h =
-      let a : List ℕ = set rs (f * 3) (r .held) in
-      let z : List ℕ = set a (f * 3 + 1) (r .stale) in
-      let la : length a ≡ length rs = length-set rs (f * 3) (r .held) in
-      let lz : length z ≡ length rs = length-set a (f * 3 + 1) (r .stale) ∙ la in
-      record-eq
-      (getD-set-other z (f * 3 + 2) (f * 3) (r .dirty) 0 (omega arith) ∙ getD-set-other a (f * 3 + 1) (f * 3) (r .stale) 0 (omega arith) ∙ getD-set-same rs (f * 3) (r .held) 0 (omega arith))
-      (getD-set-other z (f * 3 + 2) (f * 3 + 1) (r .dirty) 0 (omega arith) ∙ getD-set-same a (f * 3 + 1) (r .stale) 0 (omega arith))
-      (getD-set-same z (f * 3 + 2) (r .dirty) 0 (omega arith))
+  recordAt-putRecord-same h =
+      let a = f * recordBytes in
+      let one = set rs a (r .held) in
+      let two = set one (a + 1) (r .stale) in
+      let held = getD-set-other two (a + 2) a (r .dirty) 0 (omega arith) ∙ getD-set-other one (a + 1) a (r .stale) 0 (omega arith) ∙ getD-set-same rs a (r .held) 0 (omega arith) in
+      let stale = getD-set-other two (a + 2) (a + 1) (r .dirty) 0 (omega arith) ∙ getD-set-same one (a + 1) (r .stale) 0 (simp length-set (omega arith)) in
+      let dirty = getD-set-same two (a + 2) (r .dirty) 0 (simp length-set (omega arith)) in
+      rw (held, stale, dirty)
 
-  pub recordAt-put-other : (g : ℕ) → g ≢ f → recordAt (putRecord rs f r) g ≡ recordAt rs g
-  unfolding recordAt putRecord
-  recordAt-put-other g ne =
-      record-eq (kept (g * 3) (λ e. ne (omega arith)) (λ e. ne (omega arith)) (λ e. ne (omega arith)))
-      (kept (g * 3 + 1) (λ e. ne (omega arith)) (λ e. ne (omega arith)) (λ e. ne (omega arith)))
-      (kept (g * 3 + 2) (λ e. ne (omega arith)) (λ e. ne (omega arith)) (λ e. ne (omega arith)))
-    where
-      kept : (i : ℕ) → i ≢ f * 3 → i ≢ f * 3 + 1 → i ≢ f * 3 + 2
-          → getD (set (set (set rs (f * 3) (r .held)) (f * 3 + 1) (r .stale)) (f * 3 + 2) (r .dirty)) i 0 ≡ getD rs i 0
-      kept i n0 n1 n2 =
-          getD-set-other (set (set rs (f * 3) (r .held)) (f * 3 + 1) (r .stale)) (f * 3 + 2) i (r .dirty) 0 n2
-          ∙ getD-set-other (set rs (f * 3) (r .held)) (f * 3 + 1) i (r .stale) 0 n1
-          ∙ getD-set-other rs (f * 3) i (r .held) 0 n0
+  -- a byte that is none of the record's
+  byte-other : (i : ℕ) → i ≢ f * recordBytes → i ≢ f * recordBytes + 1 → i ≢ f * recordBytes + 2 → getD (putRecord rs f r) i 0 ≡ getD rs i 0
+  unfolding putRecord
+  byte-other i h k l = rw (getD-set-other, getD-set-other, getD-set-other)
+
+  pub recordAt-putRecord-other : (g : ℕ) → g ≢ f → recordAt (putRecord rs f r) g ≡ recordAt rs g
+  unfolding recordAt
+  recordAt-putRecord-other g h =
+      let held = byte-other (g * recordBytes) (omega arith) (omega arith) (omega arith) in
+      let stale = byte-other (g * recordBytes + 1) (omega arith) (omega arith) (omega arith) in
+      let dirty = byte-other (g * recordBytes + 2) (omega arith) (omega arith) (omega arith) in
+      rw (held, stale, dirty)
+
+-- records that keep the rules still do with one that keeps them in the place of another
+pub putRecord-rules : (b : Board) (rs : List ℕ) (f : ℕ) (r : FrameRecord) → length rs ≡ b .frames * recordBytes → f < b .frames
+    → recordsKeepRules b rs ≡ true → keepsRules (b .colours) r ≡ true → recordsKeepRules b (putRecord rs f r) ≡ true
+unfolding recordsKeepRules
+putRecord-rules b rs f r n lf h k = all-of (b .frames) _ (λ g lg. go g (eqb g f) refl (all-at (b .frames) _ h g lg))
+  where
+    go : (g : ℕ) (t : Bool) → eqb g f ≡ t → keepsRules (b .colours) (recordAt rs g) ≡ true → keepsRules (b .colours) (recordAt (putRecord rs f r) g) ≡ true
+    go g true z kept = ap (keepsRules (b .colours)) (ap (recordAt (putRecord rs f r)) (eqb-true g f z) ∙ recordAt-putRecord-same rs f r (omega arith)) ∙ k
+    go g false z kept = ap (keepsRules (b .colours)) (recordAt-putRecord-other rs f r g (eqb-false g f z)) ∙ kept
 
 -- every record at the start
 pub recordAt-start : (frames f : ℕ) → f < frames → recordAt (replicate (frames * recordBytes) 0) f ≡ startRecord
 unfolding recordAt
 recordAt-start frames f h =
-    record-eq (getD-replicate (frames * 3) (f * 3) 0 0 (omega arith)) (getD-replicate (frames * 3) (f * 3 + 1) 0 0 (omega arith))
-    (getD-replicate (frames * 3) (f * 3 + 2) 0 0 (omega arith))
+    let held = getD-replicate (frames * recordBytes) (f * recordBytes) 0 0 (omega arith) in
+    let stale = getD-replicate (frames * recordBytes) (f * recordBytes + 1) 0 0 (omega arith) in
+    let dirty = getD-replicate (frames * recordBytes) (f * recordBytes + 2) 0 0 (omega arith) in
+    rw (held, stale, dirty)
