@@ -5,7 +5,7 @@ use mathlib.Core.List.{List, [], _∷_, _++_}
 use Prim.Native.Nat.{ℕ, zero, suc, _*_, _≤_, _<_}
 use native.Mathlib.Omega.{arith}
 use borrow.Author.Tests.{eq-eqb, ltb-true, leb-false, not-false}
-use lib.Dec.{eqb, ltb}
+use lib.Dec.{eqb, leb, ltb}
 use lib.ListN.{length}
 use Rattle.bits.proofs.Mask.{all-at}
 use Rattle.bits.proofs.Tautology.{and-left, and-right}
@@ -18,7 +18,7 @@ use Rattle.mapping.specs.Facts.{InRange, Rules, FoundAt}
 use Rattle.mapping.specs.Lookup.{lookup}
 use Rattle.mapping.specs.Rules as list-of
 use Rattle.mapping.proofs.Laws.{keepsRules-true, lookup-at}
-use Rattle.manager.specs.Refusals.{Cause, firstRefusal, tableCauses, pageCauses, writeCauses, transferCauses, found, isMapped, placeOf, mappingOf}
+use Rattle.manager.specs.Refusals.{Cause, firstRefusal, tableCauses, mapCauses, pageCauses, writeCauses, transferCauses, outOfSpace, isRight, found, isMapped, placeOf, mappingOf}
 use Rattle.manager.specs.Tables.{Tables, recordBytes, recordAt, recordsKeepRules, lengthsRight, rulesKept}
 
 -- ---- the lent tables
@@ -73,6 +73,23 @@ module _ (b : Board) (t : Tables) where
       go true true h = (refl, refl)
       go true false h = absurd (omega arith)
       go false r h = absurd (omega arith)
+
+  -- past the tables, a call's refusal is what is known of its other conditions, in their order
+  module _ (clear : (lengthsRight b t ≡ true) × (rulesKept b t ≡ true)) where
+    pub transfer-refusal-is : (frame : ℕ) {f : Bool} → leb (b .frames) frame ≡ f → cond f 4 0 ≡ firstRefusal (transferCauses b t frame)
+    unfolding firstRefusal transferCauses
+    transfer-refusal-is frame ef = rw (clear .0, clear .1, ef)
+
+    pub page-refusal-is : (space page : ℕ) {o m : Bool} → outOfSpace space page ≡ o → isMapped (t .list) space page ≡ m
+        → cond o 3 (cond (not m) 8 0) ≡ firstRefusal (pageCauses b t space page)
+    unfolding firstRefusal pageCauses
+    page-refusal-is space page eo em = rw (clear .0, clear .1, eo, em)
+
+    pub map-refusal-is : (space page frame rights : ℕ) {o f r m n : Bool} → outOfSpace space page ≡ o → leb (b .frames) frame ≡ f → isRight rights ≡ r
+        → isMapped (t .list) space page ≡ m → eqb (t .list .count) capacity ≡ n
+        → cond o 3 (cond f 4 (cond (not r) 5 (cond m 7 (cond n 9 0)))) ≡ firstRefusal (mapCauses b t space page frame rights)
+    unfolding firstRefusal mapCauses
+    map-refusal-is space page frame rights eo ef er em en = rw (clear .0, clear .1, eo, ef, er, em, en)
 
 -- ---- no refusal: no cause applies
 

@@ -1,9 +1,9 @@
 -- `manager::map_refusal` meets its contract.
-use mathlib.Core.Path.{_≡_, sym, _∙_}
+use mathlib.Core.Path.{_≡_, refl, sym, _∙_}
 use mathlib.Core.Bool.{true}
 use Rattle.board.specs.Board.{board01}
 use Rattle.manager.specs.Tables.{Tables, tables, lengthsRight, rulesKept}
-use Rattle.manager.proofs.CauseLaws.{tables-refuse, tables-clear}
+use Rattle.manager.proofs.CauseLaws.{tables-refuse, tables-clear, map-refusal-is}
 use borrow.Author.Tests.{le-leb, lt-leb, eq-eqb, ne-eqb, not-true, not-false}
 use Rattle.manager.specs.Refusals.{firstRefusal, mapCauses}
 use borrow.Author.Needs.{needs}
@@ -29,49 +29,54 @@ out-of-space-requires : tie.Need-out-of-space-requires
 out-of-space-requires c κs = search needs
 
 returns-2 : tie.Need-returns-2
-unfolding firstRefusal mapCauses
-returns-2 c =
-    let t = clear (c .before .before) in
-    rw (t .0, t .1, sym (c .before .out-of-space .ensures) ∙ c .if2 .taken)
+returns-2 c = map-refusal-is board01 _ (clear (c .before .before)) _ _ _ _ (sym (c .before .out-of-space .ensures) ∙ c .if2 .taken) refl refl refl refl
 
 cast-if3 : tie.Need-cast-if3
 cast-if3 c = search needs
 
 returns-3 : tie.Need-returns-3
-unfolding firstRefusal mapCauses
 returns-3 c =
-    let t = clear (c .before .before .before .before) in
-    rw (t .0, t .1, sym (c .before .before .before .out-of-space .ensures) ∙ c .before .before .if2 .left, le-leb _ _ (c .if3 .taken))
+    let s = c .before .before in
+    map-refusal-is board01 _ (clear (s .before .before)) _ _ _ _ (sym (s .before .out-of-space .ensures) ∙ s .if2 .left) (le-leb _ _ (c .if3 .taken)) refl refl refl
 
 is-right-requires : tie.Need-is-right-requires
 is-right-requires c κs = search needs
 
 returns-4 : tie.Need-returns-4
-unfolding firstRefusal mapCauses
 returns-4 c =
-    let t = clear (c .before .before .before .before .before .before) in
-    rw (t .0, t .1, sym (c .before .before .before .before .before .out-of-space .ensures) ∙ c .before .before .before .before .if2 .left, lt-leb _ _ (c .before .before .if3 .left), sym (c .before .is-right .ensures) ∙ not-true _ (c .if4 .taken))
+    let f = c .before .before in
+    let s = f .before .before in
+    map-refusal-is board01 _ (clear (s .before .before)) _ _ _ _ (sym (s .before .out-of-space .ensures) ∙ s .if2 .left) (lt-leb _ _ (f .if3 .left))
+    (sym (c .before .is-right .ensures) ∙ not-true _ (c .if4 .taken)) refl refl
 
 is-mapped-requires : tie.Need-is-mapped-requires
 is-mapped-requires c κs = search needs
 
 returns-5 : tie.Need-returns-5
-unfolding firstRefusal mapCauses
 returns-5 c =
-    let t = clear (c .before .before .before .before .before .before .before .before) in
-    rw (t .0, t .1, sym (c .before .before .before .before .before .before .before .out-of-space .ensures) ∙ c .before .before .before .before .before .before .if2 .left, lt-leb _ _ (c .before .before .before .before .if3 .left), sym (c .before .before .before .is-right .ensures) ∙ not-false _ (c .before .before .if4 .left), sym (c .before .is-mapped .ensures) ∙ c .if5 .taken)
+    let r = c .before .before in
+    let f = r .before .before in
+    let s = f .before .before in
+    map-refusal-is board01 _ (clear (s .before .before)) _ _ _ _ (sym (s .before .out-of-space .ensures) ∙ s .if2 .left) (lt-leb _ _ (f .if3 .left))
+    (sym (r .before .is-right .ensures) ∙ not-false _ (r .if4 .left)) (sym (c .before .is-mapped .ensures) ∙ c .if5 .taken) refl
 
 returns-6 : tie.Need-returns-6
-unfolding firstRefusal mapCauses
 returns-6 c =
-    let t = clear (c .before .before .before .before .before .before .before .before .before .before) in
-    rw (t .0, t .1, sym (c .before .before .before .before .before .before .before .before .before .out-of-space .ensures) ∙ c .before .before .before .before .before .before .before .before .if2 .left, lt-leb _ _ (c .before .before .before .before .before .before .if3 .left), sym (c .before .before .before .before .before .is-right .ensures) ∙ not-false _ (c .before .before .before .before .if4 .left), sym (c .before .before .before .is-mapped .ensures) ∙ c .before .before .if5 .left, eq-eqb _ _ (c .if6 .taken))
+    let m = c .before .before in
+    let r = m .before .before in
+    let f = r .before .before in
+    let s = f .before .before in
+    map-refusal-is board01 _ (clear (s .before .before)) _ _ _ _ (sym (s .before .out-of-space .ensures) ∙ s .if2 .left) (lt-leb _ _ (f .if3 .left))
+    (sym (r .before .is-right .ensures) ∙ not-false _ (r .if4 .left)) (sym (m .before .is-mapped .ensures) ∙ m .if5 .left) (eq-eqb _ _ (c .if6 .taken))
 
 returns-7 : tie.Need-returns-7
-unfolding firstRefusal mapCauses
 returns-7 c =
-    let t = clear (c .before .before .before .before .before .before .before .before .before .before) in
-    rw (t .0, t .1, sym (c .before .before .before .before .before .before .before .before .before .out-of-space .ensures) ∙ c .before .before .before .before .before .before .before .before .if2 .left, lt-leb _ _ (c .before .before .before .before .before .before .if3 .left), sym (c .before .before .before .before .before .is-right .ensures) ∙ not-false _ (c .before .before .before .before .if4 .left), sym (c .before .before .before .is-mapped .ensures) ∙ c .before .before .if5 .left, ne-eqb _ _ (c .if6 .left))
+    let m = c .before .before in
+    let r = m .before .before in
+    let f = r .before .before in
+    let s = f .before .before in
+    map-refusal-is board01 _ (clear (s .before .before)) _ _ _ _ (sym (s .before .out-of-space .ensures) ∙ s .if2 .left) (lt-leb _ _ (f .if3 .left))
+    (sym (r .before .is-right .ensures) ∙ not-false _ (r .if4 .left)) (sym (m .before .is-mapped .ensures) ∙ m .if5 .left) (ne-eqb _ _ (c .if6 .left))
 
 pub map-refusal-spec : {M : Type 1} → statement M
 map-refusal-spec =

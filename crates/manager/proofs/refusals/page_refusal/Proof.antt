@@ -1,9 +1,9 @@
 -- `manager::page_refusal` meets its contract.
-use mathlib.Core.Path.{_≡_, sym, _∙_}
+use mathlib.Core.Path.{_≡_, refl, sym, _∙_}
 use mathlib.Core.Bool.{true}
 use Rattle.board.specs.Board.{board01}
 use Rattle.manager.specs.Tables.{Tables, tables, lengthsRight, rulesKept}
-use Rattle.manager.proofs.CauseLaws.{tables-refuse, tables-clear}
+use Rattle.manager.proofs.CauseLaws.{tables-refuse, tables-clear, page-refusal-is}
 use borrow.Author.Tests.{not-true, not-false}
 use Rattle.manager.specs.Refusals.{firstRefusal, pageCauses}
 use borrow.Author.Needs.{needs}
@@ -29,25 +29,20 @@ out-of-space-requires : tie.Need-out-of-space-requires
 out-of-space-requires c κs = search needs
 
 returns-2 : tie.Need-returns-2
-unfolding firstRefusal pageCauses
-returns-2 c =
-    let t = clear (c .before .before) in
-    rw (t .0, t .1, sym (c .before .out-of-space .ensures) ∙ c .if2 .taken)
+returns-2 c = page-refusal-is board01 _ (clear (c .before .before)) _ _ (sym (c .before .out-of-space .ensures) ∙ c .if2 .taken) refl
 
 is-mapped-requires : tie.Need-is-mapped-requires
 is-mapped-requires c κs = search needs
 
 returns-3 : tie.Need-returns-3
-unfolding firstRefusal pageCauses
 returns-3 c =
-    let t = clear (c .before .before .before .before) in
-    rw (t .0, t .1, sym (c .before .before .before .out-of-space .ensures) ∙ c .before .before .if2 .left, sym (c .before .is-mapped .ensures) ∙ not-true _ (c .if3 .taken))
+    let e = c .before .before in
+    page-refusal-is board01 _ (clear (e .before .before)) _ _ (sym (e .before .out-of-space .ensures) ∙ e .if2 .left) (sym (c .before .is-mapped .ensures) ∙ not-true _ (c .if3 .taken))
 
 returns-4 : tie.Need-returns-4
-unfolding firstRefusal pageCauses
 returns-4 c =
-    let t = clear (c .before .before .before .before) in
-    rw (t .0, t .1, sym (c .before .before .before .out-of-space .ensures) ∙ c .before .before .if2 .left, sym (c .before .is-mapped .ensures) ∙ not-false _ (c .if3 .left))
+    let e = c .before .before in
+    page-refusal-is board01 _ (clear (e .before .before)) _ _ (sym (e .before .out-of-space .ensures) ∙ e .if2 .left) (sym (c .before .is-mapped .ensures) ∙ not-false _ (c .if3 .left))
 
 pub page-refusal-spec : {M : Type 1} → statement M
 page-refusal-spec =

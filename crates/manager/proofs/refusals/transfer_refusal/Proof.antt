@@ -3,7 +3,7 @@ use mathlib.Core.Path.{_≡_, sym, _∙_}
 use mathlib.Core.Bool.{true}
 use Rattle.board.specs.Board.{board01}
 use Rattle.manager.specs.Tables.{Tables, tables, lengthsRight, rulesKept}
-use Rattle.manager.proofs.CauseLaws.{tables-refuse, tables-clear}
+use Rattle.manager.proofs.CauseLaws.{tables-refuse, tables-clear, transfer-refusal-is}
 use borrow.Author.Tests.{le-leb, lt-leb}
 use Rattle.manager.specs.Refusals.{firstRefusal, transferCauses}
 use borrow.Author.Needs.{needs}
@@ -26,16 +26,10 @@ unfolding firstRefusal transferCauses
 returns c = c .before .tables-refusal .ensures ∙ tables-refuse board01 (T (c .before .before .before .before)) _ (λ z. c .if1 .taken (c .before .tables-refusal .ensures ∙ z))
 
 returns-2 : tie.Need-returns-2
-unfolding firstRefusal transferCauses
-returns-2 c =
-    let t = clear (c .before) in
-    rw (t .0, t .1, le-leb _ _ (c .if2 .taken))
+returns-2 c = transfer-refusal-is board01 _ (clear (c .before)) _ (le-leb _ _ (c .if2 .taken))
 
 returns-3 : tie.Need-returns-3
-unfolding firstRefusal transferCauses
-returns-3 c =
-    let t = clear (c .before) in
-    rw (t .0, t .1, lt-leb _ _ (c .if2 .left))
+returns-3 c = transfer-refusal-is board01 _ (clear (c .before)) _ (lt-leb _ _ (c .if2 .left))
 
 pub transfer-refusal-spec : {M : Type 1} → statement M
 transfer-refusal-spec = tie.close (tie.spec tables-refusal-requires returns returns-2 returns-3)
