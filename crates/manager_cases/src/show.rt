@@ -1,0 +1,146 @@
+// One call of the manager each, and a line of text: the refusal or 0, the first and the second order, and the first three protections after it.
+use libc::STDOUT_FILENO;
+use manager::Answer;
+use manager::FrameOps;
+use mapping::Mapping;
+use mapping::MappingList;
+use page_model::Op;
+
+// A mapping by its fields.
+pub fn entry(space: u8, page: u16, frame: u8, rights: u8) -> Mapping {
+    Mapping {
+        space,
+        page,
+        frame,
+        rights,
+    }
+}
+
+// Maps a page, and hands back the list.
+pub fn map(list: MappingList, records: &[u8], protections: &mut [u8], m: Mapping) -> MappingList {
+    let listed = manager::map(list, records, protections, m);
+    let answer = listed.answer;
+    let next = listed.list;
+    io::write_all(STDOUT_FILENO, b"map ");
+    line(answer, protections);
+    next
+}
+
+// Unmaps a page, and hands back the list.
+pub fn unmap(
+    list: MappingList,
+    records: &[u8],
+    protections: &mut [u8],
+    space: u8,
+    page: u16,
+) -> MappingList {
+    let listed = manager::unmap(list, records, protections, space, page);
+    let answer = listed.answer;
+    let next = listed.list;
+    io::write_all(STDOUT_FILENO, b"unmap ");
+    line(answer, protections);
+    next
+}
+
+// The processor reads a page.
+pub fn read(
+    list: MappingList,
+    records: &mut [u8],
+    protections: &mut [u8],
+    space: u8,
+    page: u16,
+) {
+    let answer = manager::read(list, records, protections, space, page);
+    io::write_all(STDOUT_FILENO, b"read ");
+    line(answer, protections);
+}
+
+// The processor writes a page.
+pub fn write(
+    list: MappingList,
+    records: &mut [u8],
+    protections: &mut [u8],
+    space: u8,
+    page: u16,
+) {
+    let answer = manager::write(list, records, protections, space, page);
+    io::write_all(STDOUT_FILENO, b"write ");
+    line(answer, protections);
+}
+
+// A device reads a frame.
+pub fn device_read(list: MappingList, records: &mut [u8], protections: &mut [u8], frame: u8) {
+    let answer = manager::device_read(list, records, protections, frame);
+    io::write_all(STDOUT_FILENO, b"device read ");
+    line(answer, protections);
+}
+
+// A device writes a frame.
+pub fn device_write(list: MappingList, records: &mut [u8], protections: &mut [u8], frame: u8) {
+    let answer = manager::device_write(list, records, protections, frame);
+    io::write_all(STDOUT_FILENO, b"device write ");
+    line(answer, protections);
+}
+
+fn line(answer: Answer, protections: &[u8]) {
+    match answer {
+        Answer::Refused(number) => refused(number),
+        Answer::Accepted(orders) => accepted(orders),
+    }
+    three(protections);
+}
+
+fn refused(number: u8) {
+    io::print_decimal(STDOUT_FILENO, wide(number));
+    io::write_all(STDOUT_FILENO, b" - -");
+}
+
+fn accepted(orders: FrameOps) {
+    let ops = orders.ops;
+    let first = ops.first;
+    let second = ops.second;
+    io::write_all(STDOUT_FILENO, b"0");
+    order(orders.frame, first);
+    order(orders.frame, second);
+}
+
+// An order, with its frame and colour.
+fn order(frame: u8, op: Op) {
+    match op {
+        Op::None => none(),
+        Op::Flush(colour) => on(b'F', frame, colour),
+        Op::Purge(colour) => on(b'P', frame, colour),
+    }
+}
+
+fn none() {
+    io::write_all(STDOUT_FILENO, b" -");
+}
+
+fn on(letter: u8, frame: u8, colour: usize) {
+    let start = [b' ', letter];
+    io::write_all(STDOUT_FILENO, &start);
+    io::print_decimal(STDOUT_FILENO, wide(frame));
+    io::write_all(STDOUT_FILENO, b".");
+    io::print_decimal(STDOUT_FILENO, colour as u64);
+}
+
+// The first three protections.
+fn three(protections: &[u8]) {
+    io::write_all(STDOUT_FILENO, b" p");
+    if protections.len() >= 3 {
+        byte(protections[0]);
+        byte(protections[1]);
+        byte(protections[2]);
+    }
+    io::write_all(STDOUT_FILENO, b"\n");
+}
+
+fn byte(b: u8) {
+    io::write_all(STDOUT_FILENO, b" ");
+    io::print_decimal(STDOUT_FILENO, wide(b));
+}
+
+fn wide(b: u8) -> u64 {
+    b as u64
+}
