@@ -24,13 +24,10 @@ fn limits() {
     let list = map_limits(&records, &mut protections);
     page_limits(list, &mut records, &mut protections);
     frame_limits(list, &mut records, &mut protections);
-    let left = show::unmap(list, &records, &mut protections, 0, 0);
-    show::unmap(left, &records, &mut protections, 0, 0);
-    show::write(left, &mut records, &mut protections, 15, 1023);
-    show::write(left, &mut records, &mut protections, 0, 0);
+    unmap_limits(list, &mut records, &mut protections);
 }
 
-fn map_limits(records: &[u8], protections: &mut [u8]) -> MappingList {
+fn map_limits(records: &[u8; 192], protections: &mut [u8; 256]) -> MappingList {
     let start = mapping::empty();
     show::map(start, records, protections, entry(16, 0, 0, 1));
     let one = show::map(start, records, protections, entry(0, 0, 0, 1));
@@ -46,7 +43,7 @@ fn map_limits(records: &[u8], protections: &mut [u8]) -> MappingList {
     two
 }
 
-fn page_limits(list: MappingList, records: &mut [u8], protections: &mut [u8]) {
+fn page_limits(list: MappingList, records: &mut [u8; 192], protections: &mut [u8; 256]) {
     show::unmap(list, records, protections, 0, 5);
     show::unmap(list, records, protections, 16, 0);
     show::read(list, records, protections, 1, 0);
@@ -56,9 +53,16 @@ fn page_limits(list: MappingList, records: &mut [u8], protections: &mut [u8]) {
     show::write(list, records, protections, 255, 1023);
 }
 
-fn frame_limits(list: MappingList, records: &mut [u8], protections: &mut [u8]) {
+fn frame_limits(list: MappingList, records: &mut [u8; 192], protections: &mut [u8; 256]) {
     show::device_read(list, records, protections, 64);
     show::device_write(list, records, protections, 255);
+}
+
+fn unmap_limits(list: MappingList, records: &mut [u8; 192], protections: &mut [u8; 256]) {
+    let left = show::unmap(list, records, protections, 0, 0);
+    show::unmap(left, records, protections, 0, 0);
+    show::write(left, records, protections, 15, 1023);
+    show::write(left, records, protections, 0, 0);
 }
 
 // ---- orders: frame 3 through pages of several colours
@@ -76,7 +80,7 @@ fn orders() {
 }
 
 // Document 01's sheet.
-fn accesses(list: MappingList, records: &mut [u8], protections: &mut [u8]) {
+fn accesses(list: MappingList, records: &mut [u8; 192], protections: &mut [u8; 256]) {
     show::read(list, records, protections, 1, 9);
     show::write(list, records, protections, 0, 0);
     show::read(list, records, protections, 1, 9);
@@ -86,7 +90,7 @@ fn accesses(list: MappingList, records: &mut [u8], protections: &mut [u8]) {
     show::read(list, records, protections, 1, 9);
 }
 
-fn transfers(list: MappingList, records: &mut [u8], protections: &mut [u8]) {
+fn transfers(list: MappingList, records: &mut [u8; 192], protections: &mut [u8; 256]) {
     show::write(list, records, protections, 0, 0);
     show::device_read(list, records, protections, 3);
     show::write(list, records, protections, 0, 0);
@@ -96,7 +100,7 @@ fn transfers(list: MappingList, records: &mut [u8], protections: &mut [u8]) {
 }
 
 // An unmap moves the later mappings down and leaves the record: the dirty colour is flushed by the next access.
-fn unmapped(list: MappingList, records: &mut [u8], protections: &mut [u8]) {
+fn unmapped(list: MappingList, records: &mut [u8; 192], protections: &mut [u8; 256]) {
     let three = show::map(list, records, protections, entry(2, 8, 3, 2));
     show::write(three, records, protections, 2, 8);
     let two = show::unmap(three, records, protections, 0, 0);

@@ -43,26 +43,14 @@ pub fn unmap(
 }
 
 // The processor reads a page.
-pub fn read(
-    list: MappingList,
-    records: &mut [u8],
-    protections: &mut [u8],
-    space: u8,
-    page: u16,
-) {
+pub fn read(list: MappingList, records: &mut [u8], protections: &mut [u8], space: u8, page: u16) {
     let answer = manager::read(list, records, protections, space, page);
     io::write_all(STDOUT_FILENO, b"read ");
     line(answer, protections);
 }
 
 // The processor writes a page.
-pub fn write(
-    list: MappingList,
-    records: &mut [u8],
-    protections: &mut [u8],
-    space: u8,
-    page: u16,
-) {
+pub fn write(list: MappingList, records: &mut [u8], protections: &mut [u8], space: u8, page: u16) {
     let answer = manager::write(list, records, protections, space, page);
     io::write_all(STDOUT_FILENO, b"write ");
     line(answer, protections);
