@@ -1,9 +1,7 @@
 -- Demand 3: every call finds its words and keeps the invariant, so every list of calls does.
-use mathlib.Core.Path.{_≡_, sym, ap, _∙_, subst⁻¹}
-use mathlib.Core.Bool.{Bool, true, false, not, true≢false}
+use mathlib.Core.Path.{_≡_, subst⁻¹}
+use mathlib.Core.Bool.{Bool, false, true≢false}
 use mathlib.Core.List.{List, [], _∷_}
-use Prim.Native.Nat.{suc}
-use lib.Dec.{eqb, eqb·suc-zero}
 use Rattle.board.specs.Board.{Board, Regular}
 use Rattle.manager.specs.Refusals.{firstRefusal}
 use Rattle.machine.specs.Refusals.{causes}
@@ -40,9 +38,7 @@ module _ (b : Board) (reg : Regular b) where
   serves st m inv call =
       step-cases b st call (Serves m call)
       (λ e. let t = taken st m inv call e in (λ _. t .0, subst⁻¹ (λ (x : Bool). Invariant b (accept b st call .after) (after m call x)) (accept-accepted b st call) (t .1)))
-      (λ n.
-      let r : not (eqb (suc n) 0) ≡ true = ap not (eqb·suc-zero n) in
-      (λ e. absurd (true≢false (sym r ∙ e)), subst⁻¹ (λ (x : Bool). Invariant b st (after m call x)) r inv))
+      (λ n. (λ e. absurd (true≢false e), inv))
 
   -- ---- a list of calls
 

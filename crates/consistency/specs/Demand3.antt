@@ -1,16 +1,16 @@
 -- Demand 3: over any list of calls from the start, every accepted read finds what memory without a cache would give, and once every line
 -- has been turned out memory equals that memory word for word. Over any board whose line divides its page.
-use mathlib.Core.Bool.{Bool, true, false, not}
+use mathlib.Core.Bool.{Bool, false}
 use mathlib.Core.List.{List, [], _∷_}
 use mathlib.Core.Logic.{_⊎_}
 use mathlib.Core.Option.{Option, none, some}
 use mathlib.Core.Path.{_≡_}
 use Prim.Native.Nat.{ℕ, _*_, _<_}
-use lib.Dec.{eqb}
 use lib.ListN.{length, replicate}
 use Rattle.board.specs.Board.{Board, Regular, memoryWords, cacheWords, lines}
 use Rattle.mapping.specs.Change.{empty}
 use Rattle.mapping.specs.Entry.{capacity}
+use Rattle.manager.specs.Answers.{isRefusal}
 use Rattle.manager.specs.Tables.{tables, tabulate, recordBytes}
 use Rattle.cache.specs.Store.{store, memoryWord}
 use Rattle.machine.specs.State.{State, state, Call, map, unmap, read, write, deviceRead, deviceWrite, evict, Answer}
@@ -26,7 +26,7 @@ startState b memory words protections =
 -- ---- what an accepted read must find
 
 abbrev pub isRefused : Answer → Bool
-isRefused a = not (eqb (a .outcome .number) 0)
+isRefused a = isRefusal (a .outcome)
 
 -- the word at an offset of the page's frame
 abbrev pub wordOf : Cacheless → Option ℕ → ℕ → Option ℕ

@@ -8,7 +8,7 @@ use Rattle.page_model.specs.Table as table
 use Rattle.mapping.specs.Lookup.{lookup}
 use Rattle.manager.specs.declared.Change.{Change}
 use Rattle.manager.specs.Answers as order
-use Rattle.manager.specs.Answers.{Outcome, FrameOperation, refused, accepted}
+use Rattle.manager.specs.Answers.{Outcome, refused, accepted, FrameOperation, firstOf, secondOf}
 use Rattle.manager.specs.Calls.{noOps, changeOf, commitChange, commitMap, commitUnmap}
 use Rattle.manager.specs.Refusals.{firstRefusal, placeOf, mappingOf}
 use Rattle.manager.specs.Tables.{Tables, refill}
@@ -27,7 +27,7 @@ operate b (order.purge f c) s = hardware.purge b f c s
 -- the store after an answer's orders, in order
 unfoldable pub carryOut : Board → Outcome → Store → Store
 unfolding operate
-carryOut b o s = operate b (o .second) (operate b (o .first) s)
+carryOut b o s = operate b (secondOf o) (operate b (firstOf o) s)
 
 -- ---- answers
 

@@ -52,7 +52,7 @@ pub fn map(
     }
 }
 
-// Takes a page of a space its frame.
+// Takes the mapping of a page of a space off the list.
 pub fn unmap(
     list: MappingList,
     records: &[u8],

@@ -58,7 +58,7 @@ putRecord-rules b rs f r n lf h k = all-of (b .frames) _ (λ g lg. go g (eqb g f
 pub recordAt-start : (frames f : ℕ) → f < frames → recordAt (replicate (frames * recordBytes) 0) f ≡ startRecord
 unfolding recordAt
 recordAt-start frames f h =
-    let held = getD-replicate (frames * recordBytes) (f * recordBytes) 0 0 (omega arith) in
-    let stale = getD-replicate (frames * recordBytes) (f * recordBytes + 1) 0 0 (omega arith) in
-    let dirty = getD-replicate (frames * recordBytes) (f * recordBytes + 2) 0 0 (omega arith) in
+    let held = getD-replicate {A = ℕ} (frames * recordBytes) (f * recordBytes) 0 0 (omega arith) in
+    let stale = getD-replicate {A = ℕ} (frames * recordBytes) (f * recordBytes + 1) 0 0 (omega arith) in
+    let dirty = getD-replicate {A = ℕ} (frames * recordBytes) (f * recordBytes + 2) 0 0 (omega arith) in
     rw (held, stale, dirty)

@@ -9,7 +9,7 @@ use borrow.Author.Tests.{ltb-true}
 use lib.Dec.{ltb}
 use Rattle.bits.proofs.Tautology.{and-left, and-right}
 use Rattle.board.specs.Board.{Board}
-use Rattle.manager.specs.Answers.{refused}
+use Rattle.manager.specs.Answers.{refused, isRefusal, numberOf}
 use Rattle.manager.specs.Calls.{Result, result}
 use Rattle.manager.specs.Refusals.{Cause, _if_, firstRefusal, mapCauses, writeCauses, transferCauses}
 use Rattle.manager.specs.Tables.{Tables}
@@ -81,7 +81,7 @@ causes-rise b t (deviceRead frame) = refl
 causes-rise b t (deviceWrite frame) = refl
 
 -- an accepted call's number is 0
-accepted-number : (b : Board) (t : Tables) (c : PageCall) → acceptedOf b t c .answer .number ≡ 0
+accepted-number : (b : Board) (t : Tables) (c : PageCall) → numberOf (acceptedOf b t c .answer) ≡ 0
 accepted-number b t (map space page frame rights) = refl
 accepted-number b t (unmap space page) = refl
 accepted-number b t (read space page) = refl
@@ -89,7 +89,7 @@ accepted-number b t (write space page) = refl
 accepted-number b t (deviceRead frame) = refl
 accepted-number b t (deviceWrite frame) = refl
 
-settled-number : (t : Tables) (r : Result) (n : ℕ) → r .answer .number ≡ 0 → settled t r n .answer .number ≡ n
+settled-number : (t : Tables) (r : Result) (n : ℕ) → numberOf (r .answer) ≡ 0 → numberOf (settled t r n .answer) ≡ n
 settled-number t r zero e = e
 settled-number t r (suc n) e = refl
 
@@ -99,11 +99,17 @@ settled-refused t r (suc n) h = refl
 
 pub answer-number : AnswerNumber
 answer-number b t c = (
-  ap (λ (r : Result). r .answer .number) (call-settled b t c) ∙ settled-number t (acceptedOf b t c) _ (accepted-number b t c),
+  ap (λ (r : Result). numberOf (r .answer)) (call-settled b t c) ∙ settled-number t (acceptedOf b t c) _ (accepted-number b t c),
   λ n e h. call-settled b t c ∙ ap (settled t (acceptedOf b t c)) e ∙ settled-refused t (acceptedOf b t c) n h,
 )
 
 -- a call whose answer is no refusal is settled as accepted
-pub accepted-result : (b : Board) (t : Tables) (c : PageCall) → resultOf b t c .answer .number ≡ 0
+settled-accepted : (t : Tables) (r : Result) (n : ℕ) → isRefusal (settled t r n .answer) ≡ false → n ≡ 0
+settled-accepted t r zero e = refl
+settled-accepted t r (suc n) e = absurd (false≢true (sym e))
+
+pub accepted-result : (b : Board) (t : Tables) (c : PageCall) → isRefusal (resultOf b t c .answer) ≡ false
     → (firstRefusal (causesOf b t c) ≡ 0) × (resultOf b t c ≡ acceptedOf b t c)
-accepted-result b t c e = let n = sym (answer-number b t c .0) ∙ e in (n, call-settled b t c ∙ ap (settled t (acceptedOf b t c)) n)
+accepted-result b t c e =
+    let n = settled-accepted t (acceptedOf b t c) (firstRefusal (causesOf b t c)) (sym (ap (λ (r : Result). isRefusal (r .answer)) (call-settled b t c)) ∙ e) in
+    (n, call-settled b t c ∙ ap (settled t (acceptedOf b t c)) n)

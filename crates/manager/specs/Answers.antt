@@ -1,10 +1,30 @@
--- What an answer says in document 01's terms: the refusal's number, or 0, and the first and second order, each with frame and colour.
+-- Document 01, "Answers": what an answer says. A refusal has its number; an accepted call has its first and second order, each on a frame
+-- and a colour.
+use mathlib.Core.Bool.{Bool, true, false}
 use Prim.Native.Nat.{ℕ}
 use Rattle.page_model.specs.declared.Op.{Op}
 use Rattle.page_model.specs.declared.Op.the-variants.{None, Flush, Purge}
 use Rattle.page_model.specs.declared.Ops.{Ops}
 use Rattle.manager.specs.declared.Answer.{Answer}
 use Rattle.manager.specs.declared.Answer.the-variants.{Refused, Accepted}
+
+-- A refusal is never an acceptance, whatever its number. An accepted call names the frame of its operations, and 0 where it has none by its kind.
+pub data Outcome : Type 0 where
+  refused : ℕ → Outcome
+  accepted : ℕ → Ops → Outcome
+
+abbrev pub outcome : Answer → Outcome
+outcome (Refused n) = refused n
+outcome (Accepted o) = accepted (o .frame) (o .ops)
+
+abbrev pub isRefusal : Outcome → Bool
+isRefusal (refused n) = true
+isRefusal (accepted f ops) = false
+
+-- the refusal's number, or 0
+abbrev pub numberOf : Outcome → ℕ
+numberOf (refused n) = n
+numberOf (accepted f ops) = 0
 
 -- an operation on a frame and a colour, or none; document 01 calls it an order
 pub data FrameOperation : Type 0 where
@@ -16,17 +36,11 @@ operationOn f None = none
 operationOn f (Flush c) = flush f c
 operationOn f (Purge c) = purge f c
 
-pub record Outcome : Type 0 where
-  pub number : ℕ
-  pub first : FrameOperation
-  pub second : FrameOperation
+-- the first and the second order
+abbrev pub firstOf : Outcome → FrameOperation
+firstOf (refused n) = none
+firstOf (accepted f ops) = operationOn f (ops .first)
 
-abbrev pub refused : ℕ → Outcome
-refused n = record { number = n; first = none; second = none }
-
-abbrev pub accepted : ℕ → Ops → Outcome
-accepted f ops = record { number = 0; first = operationOn f (ops .first); second = operationOn f (ops .second) }
-
-abbrev pub outcome : Answer → Outcome
-outcome (Refused n) = refused n
-outcome (Accepted o) = accepted (o .frame) (o .ops)
+abbrev pub secondOf : Outcome → FrameOperation
+secondOf (refused n) = none
+secondOf (accepted f ops) = operationOn f (ops .second)

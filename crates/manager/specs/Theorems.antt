@@ -12,7 +12,7 @@ use Rattle.page_model.specs.Theorems.{Idle}
 use Rattle.mapping.specs.Entry.{capacity, readWrite, mappingAt}
 use Rattle.manager.specs.Tables.{Tables, tables, recordAt, lengthsRight, rulesKept, protectionAt, tabulate}
 use Rattle.manager.specs.Refusals.{Cause, _if_, firstRefusal, isRight, mapCauses, pageCauses, writeCauses, transferCauses}
-use Rattle.manager.specs.Answers.{refused}
+use Rattle.manager.specs.Answers.{refused, isRefusal, numberOf}
 use Rattle.manager.specs.Calls.{Result, result, mapCall, unmapCall, readCall, writeCall, deviceReadCall, deviceWriteCall}
 
 -- ---- a call by its kind and numbers
@@ -72,7 +72,7 @@ CausesRise = (b : Board) (t : Tables) (c : PageCall) → rising 0 (causesOf b t 
 abbrev pub AnswerNumber : Type 0
 AnswerNumber =
     (b : Board) (t : Tables) (c : PageCall)
-    → (resultOf b t c .answer .number ≡ firstRefusal (causesOf b t c))
+    → (numberOf (resultOf b t c .answer) ≡ firstRefusal (causesOf b t c))
     × ((n : ℕ) → firstRefusal (causesOf b t c) ≡ n → 0 < n → resultOf b t c ≡ result (refused n) t)
 
 -- ---- protections
@@ -95,7 +95,7 @@ WriteProtection =
 -- after an accepted call the whole buffer agrees with the tables, and is 0 past the count
 abbrev pub ProtectionsAgree : Type 0
 ProtectionsAgree =
-    (b : Board) (t : Tables) (c : PageCall) → resultOf b t c .answer .number ≡ 0
+    (b : Board) (t : Tables) (c : PageCall) → isRefusal (resultOf b t c .answer) ≡ false
     → let u = resultOf b t c .after in
     (u .protections ≡ tabulate capacity (protectionAt b (u .list) (u .records)))
     × ((i : ℕ) → u .list .count ≤ i → getD (u .protections) i 0 ≡ 0)
@@ -106,4 +106,4 @@ ProtectionsUnread =
     (b : Board) (t : Tables) (protections : List ℕ) (c : PageCall) → length protections ≡ length (t .protections)
     → let u = tables (t .list) (t .records) protections in
     (resultOf b u c .answer ≡ resultOf b t c .answer)
-    × (resultOf b t c .answer .number ≡ 0 → resultOf b u c .after ≡ resultOf b t c .after)
+    × (isRefusal (resultOf b t c .answer) ≡ false → resultOf b u c .after ≡ resultOf b t c .after)

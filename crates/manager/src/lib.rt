@@ -74,7 +74,7 @@ pub fn map(list: MappingList, records: &[u8], protections: &mut [u8], m: Mapping
     }
 }
 
-// Takes a page of a space its frame. The frame's record stays: words may lie in the cache.
+// Takes the mapping of a page of a space off the list. The frame's record stays: words may lie in the cache.
 pub fn unmap(
     list: MappingList,
     records: &[u8],
@@ -338,11 +338,12 @@ pub fn listed_as(list: MappingList) -> Listed
 pub fn no_orders() -> Answer
     ensures { λ r. ⌜ outcome r ≡ accepted 0 noOps ⌝ }
 {
-    Answer::Accepted(FrameOps {
+    let nothing = FrameOps {
         frame: 0,
         ops: Ops {
             first: Op::None,
             second: Op::None,
         },
-    })
+    };
+    Answer::Accepted(nothing)
 }
