@@ -1,5 +1,5 @@
 -- How a call is planned: the machine's own refusal beside the manager's plan, of which the number that stands earlier is given.
-use mathlib.Core.Bool.{Bool, true, not, cond, _&&_}
+use mathlib.Core.Bool.{Bool, true, not, _&&_}
 use mathlib.Core.List.{List, [], _∷_, _++_}
 use mathlib.Core.Option.{none, some}
 use Prim.Native.Nat.{ℕ, zero, suc, min}
@@ -30,20 +30,11 @@ unfoldable pub accessCauses : Board → Store → ℕ → ℕ → List Cause
 unfolding storeCauses
 accessCauses b s limit offset = storeCauses b s true ++ (6 if leb limit offset) ∷ []
 
--- of two refusals, each a number or 0 for none, the earlier
+-- of two refusals, each a number or 0 for none, the earlier: at this stage the numbers rise with their places
 unfoldable pub earlier : ℕ → ℕ → ℕ
 earlier zero n = n
 earlier (suc m) zero = suc m
 earlier (suc m) (suc n) = min (suc m) (suc n)
-
--- the number of a plan's refusal, or 0
-abbrev pub stepNumber : Plan → ℕ
-stepNumber (step-plan.Refused n) = n
-stepNumber (step-plan.Step change) = 0
-
-abbrev pub placeNumber : ListPlan → ℕ
-placeNumber (list-plan.Refused n) = n
-placeNumber (list-plan.Place place) = 0
 
 -- a plan beside a refusal
 unfoldable pub withStep : ℕ → Plan → Plan

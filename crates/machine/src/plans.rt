@@ -13,7 +13,7 @@ ghost use Rattle.cache.specs.Store.{store};
 ghost use Rattle.machine.specs.Refusals.{causes};
 ghost use Rattle.machine.specs.State as call;
 ghost use Rattle.machine.specs.State.{state};
-ghost use Rattle.machine.specs.Plans.{planStep, planPlace, storeCauses, accessCauses, earlier, stepNumber, placeNumber, withStep, withPlace};
+ghost use Rattle.machine.specs.Plans.{planStep, planPlace, storeCauses, accessCauses, earlier, withStep, withPlace};
 use manager::ListPlan;
 use manager::Plan;
 use mapping::Mapping;
@@ -146,7 +146,7 @@ pub fn evict_refusal(
 }
 
 // The refusal in memory, cache words and tags, or 0.
-pub fn store_refusal(memory: &[u32], words: &[u32], tags: &[u8]) -> u8
+fn store_refusal(memory: &[u32], words: &[u32], tags: &[u8]) -> u8
     ensures { λ r. ⌜ r ≡ firstRefusal (storeCauses board01 (store (now (memory .entry)) (now (words .entry)) (now (tags .entry))) true) ⌝ }
 {
     if memory.len() != board::MEMORY_WORDS {
@@ -165,7 +165,7 @@ pub fn store_refusal(memory: &[u32], words: &[u32], tags: &[u8]) -> u8
 }
 
 // The same with a device's buffer.
-pub fn transfer_refusal(memory: &[u32], words: &[u32], tags: &[u8], buffer: &[u32]) -> u8
+fn transfer_refusal(memory: &[u32], words: &[u32], tags: &[u8], buffer: &[u32]) -> u8
     ensures { λ r. ⌜ r ≡ firstRefusal (storeCauses board01 (store (now (memory .entry)) (now (words .entry)) (now (tags .entry))) (eqb (length (now (buffer .entry))) (board01 .pageWords))) ⌝ }
 {
     if buffer.len() != board::PAGE_WORDS {
@@ -175,7 +175,7 @@ pub fn transfer_refusal(memory: &[u32], words: &[u32], tags: &[u8], buffer: &[u3
 }
 
 // The same with an offset, or a line, and its limit.
-pub fn access_refusal(memory: &[u32], words: &[u32], tags: &[u8], limit: usize, offset: usize) -> u8
+fn access_refusal(memory: &[u32], words: &[u32], tags: &[u8], limit: usize, offset: usize) -> u8
     ensures { λ r. ⌜ r ≡ firstRefusal (accessCauses board01 (store (now (memory .entry)) (now (words .entry)) (now (tags .entry))) limit offset) ⌝ }
 {
     let refusal = store_refusal(memory, words, tags);
@@ -189,33 +189,33 @@ pub fn access_refusal(memory: &[u32], words: &[u32], tags: &[u8], limit: usize, 
 }
 
 // The manager's refusal is handed on, unless the machine's own stands earlier.
-pub fn with_step(own: u8, plan: Plan) -> Plan
+fn with_step(own: u8, plan: Plan) -> Plan
     ensures { λ r. ⌜ r ≡ withStep own plan ⌝ }
 {
-    let Plan::Step(change) = plan else {
-        return Plan::Refused(earlier(own, step_number(plan)));
+    let Plan::Refused(number) = plan else {
+        if own != 0 {
+            return Plan::Refused(own);
+        }
+        return plan;
     };
-    if own != 0 {
-        return Plan::Refused(own);
-    }
-    Plan::Step(change)
+    Plan::Refused(earlier(own, number))
 }
 
 // The same for a plan of the list.
-pub fn with_place(own: u8, plan: ListPlan) -> ListPlan
+fn with_place(own: u8, plan: ListPlan) -> ListPlan
     ensures { λ r. ⌜ r ≡ withPlace own plan ⌝ }
 {
-    let ListPlan::Place(place) = plan else {
-        return ListPlan::Refused(earlier(own, place_number(plan)));
+    let ListPlan::Refused(number) = plan else {
+        if own != 0 {
+            return ListPlan::Refused(own);
+        }
+        return plan;
     };
-    if own != 0 {
-        return ListPlan::Refused(own);
-    }
-    ListPlan::Place(place)
+    ListPlan::Refused(earlier(own, number))
 }
 
 // Of two refusals, 0 for none, the earlier.
-pub fn earlier(own: u8, managers: u8) -> u8
+fn earlier(own: u8, managers: u8) -> u8
     ensures { λ r. ⌜ r ≡ earlier own managers ⌝ }
 {
     if own == 0 {
@@ -225,23 +225,4 @@ pub fn earlier(own: u8, managers: u8) -> u8
         return own;
     }
     if own < managers { own } else { managers }
-}
-
-// The number of a refusal.
-fn step_number(plan: Plan) -> u8
-    ensures { λ r. ⌜ r ≡ stepNumber plan ⌝ }
-{
-    match plan {
-        Plan::Refused(number) => number,
-        Plan::Step(_) => 0,
-    }
-}
-
-fn place_number(plan: ListPlan) -> u8
-    ensures { λ r. ⌜ r ≡ placeNumber plan ⌝ }
-{
-    match plan {
-        ListPlan::Refused(number) => number,
-        ListPlan::Place(_) => 0,
-    }
 }

@@ -1,7 +1,7 @@
 -- `machine::with_place` meets its contract.
-use mathlib.Core.Path.{ap, _∙_}
+use mathlib.Core.Path.{ap}
 use Rattle.manager.specs.declared.ListPlan.the-variants as made
-use Rattle.machine.specs.Plans.{earlier, withPlace, placeNumber}
+use Rattle.machine.specs.Plans.{withPlace}
 use Rattle.machine.proofs.MergeLaws.{withPlace-own}
 use borrow.Author.Needs.{needs}
 use Rattle.machine.proofs.plans.with_place.Statement.{statement}
@@ -13,32 +13,21 @@ enum-known-plan c = search needs
 enum-told : tie.Need-enum-told
 enum-told c = search needs
 
-place-number-requires : tie.Need-place-number-requires
-place-number-requires c κs = search needs
+returns : tie.Need-returns
+unfolding withPlace
+returns c = rw (c .before .enum-told .given .1) (withPlace-own _ _ (c .if1 .taken))
+
+returns-2 : tie.Need-returns-2
+unfolding withPlace
+returns-2 c = rw (c .before .enum-told .given .1, c .if1 .left)
 
 earlier-requires : tie.Need-earlier-requires
 earlier-requires c κs = search needs
 
-returns : tie.Need-returns
-unfolding withPlace
-returns c = rw (c .before .before .enum-told .given .1) (ap made.Refused (c .earlier .ensures ∙ ap (earlier (c .before .before .before .before .args .own)) (c .before .place-number .ensures ∙ ap placeNumber (c .before .before .enum-told .given .1))))
-
-returns-2 : tie.Need-returns-2
-unfolding withPlace
-returns-2 c = rw (c .before .before .plan .given .1) (withPlace-own _ _ (c .if1 .taken))
-
 returns-3 : tie.Need-returns-3
 unfolding withPlace
-returns-3 c = rw (c .before .before .plan .given .1, c .if1 .left)
+returns-3 c = rw (c .before .before .plan .given .1) (ap made.Refused (c .earlier .ensures))
 
 pub with-place-spec : {M : Type 1} → statement M
 with-place-spec =
-    tie.close
-    (tie.spec
-    enum-known-plan
-    enum-told
-    place-number-requires
-    earlier-requires
-    returns
-    returns-2
-    returns-3)
+    tie.close (tie.spec enum-known-plan enum-told returns returns-2 earlier-requires returns-3)

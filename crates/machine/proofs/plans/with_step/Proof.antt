@@ -1,7 +1,7 @@
 -- `machine::with_step` meets its contract.
-use mathlib.Core.Path.{ap, _∙_}
+use mathlib.Core.Path.{ap}
 use Rattle.manager.specs.declared.Plan.the-variants as made
-use Rattle.machine.specs.Plans.{earlier, withStep, stepNumber}
+use Rattle.machine.specs.Plans.{withStep}
 use Rattle.machine.proofs.MergeLaws.{withStep-own}
 use borrow.Author.Needs.{needs}
 use Rattle.machine.proofs.plans.with_step.Statement.{statement}
@@ -13,32 +13,21 @@ enum-known-plan c = search needs
 enum-told : tie.Need-enum-told
 enum-told c = search needs
 
-step-number-requires : tie.Need-step-number-requires
-step-number-requires c κs = search needs
+returns : tie.Need-returns
+unfolding withStep
+returns c = rw (c .before .enum-told .given .1) (withStep-own _ _ (c .if1 .taken))
+
+returns-2 : tie.Need-returns-2
+unfolding withStep
+returns-2 c = rw (c .before .enum-told .given .1, c .if1 .left)
 
 earlier-requires : tie.Need-earlier-requires
 earlier-requires c κs = search needs
 
-returns : tie.Need-returns
-unfolding withStep
-returns c = rw (c .before .before .enum-told .given .1) (ap made.Refused (c .earlier .ensures ∙ ap (earlier (c .before .before .before .before .args .own)) (c .before .step-number .ensures ∙ ap stepNumber (c .before .before .enum-told .given .1))))
-
-returns-2 : tie.Need-returns-2
-unfolding withStep
-returns-2 c = rw (c .before .before .plan .given .1) (withStep-own _ _ (c .if1 .taken))
-
 returns-3 : tie.Need-returns-3
 unfolding withStep
-returns-3 c = rw (c .before .before .plan .given .1, c .if1 .left)
+returns-3 c = rw (c .before .before .plan .given .1) (ap made.Refused (c .earlier .ensures))
 
 pub with-step-spec : {M : Type 1} → statement M
 with-step-spec =
-    tie.close
-    (tie.spec
-    enum-known-plan
-    enum-told
-    step-number-requires
-    earlier-requires
-    returns
-    returns-2
-    returns-3)
+    tie.close (tie.spec enum-known-plan enum-told returns returns-2 earlier-requires returns-3)
