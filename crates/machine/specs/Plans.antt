@@ -3,7 +3,6 @@ use mathlib.Core.Bool.{Bool, true, not, _&&_}
 use mathlib.Core.List.{List, [], _∷_, _++_}
 use mathlib.Core.Option.{none, some}
 use Prim.Native.Nat.{ℕ, zero, suc, min}
-use lib.Dec.{leb}
 use Rattle.board.specs.Board.{Board}
 use Rattle.manager.specs.declared.Plan.{Plan}
 use Rattle.manager.specs.declared.Plan.the-variants as step-plan
@@ -17,7 +16,7 @@ use Rattle.cache.specs.Store.{Store}
 use Rattle.cache.specs.Tag.{tagsKeepRules}
 use Rattle.machine.specs.declared.Loaded.{Loaded}
 use Rattle.machine.specs.declared.Loaded.the-variants.{Refused, Word}
-use Rattle.machine.specs.Refusals.{storeLengths, causes}
+use Rattle.machine.specs.Refusals.{storeLengths, offsetCause, causes}
 use Rattle.machine.specs.State.{State, Call, Answer}
 use Rattle.machine.specs.Step.{answer}
 
@@ -28,7 +27,7 @@ storeCauses b s buffer = (1 if not (storeLengths b s && buffer)) ∷ (2 if not (
 -- and in an offset, or a line, with its limit
 unfoldable pub accessCauses : Board → Store → ℕ → ℕ → List Cause
 unfolding storeCauses
-accessCauses b s limit offset = storeCauses b s true ++ (6 if leb limit offset) ∷ []
+accessCauses b s limit offset = storeCauses b s true ++ offsetCause limit offset ∷ []
 
 -- of two refusals, each a number or 0 for none, the earlier: at this stage the numbers rise with their places
 unfoldable pub earlier : ℕ → ℕ → ℕ

@@ -5,8 +5,7 @@ use Prim.Native.Nat.{ℕ}
 use lib.Dec.{eqb, leb}
 use lib.ListN.{length}
 use Rattle.board.specs.Board.{Board, memoryWords, cacheWords, lines}
-use Rattle.mapping.specs.Entry.{capacity, readOnly}
-use Rattle.manager.specs.Refusals.{Cause, _if_, outOfSpace, isRight, isMapped, mappingOf}
+use Rattle.manager.specs.Refusals.{Cause, _if_, spaceCause, frameCause, rightsCause, mappedCause, unmappedCause, fullCause, readOnlyCause}
 use Rattle.manager.specs.Tables.{lengthsRight, rulesKept}
 use Rattle.cache.specs.Store.{Store}
 use Rattle.cache.specs.Tag.{tagsKeepRules}
@@ -34,33 +33,34 @@ lentCauses b st call =
     ∷ (2 if not (rulesKept b (st .tables) && tagsKeepRules b (st .store .tags)))
     ∷ []
 
+-- an offset in a page, or a line, past its limit
+abbrev pub offsetCause : ℕ → ℕ → Cause
+offsetCause limit offset = 6 if leb limit offset
+
 -- and of its own numbers
 unfoldable pub ownCauses : Board → State → Call → List Cause
 ownCauses b st (map space page frame rights) =
-    (3 if outOfSpace space page)
-    ∷ (4 if leb (b .frames) frame)
-    ∷ (5 if not (isRight rights))
-    ∷ (7 if isMapped (st .tables .list) space page)
-    ∷ (9 if eqb (st .tables .list .count) capacity)
+    spaceCause space page
+    ∷ frameCause b frame
+    ∷ rightsCause rights
+    ∷ mappedCause (st .tables .list) space page
+    ∷ fullCause (st .tables .list)
     ∷ []
-ownCauses b st (unmap space page) =
-    (3 if outOfSpace space page)
-    ∷ (8 if not (isMapped (st .tables .list) space page))
-    ∷ []
+ownCauses b st (unmap space page) = spaceCause space page ∷ unmappedCause (st .tables .list) space page ∷ []
 ownCauses b st (read space page offset) =
-    (3 if outOfSpace space page)
-    ∷ (6 if leb (b .pageWords) offset)
-    ∷ (8 if not (isMapped (st .tables .list) space page))
+    spaceCause space page
+    ∷ offsetCause (b .pageWords) offset
+    ∷ unmappedCause (st .tables .list) space page
     ∷ []
 ownCauses b st (write space page offset word) =
-    (3 if outOfSpace space page)
-    ∷ (6 if leb (b .pageWords) offset)
-    ∷ (8 if not (isMapped (st .tables .list) space page))
-    ∷ (10 if eqb (mappingOf (st .tables .list) space page .rights) readOnly)
+    spaceCause space page
+    ∷ offsetCause (b .pageWords) offset
+    ∷ unmappedCause (st .tables .list) space page
+    ∷ readOnlyCause (st .tables .list) space page
     ∷ []
-ownCauses b st (deviceRead frame buffer) = (4 if leb (b .frames) frame) ∷ []
-ownCauses b st (deviceWrite frame buffer) = (4 if leb (b .frames) frame) ∷ []
-ownCauses b st (evict line) = (6 if leb (lines b) line) ∷ []
+ownCauses b st (deviceRead frame buffer) = frameCause b frame ∷ []
+ownCauses b st (deviceWrite frame buffer) = frameCause b frame ∷ []
+ownCauses b st (evict line) = offsetCause (lines b) line ∷ []
 
 unfoldable pub causes : Board → State → Call → List Cause
 unfolding lentCauses ownCauses

@@ -50,6 +50,29 @@ placeOf Nothing = capacity
 abbrev pub mappingOf : MappingList → ℕ → ℕ → Mapping
 mappingOf l space page = mappingAt l (placeOf (lookup l space page))
 
+-- ---- the causes that lie in a call's numbers, each with its place in document 01's table
+
+abbrev pub spaceCause : ℕ → ℕ → Cause
+spaceCause space page = 3 if outOfSpace space page
+
+abbrev pub frameCause : Board → ℕ → Cause
+frameCause b frame = 4 if leb (b .frames) frame
+
+abbrev pub rightsCause : ℕ → Cause
+rightsCause rights = 5 if not (isRight rights)
+
+abbrev pub mappedCause : MappingList → ℕ → ℕ → Cause
+mappedCause l space page = 7 if isMapped l space page
+
+abbrev pub unmappedCause : MappingList → ℕ → ℕ → Cause
+unmappedCause l space page = 8 if not (isMapped l space page)
+
+abbrev pub fullCause : MappingList → Cause
+fullCause l = 9 if eqb (l .count) capacity
+
+abbrev pub readOnlyCause : MappingList → ℕ → ℕ → Cause
+readOnlyCause l space page = 10 if eqb (mappingOf l space page .rights) readOnly
+
 -- ---- the causes of each call
 
 -- what each call tests of all that it is lent
@@ -60,27 +83,23 @@ unfoldable pub mapCauses : Board → Tables → ℕ → ℕ → ℕ → ℕ → 
 unfolding tableCauses
 mapCauses b t space page frame rights =
     tableCauses b t
-    ++ (3 if outOfSpace space page)
-    ∷ (4 if leb (b .frames) frame)
-    ∷ (5 if not (isRight rights))
-    ∷ (7 if isMapped (t .list) space page)
-    ∷ (9 if eqb (t .list .count) capacity)
+    ++ spaceCause space page
+    ∷ frameCause b frame
+    ∷ rightsCause rights
+    ∷ mappedCause (t .list) space page
+    ∷ fullCause (t .list)
     ∷ []
 
 -- unmap and read
 unfoldable pub pageCauses : Board → Tables → ℕ → ℕ → List Cause
 unfolding tableCauses
-pageCauses b t space page =
-    tableCauses b t
-    ++ (3 if outOfSpace space page)
-    ∷ (8 if not (isMapped (t .list) space page))
-    ∷ []
+pageCauses b t space page = tableCauses b t ++ spaceCause space page ∷ unmappedCause (t .list) space page ∷ []
 
 unfoldable pub writeCauses : Board → Tables → ℕ → ℕ → List Cause
 unfolding pageCauses
-writeCauses b t space page = pageCauses b t space page ++ (10 if eqb (mappingOf (t .list) space page .rights) readOnly) ∷ []
+writeCauses b t space page = pageCauses b t space page ++ readOnlyCause (t .list) space page ∷ []
 
 -- both transfers
 unfoldable pub transferCauses : Board → Tables → ℕ → List Cause
 unfolding tableCauses
-transferCauses b t frame = tableCauses b t ++ (4 if leb (b .frames) frame) ∷ []
+transferCauses b t frame = tableCauses b t ++ frameCause b frame ∷ []
