@@ -1,34 +1,33 @@
 -- A device's accepted transfers: its read finds the cacheless memory's words, its write puts the buffer's there.
 use mathlib.Core.Path.{_≡_, refl, sym, ap, _∙_, fun-ext, subst}
-use mathlib.Core.Bool.{Bool, cond, _&&_}
+use mathlib.Core.Bool.{Bool, cond}
 use mathlib.Core.List.{List}
 use mathlib.Core.Logic.{_≢_}
 use Prim.Native.Nat.{ℕ, _<_}
 use lib.Dec.{eqb}
 use lib.ListN.{length, getD}
-use borrow.Author.Tests.{eq-eqb, ne-eqb, eqb-true, leb-false, not-false}
-use Rattle.bits.proofs.Tautology.{and-right}
+use borrow.Author.Tests.{eq-eqb, ne-eqb}
 use Rattle.board.specs.Board.{Board, Regular, lineOf}
 use Rattle.page_model.specs.declared.FrameRecord.{FrameRecord}
 use Rattle.page_model.specs.Record.{stateOf, isHeld}
 use Rattle.page_model.specs.Table as table
 use Rattle.manager.specs.Refusals.{firstRefusal}
-use Rattle.manager.specs.Tables.{recordAt, tabulate, lengthsRight}
+use Rattle.manager.specs.Tables.{recordAt, tabulate}
 use Rattle.manager.proofs.Laws.{is-tabulate}
 use Rattle.cache.specs.Cache as hardware
 use Rattle.cache.specs.Store.{Store, WellFormed, tagAt}
 use Rattle.cache.specs.Tag.{dirtyTag}
 use Rattle.cache.proofs.Laws.Device.{deviceRead-length, deviceRead-word, deviceWrite-kept, deviceWrite-tags, deviceWrite-words}
 use Rattle.cache.proofs.Current.Device.{device-current-other, device-current-same}
-use Rattle.machine.specs.Refusals.{storeLengths, causes}
+use Rattle.machine.specs.Refusals.{causes}
 use Rattle.machine.specs.State.{State, deviceRead, deviceWrite}
 use Rattle.machine.specs.Step.{accept}
+use Rattle.machine.proofs.StepLaws.{deviceRead-ready, deviceWrite-ready}
 use Rattle.consistency.specs.Cacheless.{Cacheless, accepted}
 use Rattle.consistency.proofs.Agrees.{Tagged, Agrees, Untouched, emptied, untouched-tagged, untouched-agrees}
 use Rattle.consistency.proofs.Commit.{commit-invariant}
 use Rattle.consistency.proofs.Invariant.{Invariant, Taken}
 use Rattle.consistency.proofs.Orders.{ordered, statesAfter, ordered-kept, ordered-other, ordered-tagged, ordered-agrees}
-use Rattle.consistency.proofs.Refused.{none-applies}
 use Rattle.consistency.proofs.Table.{device-read-clean, device-write-clean}
 
 module _ (b : Board) (reg : Regular b) (st : State) (m : Cacheless) (inv : Invariant b st m) (f : ℕ) (hf : f < b .frames) where
@@ -139,13 +138,7 @@ module _ (b : Board) (reg : Regular b) (st : State) (m : Cacheless) (inv : Invar
 
 module _ (b : Board) (reg : Regular b) (st : State) (m : Cacheless) (inv : Invariant b st m) (f : ℕ) (buffer : List ℕ) where
   pub device-read-taken : firstRefusal (causes b st (deviceRead f buffer)) ≡ 0 → Taken b st m (deviceRead f buffer)
-  unfolding causes
-  device-read-taken e = read-taken b reg st m inv f (leb-false (b .frames) f (none-applies (causes b st (deviceRead f buffer)) refl e .1 .1 .0)) buffer
+  device-read-taken e = read-taken b reg st m inv f (deviceRead-ready b st f buffer e .0 .1) buffer
 
   pub device-write-taken : firstRefusal (causes b st (deviceWrite f buffer)) ≡ 0 → Taken b st m (deviceWrite f buffer)
-  unfolding causes
-  device-write-taken e =
-      let h = none-applies (causes b st (deviceWrite f buffer)) refl e in
-      let lengths = not-false (lengthsRight b (st .tables) && storeLengths b (st .store) && eqb (length buffer) (b .pageWords)) (h .0) in
-      write-taken b reg st m inv f (leb-false (b .frames) f (h .1 .1 .0)) buffer
-      (eqb-true (length buffer) (b .pageWords) (and-right (lengthsRight b (st .tables) && storeLengths b (st .store)) (eqb (length buffer) (b .pageWords)) lengths))
+  device-write-taken e = let h = deviceWrite-ready b st f buffer e in write-taken b reg st m inv f (h .0 .1) buffer (h .1)

@@ -1,7 +1,6 @@
 -- An accepted eviction loses no word and leaves no line that was not there.
-use mathlib.Core.Path.{_≡_, refl}
+use mathlib.Core.Path.{_≡_}
 use Prim.Native.Nat.{ℕ, _<_}
-use borrow.Author.Tests.{leb-false}
 use Rattle.board.specs.Board.{Board, Regular, lines}
 use Rattle.page_model.specs.Record.{stateOf}
 use Rattle.manager.specs.Refusals.{firstRefusal}
@@ -12,11 +11,11 @@ use Rattle.cache.proofs.Current.Line.{evict-current}
 use Rattle.machine.specs.Refusals.{causes}
 use Rattle.machine.specs.State.{State, state, evict}
 use Rattle.machine.specs.Step.{accept}
+use Rattle.machine.proofs.StepLaws.{evict-ready}
 use Rattle.consistency.specs.Cacheless.{Cacheless, accepted}
 use Rattle.consistency.proofs.Agrees.{emptied, untouched-agrees}
 use Rattle.consistency.proofs.Commit.{refill-sound}
 use Rattle.consistency.proofs.Invariant.{Invariant, Taken}
-use Rattle.consistency.proofs.Refused.{none-applies}
 
 module _ (b : Board) (reg : Regular b) (st : State) (m : Cacheless) (inv : Invariant b st m) (line : ℕ) where
   pub evict-invariant : line < lines b → Invariant b (state (refill b (st .tables)) (hardware.evict b line (st .store))) m
@@ -34,5 +33,5 @@ module _ (b : Board) (reg : Regular b) (st : State) (m : Cacheless) (inv : Invar
       }
 
   pub evict-taken : firstRefusal (causes b st (evict line)) ≡ 0 → Taken b st m (evict line)
-  unfolding causes accept accepted
-  evict-taken e = (tt, evict-invariant (leb-false (lines b) line (none-applies (causes b st (evict line)) refl e .1 .1 .0)))
+  unfolding accept accepted
+  evict-taken e = (tt, evict-invariant (evict-ready b st line e .1))

@@ -1,5 +1,5 @@
 -- Accepted map and unmap: records and store stay, and the list changes as the cacheless memory's frames do.
-use mathlib.Core.Path.{_≡_, refl, sym, ap, ap₂, _∙_, subst⁻¹}
+use mathlib.Core.Path.{_≡_, refl, sym, ap, ap₂, _∙_}
 use mathlib.Core.Bool.{Bool, true, false, cond, _&&_, _||_, true≢false}
 use mathlib.Core.Logic.{_⊎_, inl, inr}
 use mathlib.Core.Option.{Option, none, some}
@@ -8,7 +8,6 @@ use native.Mathlib.Omega.{arith}
 use lib.Dec.{eqb}
 use borrow.Author.Tests.{eqb-true, eqb-false, leb-false, not-false}
 use Rattle.board.specs.Board.{Board, spaces, pages}
-use Rattle.mapping.specs.declared.Found.{Found}
 use Rattle.mapping.specs.declared.Found.the-variants.{Nothing}
 use Rattle.mapping.specs.declared.Mapping.{Mapping}
 use Rattle.mapping.specs.declared.MappingList.{MappingList}
@@ -16,18 +15,20 @@ use Rattle.mapping.specs.Change.{append, remove}
 use Rattle.mapping.specs.Entry.{capacity, readOnly, readWrite}
 use Rattle.mapping.specs.Facts.{InRange, FoundAt}
 use Rattle.mapping.specs.Lookup.{lookup, mappingOf}
-use Rattle.mapping.proofs.Laws.{lookup-at, append-length, append-rules, mappingOf-append-same, mappingOf-append-other, remove-length, remove-rules, mappingOf-remove-same, mappingOf-remove-other}
+use Rattle.mapping.proofs.Laws.{append-length, append-rules, mappingOf-append-same, mappingOf-append-other, remove-length, remove-rules, mappingOf-remove-same, mappingOf-remove-other}
+use Rattle.mapping.proofs.Tests.{or-either}
 use Rattle.manager.specs.Calls.{commitUnmap}
 use Rattle.manager.specs.Refusals.{firstRefusal, isRight, placeOf}
 use Rattle.manager.specs.Tables.{tables, refill}
+use Rattle.manager.proofs.CauseLaws.{none-applies, mapped-found}
 use Rattle.machine.specs.Refusals.{causes}
 use Rattle.machine.specs.State.{State, state, map, unmap}
 use Rattle.machine.specs.Step.{accept}
+use Rattle.machine.proofs.StepLaws.{tables-clear}
 use Rattle.consistency.specs.Cacheless.{Cacheless, cacheless, replaced, accepted}
 use Rattle.consistency.proofs.Commit.{refill-sound}
 use Rattle.consistency.proofs.Invariant.{Sound, frameIn, Invariant, Taken}
-use Rattle.consistency.proofs.Mapped.{found-nothing, found-at}
-use Rattle.consistency.proofs.Refused.{none-applies}
+use Rattle.consistency.proofs.Mapped.{found-nothing}
 
 -- a function with one value replaced, at that place and at another
 replaced-cases : (P : Option ℕ → Type 0) (g : ℕ → ℕ → Option ℕ) (i j : ℕ) (a : Option ℕ) (x y : ℕ) → (i ≡ x → j ≡ y → P a)
@@ -43,12 +44,8 @@ neither : (a z : Bool) → (a || z) ≡ false → (a ≡ false) × (z ≡ false)
 neither true z e = absurd (true≢false e)
 neither false z e = (refl, e)
 
-either : (a z : Bool) → (a || z) ≡ true → (a ≡ true) ⊎ (z ≡ true)
-either true z e = inl refl
-either false z e = inr e
-
 rights-of : (rights : ℕ) → isRight rights ≡ true → (rights ≡ readOnly) ⊎ (rights ≡ readWrite)
-rights-of rights e = go (either (eqb rights readOnly) (eqb rights readWrite) e)
+rights-of rights e = go (or-either (eqb rights readOnly) (eqb rights readWrite) e)
   where
     go : (eqb rights readOnly ≡ true) ⊎ (eqb rights readWrite ≡ true) → (rights ≡ readOnly) ⊎ (rights ≡ readWrite)
     go (inl h) = inl (eqb-true rights readOnly h)
@@ -129,9 +126,5 @@ module _ (b : Board) (st : State) (m : Cacheless) (inv : Invariant b st m) where
   pub unmap-taken : (space page : ℕ) → firstRefusal (causes b st (unmap space page)) ≡ 0 → Taken b st m (unmap space page)
   unfolding causes accept accepted
   unmap-taken space page e =
-      let h = none-applies (causes b st (unmap space page)) refl e .1 .1 in
-      let place = found-at (lookup (st .tables .list) space page) (not-false _ (h .1 .0)) in (
-        tt,
-        subst⁻¹ (λ (x : Found). Invariant b (state (commitUnmap b (st .tables) (placeOf x)) (st .store)) (cacheless (m .word) (replaced (m .frame) space page none))) (place .1)
-            (unmap-kept space page (place .0) (lookup-at (st .tables .list) space page (place .0) (place .1))),
-      )
+      let mapped = not-false _ (none-applies (causes b st (unmap space page)) refl e .1 .1 .1 .0) in
+      (tt, unmap-kept space page (placeOf (lookup (st .tables .list) space page)) (mapped-found b (st .tables) (tables-clear b st (unmap space page) e) space page mapped))

@@ -1,12 +1,12 @@
 -- Accepted reads and writes of the processor: the read finds the cacheless memory's word, and both keep the invariant.
 use mathlib.Core.Path.{_≡_, refl, sym, ap, _∙_, fun-ext, subst, subst⁻¹}
-use mathlib.Core.Bool.{Bool, true, cond, _&&_}
+use mathlib.Core.Bool.{Bool, cond, _&&_}
 use mathlib.Core.Logic.{_≢_}
 use mathlib.Core.Option.{Option, some}
 use Prim.Native.Nat.{ℕ, _<_}
 use native.Mathlib.Decide.{ℕ-discrete}
 use lib.Dec.{eqb}
-use borrow.Author.Tests.{eq-eqb, ne-eqb, leb-false, not-false}
+use borrow.Author.Tests.{eq-eqb, ne-eqb, not-false}
 use Rattle.board.specs.Board.{Board, Regular, colourOf}
 use Rattle.board.proofs.Geometry.{colourOf-lt}
 use Rattle.page_model.specs.declared.FrameRecord.{FrameRecord}
@@ -14,7 +14,7 @@ use Rattle.page_model.specs.Record.{stateOf}
 use Rattle.page_model.specs.Table as table
 use Rattle.page_model.specs.Table.{Step}
 use Rattle.manager.specs.Calls.{changeOf, commitChange}
-use Rattle.manager.specs.Refusals.{firstRefusal, isMapped}
+use Rattle.manager.specs.Refusals.{firstRefusal}
 use Rattle.manager.specs.Tables.{recordAt}
 use Rattle.cache.specs.Cache as hardware
 use Rattle.cache.specs.Current.{written}
@@ -23,15 +23,15 @@ use Rattle.cache.proofs.Laws.Access.{access-kept, writeWord-kept}
 use Rattle.machine.specs.Refusals.{causes}
 use Rattle.machine.specs.State.{State, state, read, write}
 use Rattle.machine.specs.Step.{accept, frameOf}
+use Rattle.machine.proofs.StepLaws.{clear, read-ready, write-ready}
 use Rattle.consistency.specs.Cacheless.{Cacheless, cacheless, replaced, stored, accepted}
 use Rattle.consistency.specs.Demand3.{wordOf}
 use Rattle.consistency.proofs.Access.{access-words, access-own, access-other}
 use Rattle.consistency.proofs.Agrees.{Agrees}
 use Rattle.consistency.proofs.Commit.{commit-invariant}
 use Rattle.consistency.proofs.Invariant.{Invariant, Taken}
-use Rattle.consistency.proofs.Mapped.{mapped-frame-lt, mapped-frame}
+use Rattle.consistency.proofs.Mapped.{mapped-frame}
 use Rattle.consistency.proofs.Orders.{ordered, statesAfter, ordered-kept, ordered-other, ordered-agrees}
-use Rattle.consistency.proofs.Refused.{none-applies}
 use Rattle.consistency.proofs.Table.{Spares, read-held, read-alone, write-dirty, write-alone}
 use Rattle.consistency.proofs.Write.{write-own, write-other}
 
@@ -127,10 +127,10 @@ module _ (b : Board) (reg : Regular b) (st : State) (m : Cacheless) (inv : Invar
   pub read-taken : firstRefusal (causes b st (read space page offset)) ≡ 0 → Taken b st m (read space page offset)
   unfolding causes accept accepted now
   read-taken e =
-      let h = none-applies (causes b st (read space page offset)) refl e .1 .1 in
-      let mapped : isMapped (st .tables .list) space page ≡ true = not-false _ (h .1 .1 .0) in
-      let hf = mapped-frame-lt b st m inv space page mapped in
-      let ho = leb-false (b .pageWords) offset (h .1 .0) in
+      let mapped = not-false _ (clear b st (read space page offset) e .1 .1 .1 .1 .0) in
+      let ready = read-ready b st space page offset e in
+      let hf = ready .0 .1 in
+      let ho = ready .1 in
       let hc = colourOf-lt b reg page in (
         ap {B = Option ℕ} some (read-word b reg st m inv (frameOf st space page) (colourOf b page) offset hf hc ho)
             ∙ ap (λ (x : Option ℕ). wordOf m x offset) (sym (mapped-frame b st m inv space page mapped)),
@@ -140,10 +140,10 @@ module _ (b : Board) (reg : Regular b) (st : State) (m : Cacheless) (inv : Invar
   pub write-taken : (word : ℕ) → firstRefusal (causes b st (write space page offset word)) ≡ 0 → Taken b st m (write space page offset word)
   unfolding causes accept accepted now put
   write-taken word e =
-      let h = none-applies (causes b st (write space page offset word)) refl e .1 .1 in
-      let mapped : isMapped (st .tables .list) space page ≡ true = not-false _ (h .1 .1 .0) in
-      let hf = mapped-frame-lt b st m inv space page mapped in
-      let ho = leb-false (b .pageWords) offset (h .1 .0) in
+      let mapped = not-false _ (clear b st (write space page offset word) e .1 .1 .1 .1 .0) in
+      let ready = write-ready b st space page offset word e in
+      let hf = ready .0 .1 in
+      let ho = ready .1 in
       let hc = colourOf-lt b reg page in (
         tt,
         subst⁻¹ (λ (x : Option ℕ). Invariant b (accept b st (write space page offset word) .after) (cacheless (stored (m .word) x offset word) (m .frame)))

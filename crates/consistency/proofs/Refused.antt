@@ -1,48 +1,19 @@
--- A call refused or accepted: what a refusal changes, and what its absence tells.
-use mathlib.Core.Path.{_≡_, refl, sym, ap, _∙_}
-use mathlib.Core.Bool.{Bool, true, false, cond, _&&_, false≢true}
+-- A call, refused or accepted.
+use mathlib.Core.Path.{_≡_, refl, ap, _∙_}
+use mathlib.Core.Bool.{Bool, false, cond}
 use mathlib.Core.List.{List, [], _∷_}
 use mathlib.Core.Option.{none}
 use Prim.Native.Nat.{ℕ, zero, suc}
-use native.Mathlib.Omega.{arith}
-use Rattle.bits.proofs.Tautology.{and-left, and-right}
 use Rattle.board.specs.Board.{Board}
 use Rattle.manager.specs.Answers.{refused}
 use Rattle.manager.specs.Refusals.{Cause, firstRefusal}
+use Rattle.manager.proofs.CauseLaws.{NoneApplies}
 use Rattle.machine.specs.Refusals.{causes}
 use Rattle.machine.specs.State.{State, Call, map, unmap, read, write, deviceRead, deviceWrite, evict, Result, lentBuffer}
 use Rattle.machine.specs.Step.{answer, result, accept, step}
 use Rattle.consistency.specs.Demand3.{isRefused}
 
--- ---- the causes
-
--- every cause has a number other than 0
-abbrev pub positive : ℕ → Bool
-positive zero = false
-positive (suc n) = true
-
-abbrev pub numbered : List Cause → Bool
-numbered [] = true
-numbered (c ∷ cs) = positive (c .number) && numbered cs
-
--- none applies
-abbrev pub NoneApplies : List Cause → Type 0
-NoneApplies [] = Unit {0}
-NoneApplies (c ∷ cs) = (c .applies ≡ false) × NoneApplies cs
-
-pub none-applies : (cs : List Cause) → numbered cs ≡ true → firstRefusal cs ≡ 0 → NoneApplies cs
-unfolding firstRefusal
-none-applies [] p e = tt
-none-applies (c ∷ cs) p e = go (c .applies) refl (none-applies cs (and-right (positive (c .number)) (numbered cs) p))
-  where
-    number : (n : ℕ) → positive n ≡ true → n ≡ 0 → ⊥
-    number zero q z = false≢true q
-    number (suc n) q z = omega arith
-
-    go : (t : Bool) → c .applies ≡ t → (firstRefusal cs ≡ 0 → NoneApplies cs) → NoneApplies (c ∷ cs)
-    go false a ih = (a, ih (ap (λ (t : Bool). cond t (c .number) (firstRefusal cs)) (sym a) ∙ e))
-    go true a ih = absurd (number (c .number) (and-left (positive (c .number)) (numbered cs) p) (ap (λ (t : Bool). cond t (c .number) (firstRefusal cs)) (sym a) ∙ e))
-
+-- where none applies there is no refusal
 pub none-refused : (cs : List Cause) → NoneApplies cs → firstRefusal cs ≡ 0
 unfolding firstRefusal
 none-refused [] h = refl
@@ -61,11 +32,6 @@ module _ (b : Board) (st : State) (call : Call) where
           → P (elim k as (λ _. Result) [ zero ↦ accept b st call | suc n ↦ result (answer (refused (suc n)) none (lentBuffer call)) st ])
       go zero e = taken e
       go (suc n) e = left n
-
-  pub step-accepted : firstRefusal (causes b st call) ≡ 0 → step b st call ≡ accept b st call
-  unfolding step
-  step-accepted e =
-      ap (λ (k : ℕ). elim k as (λ _. Result) [ zero ↦ accept b st call | suc n ↦ result (answer (refused (suc n)) none (lentBuffer call)) st ]) e
 
 pub accept-accepted : (b : Board) (st : State) (call : Call) → isRefused (accept b st call .answer) ≡ false
 unfolding accept

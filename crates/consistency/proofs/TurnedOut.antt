@@ -1,12 +1,12 @@
 -- Every line turned out: none of the evictions is refused, and memory then holds the cacheless memory's words.
-use mathlib.Core.Path.{_≡_, refl, ap, ap₂, _∙_, subst⁻¹}
+use mathlib.Core.Path.{_≡_, refl, sym, ap, ap₂, _∙_, subst⁻¹}
 use mathlib.Core.Bool.{true, false, not, _&&_}
 use mathlib.Core.List.{List, [], _∷_}
 use mathlib.Core.Logic.{_⊎_, inl, inr}
 use Prim.Native.Nat.{ℕ, _<_}
 use native.Mathlib.Omega.{arith}
 use native.Mathlib.Decide.{ℕ-discrete}
-use borrow.Author.Tests.{eq-eqb, lt-leb}
+use borrow.Author.Tests.{lt-leb}
 use Rattle.bits.proofs.Mask.{all-of}
 use Rattle.board.specs.Board.{Board, Regular, lines, lineOf}
 use Rattle.board.proofs.Geometry.{lineOf-lt}
@@ -20,11 +20,13 @@ use Rattle.cache.proofs.Laws.Evict.{evict-tag-same, evict-tag-other}
 use Rattle.machine.specs.Refusals.{storeLengths, causes}
 use Rattle.machine.specs.State.{State, evict, Result}
 use Rattle.machine.specs.Step.{accept, step}
+use Rattle.machine.proofs.StepLaws.{step-accepted}
+use Rattle.machine.proofs.StoreLaws as store
 use Rattle.consistency.specs.Cacheless.{Cacheless}
 use Rattle.consistency.specs.Demand3.{isRefused, stateAfter, evictions, Occurs, NoneRefused, MemoryIs}
 use Rattle.consistency.proofs.Evict.{evict-invariant}
 use Rattle.consistency.proofs.Invariant.{Sound, Invariant}
-use Rattle.consistency.proofs.Refused.{none-refused, step-accepted}
+use Rattle.consistency.proofs.Refused.{none-refused}
 
 -- ---- what the invariant says to the tests
 
@@ -39,8 +41,7 @@ sound-rules : (b : Board) (t : Tables) → Sound b t → rulesKept b t ≡ true
 sound-rules b t s = rules-kept b t (rules-keepsRules b (t .list) (s .list-rules)) (sound-records b t s)
 
 store-lengths : (b : Board) (s : Store) → WellFormed b s → storeLengths b s ≡ true
-unfolding storeLengths
-store-lengths b s w = ap₂ _&&_ (ap₂ _&&_ (eq-eqb _ _ (w .memory-length)) (eq-eqb _ _ (w .words-length))) (eq-eqb _ _ (w .tags-length))
+store-lengths b s w = store.lengths-right b s (w .memory-length) (w .words-length) (w .tags-length)
 
 module _ (b : Board) (reg : Regular b) (m : Cacheless) where
   module _ (st : State) (inv : Invariant b st m) (n : ℕ) (h : n < lines b) where
@@ -53,7 +54,7 @@ module _ (b : Board) (reg : Regular b) (m : Cacheless) where
         )
 
     evict-step : step b st (evict n) ≡ accept b st (evict n)
-    evict-step = step-accepted b st (evict n) evict-clear
+    evict-step = sym (step-accepted b st (evict n) evict-clear)
 
     -- it is not refused
     evict-not-refused : isRefused (step b st (evict n) .answer) ≡ false
