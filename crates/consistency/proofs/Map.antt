@@ -1,34 +1,34 @@
 -- Accepted map and unmap: records and store stay, and the list changes as the cacheless memory's frames do.
 use mathlib.Core.Path.{_≡_, refl, sym, ap, ap₂, _∙_}
-use mathlib.Core.Bool.{Bool, true, false, cond, _&&_, _||_, true≢false}
-use mathlib.Core.Logic.{_⊎_, inl, inr}
+use mathlib.Core.Bool.{Bool, true, false, not, cond, _&&_}
 use mathlib.Core.Option.{Option, none, some}
 use Prim.Native.Nat.{ℕ, _<_}
-use native.Mathlib.Omega.{arith}
 use lib.Dec.{eqb}
-use borrow.Author.Tests.{eqb-true, eqb-false, leb-false, not-false}
-use Rattle.board.specs.Board.{Board, spaces, pages}
+use lib.ListN.{length}
+use borrow.Author.Tests.{eqb-true, eqb-false, not-false}
+use Rattle.bits.proofs.Tautology.{and-left}
+use Rattle.board.specs.Board.{Board}
 use Rattle.mapping.specs.declared.Found.the-variants.{Nothing}
 use Rattle.mapping.specs.declared.Mapping.{Mapping}
 use Rattle.mapping.specs.declared.MappingList.{MappingList}
 use Rattle.mapping.specs.Change.{append, remove}
-use Rattle.mapping.specs.Entry.{capacity, readOnly, readWrite}
-use Rattle.mapping.specs.Facts.{InRange, FoundAt}
+use Rattle.mapping.specs.Entry.{capacity}
+use Rattle.mapping.specs.Facts.{InRange, Rules, FoundAt}
 use Rattle.mapping.specs.Lookup.{lookup, mappingOf}
 use Rattle.mapping.proofs.Laws.{append-length, append-rules, mappingOf-append-same, mappingOf-append-other, remove-length, remove-rules, mappingOf-remove-same, mappingOf-remove-other}
-use Rattle.mapping.proofs.Tests.{or-either}
 use Rattle.manager.specs.Calls.{commitUnmap}
-use Rattle.manager.specs.Refusals.{firstRefusal, isRight, placeOf}
-use Rattle.manager.specs.Tables.{tables, refill}
+use Rattle.manager.specs.Refusals.{firstRefusal, mapCauses, placeOf}
+use Rattle.manager.specs.Tables.{tables, lengthsRight, refill}
+use Rattle.manager.proofs.AcceptedLaws.{map-accepted}
 use Rattle.manager.proofs.CauseLaws.{none-applies, mapped-found}
-use Rattle.machine.specs.Refusals.{causes}
+use Rattle.machine.specs.Refusals.{storeLengths, causes}
 use Rattle.machine.specs.State.{State, state, map, unmap}
 use Rattle.machine.specs.Step.{accept}
-use Rattle.machine.proofs.StepLaws.{tables-clear}
+use Rattle.machine.proofs.StepLaws.{clear, lengths-clear, tables-clear}
 use Rattle.consistency.specs.Cacheless.{Cacheless, cacheless, replaced, accepted}
 use Rattle.consistency.proofs.Commit.{refill-sound}
 use Rattle.consistency.proofs.Invariant.{Sound, frameIn, Invariant, Taken}
-use Rattle.consistency.proofs.Mapped.{found-nothing}
+use Rattle.consistency.proofs.Refused.{none-refused}
 
 -- a function with one value replaced, at that place and at another
 replaced-cases : (P : Option ℕ → Type 0) (g : ℕ → ℕ → Option ℕ) (i j : ℕ) (a : Option ℕ) (x y : ℕ) → (i ≡ x → j ≡ y → P a)
@@ -40,18 +40,18 @@ replaced-cases P g i j a x y same other = go (eqb i x) (eqb j y) refl refl
     go true false p q = other (λ _ e. eqb-false j y q e)
     go false t p q = other (λ e _. eqb-false i x p e)
 
-neither : (a z : Bool) → (a || z) ≡ false → (a ≡ false) × (z ≡ false)
-neither true z e = absurd (true≢false e)
-neither false z e = (refl, e)
-
-rights-of : (rights : ℕ) → isRight rights ≡ true → (rights ≡ readOnly) ⊎ (rights ≡ readWrite)
-rights-of rights e = go (or-either (eqb rights readOnly) (eqb rights readWrite) e)
-  where
-    go : (eqb rights readOnly ≡ true) ⊎ (eqb rights readWrite ≡ true) → (rights ≡ readOnly) ⊎ (rights ≡ readWrite)
-    go (inl h) = inl (eqb-true rights readOnly h)
-    go (inr h) = inr (eqb-true rights readWrite h)
-
 module _ (b : Board) (st : State) (m : Cacheless) (inv : Invariant b st m) where
+  -- another list that has its length and keeps the rules
+  list-sound : (new : MappingList) → length (new .items) ≡ capacity → Rules b new → Sound b (tables new (st .tables .records) (st .tables .protections))
+  list-sound new long rules =
+      record {
+        items-length = long;
+        records-length = inv .sound .records-length;
+        protections-length = inv .sound .protections-length;
+        list-rules = rules;
+        record-rules = inv .sound .record-rules;
+      }
+
   -- another list, with the frames that the cacheless memory then has
   relisted : (new : MappingList) (frame : ℕ → ℕ → Option ℕ) → Sound b (tables new (st .tables .records) (st .tables .protections))
       → ((x y : ℕ) → frame x y ≡ frameIn (mappingOf new x y))
@@ -65,13 +65,8 @@ module _ (b : Board) (st : State) (m : Cacheless) (inv : Invariant b st m) where
   module _ (mp : Mapping) (range : InRange b mp) (new : lookup (st .tables .list) (mp .space) (mp .page) ≡ Nothing) (room : st .tables .list .count < capacity) where
     map-sound : Sound b (tables (append (st .tables .list) mp) (st .tables .records) (st .tables .protections))
     map-sound =
-        record {
-          items-length = append-length (st .tables .list) mp ∙ inv .sound .items-length;
-          records-length = inv .sound .records-length;
-          protections-length = inv .sound .protections-length;
-          list-rules = append-rules (st .tables .list) mp (inv .sound .items-length) room b (inv .sound .list-rules) range new;
-          record-rules = inv .sound .record-rules;
-        }
+        list-sound (append (st .tables .list) mp) (append-length (st .tables .list) mp ∙ inv .sound .items-length)
+        (append-rules (st .tables .list) mp (inv .sound .items-length) room b (inv .sound .list-rules) range new)
 
     map-listed : (x y : ℕ) → replaced (m .frame) (mp .space) (mp .page) (some (mp .frame)) x y ≡ frameIn (mappingOf (append (st .tables .list) mp) x y)
     map-listed x y =
@@ -84,35 +79,21 @@ module _ (b : Board) (st : State) (m : Cacheless) (inv : Invariant b st m) where
     map-kept = relisted (append (st .tables .list) mp) (replaced (m .frame) (mp .space) (mp .page) (some (mp .frame))) map-sound map-listed
 
   pub map-taken : (space page frame rights : ℕ) → firstRefusal (causes b st (map space page frame rights)) ≡ 0 → Taken b st m (map space page frame rights)
-  unfolding causes accept accepted
+  unfolding causes mapCauses accept accepted
   map-taken space page frame rights e =
-      let h = none-applies (causes b st (map space page frame rights)) refl e .1 .1 in
-      let in-space = neither _ _ (h .0) in
-      let full = eqb-false (st .tables .list .count) capacity (h .1 .1 .1 .1 .0) in
-      let most = inv .sound .list-rules .count-le in (
-        tt,
-        map-kept (record { space = space; page = page; frame = frame; rights = rights })
-            (record {
-              space-lt = leb-false spaces space (in-space .0);
-              page-lt = leb-false pages page (in-space .1);
-              frame-lt = leb-false (b .frames) frame (h .1 .0);
-              rights-of = rights-of rights (not-false (isRight rights) (h .1 .1 .0));
-            })
-            (found-nothing (lookup (st .tables .list) space page) (h .1 .1 .1 .0)) (omega arith),
-      )
+      let call = map space page frame rights in
+      let mp : Mapping = record { space = space; page = page; frame = frame; rights = rights } in
+      let lengths = and-left (lengthsRight b (st .tables)) (storeLengths b (st .store)) (and-left _ true (lengths-clear b st call e)) in
+      let a = map-accepted b (st .tables) mp (none-refused (mapCauses b (st .tables) space page frame rights) (ap not lengths, (ap not (tables-clear b st call e), clear b st call e .1 .1))) in
+      (tt, map-kept mp (a .1) (a .2) (a .3))
 
   -- ---- unmap
 
   module _ (space page i : ℕ) (at : FoundAt (st .tables .list) space page i) where
     unmap-sound : Sound b (tables (remove (st .tables .list) i) (st .tables .records) (st .tables .protections))
     unmap-sound =
-        record {
-          items-length = remove-length (st .tables .list) i (at .listed) (inv .sound .list-rules .count-le) (at .inside) ∙ inv .sound .items-length;
-          records-length = inv .sound .records-length;
-          protections-length = inv .sound .protections-length;
-          list-rules = remove-rules b (st .tables .list) i (inv .sound .list-rules) (at .listed);
-          record-rules = inv .sound .record-rules;
-        }
+        list-sound (remove (st .tables .list) i) (remove-length (st .tables .list) i (at .listed) (inv .sound .list-rules .count-le) (at .inside) ∙ inv .sound .items-length)
+        (remove-rules b (st .tables .list) i (inv .sound .list-rules) (at .listed))
 
     unmap-listed : (x y : ℕ) → replaced (m .frame) space page none x y ≡ frameIn (mappingOf (remove (st .tables .list) i) x y)
     unmap-listed x y =

@@ -1,6 +1,6 @@
 -- A page of a space that is mapped, and the frame that the cacheless memory has for it.
 use mathlib.Core.Path.{_≡_, refl, ap, _∙_}
-use mathlib.Core.Bool.{true, false, true≢false, false≢true}
+use mathlib.Core.Bool.{true, false≢true}
 use mathlib.Core.Option.{some}
 use Prim.Native.Nat.{ℕ}
 use Rattle.board.specs.Board.{Board}
@@ -14,10 +14,6 @@ use Rattle.machine.specs.State.{State}
 use Rattle.machine.specs.Step.{frameOf}
 use Rattle.consistency.specs.Cacheless.{Cacheless}
 use Rattle.consistency.proofs.Invariant.{frameIn, Invariant}
-
-pub found-nothing : (x : Found) → found x ≡ false → x ≡ Nothing
-found-nothing (At i) e = absurd (true≢false e)
-found-nothing Nothing e = refl
 
 -- the frame of a page that is mapped is the cacheless memory's
 pub mapped-frame : (b : Board) (st : State) (m : Cacheless) → Invariant b st m → (space page : ℕ) → isMapped (st .tables .list) space page ≡ true
