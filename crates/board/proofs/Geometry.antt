@@ -1,6 +1,6 @@
 -- The laws of the board's geometry, for any board whose line divides its page.
 use mathlib.Core.Path.{_≡_, refl, sym, ap, ap₂, _∙_, subst, subst⁻¹}
-use Prim.Native.Nat.{ℕ, zero, suc, _+_, _-_, _*_, _/_, _%_, _≤_, _<_}
+use Prim.Native.Nat.{ℕ, _+_, _-_, _*_, _/_, _%_, _≤_, _<_}
 use native.Mathlib.Omega.{arith}
 use native.Mathlib.Nat.{mod-lt, mul-assoc, mul-le-mul-right, add-mul, add-assoc, div-add-mod', div-lt-iff-lt-mul, suc-mul}
 use lib.Arith.{digits-lt, digits-div, digits-mod}
