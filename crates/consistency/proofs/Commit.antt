@@ -1,11 +1,12 @@
 -- The invariant after a change of the tables: a step of a frame's record, or another list.
-use mathlib.Core.Path.{_≡_, refl, ap, _∙_, subst⁻¹}
+use mathlib.Core.Path.{_≡_, refl, _∙_, subst⁻¹}
 use mathlib.Core.Bool.{true}
 use mathlib.Core.Logic.{_≢_}
 use mathlib.Core.List.{List}
 use Prim.Native.Nat.{ℕ, _<_}
 use native.Mathlib.Omega.{arith}
 use native.Mathlib.Decide.{ℕ-discrete}
+use Rattle.bits.proofs.Mask.{all-at, all-of}
 use Rattle.board.specs.Board.{Board}
 use Rattle.page_model.specs.declared.FrameRecord.{FrameRecord}
 use Rattle.page_model.specs.Record.{stateOf, keepsRules}
@@ -14,9 +15,9 @@ use Rattle.page_model.specs.Table.{ColourState, Step}
 use Rattle.page_model.proofs.Cells.{each-state}
 use Rattle.page_model.proofs.Theorems.{step-keeps-rules, state-after}
 use Rattle.manager.specs.Calls.{changeOf, commitChange}
-use Rattle.manager.specs.Tables.{Tables, tables, recordAt, putRecord, refill}
+use Rattle.manager.specs.Tables.{Tables, tables, recordAt, putRecord, recordsKeepRules, refill}
 use Rattle.manager.proofs.Laws.{length-tabulate}
-use Rattle.manager.proofs.RecordLaws.{length-putRecord, recordAt-putRecord-same, recordAt-putRecord-other}
+use Rattle.manager.proofs.RecordLaws.{length-putRecord, recordAt-putRecord-same, recordAt-putRecord-other, putRecord-rules}
 use Rattle.cache.specs.Store.{Store, WellFormed}
 use Rattle.machine.specs.State.{State, state}
 use Rattle.consistency.specs.Cacheless.{Cacheless}
@@ -58,20 +59,15 @@ module _ (b : Board) (st : State) (m : Cacheless) (inv : Invariant b st m) (f : 
   unfolding put
   at-other g ne = recordAt-putRecord-other (st .tables .records) f next g ne
 
-  rules-after : (g : ℕ) → g < b .frames → Dec (g ≡ f) → keepsRules (b .colours) (recordAt put g) ≡ true
-  unfolding next
-  rules-after g hg (yes e) = ap (λ (x : ℕ). keepsRules (b .colours) (recordAt put x)) e ∙ ap (keepsRules (b .colours)) at-same ∙ step-keeps-rules (b .colours) step (recordAt (st .tables .records) f) frame-rules
-  rules-after g hg (no ne) = ap (keepsRules (b .colours)) (at-other g ne) ∙ inv .sound .record-rules g hg
-
   commit-sound : Sound b (commitChange b (st .tables) f (changeOf b (st .tables) f step .next))
-  unfolding put next
+  unfolding put next recordsKeepRules
   commit-sound =
       refill-sound b (tables (st .tables .list) put (st .tables .protections)) (record {
         items-length = inv .sound .items-length;
         records-length = length-putRecord (st .tables .records) f next ∙ inv .sound .records-length;
         protections-length = inv .sound .protections-length;
         list-rules = inv .sound .list-rules;
-        record-rules = λ g hg. rules-after g hg (ℕ-discrete g f);
+        record-rules = all-at (b .frames) _ (putRecord-rules b (st .tables .records) f next (inv .sound .records-length) hf (all-of _ _ (inv .sound .record-rules)) (step-keeps-rules (b .colours) step _ frame-rules));
       })
 
   -- the invariant after a step of f's record, if f's states after the step and the other frames' as they were agree with the store

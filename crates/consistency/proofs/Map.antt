@@ -20,7 +20,7 @@ use Rattle.manager.specs.Calls.{commitUnmap}
 use Rattle.manager.specs.Refusals.{firstRefusal, mapCauses, placeOf}
 use Rattle.manager.specs.Tables.{tables, lengthsRight, refill}
 use Rattle.manager.proofs.AcceptedLaws.{map-accepted}
-use Rattle.manager.proofs.CauseLaws.{none-applies, mapped-found}
+use Rattle.manager.proofs.CauseLaws.{mapped-found}
 use Rattle.machine.specs.Refusals.{storeLengths, causes}
 use Rattle.machine.specs.State.{State, state, map, unmap}
 use Rattle.machine.specs.Step.{accept}
@@ -107,5 +107,5 @@ module _ (b : Board) (st : State) (m : Cacheless) (inv : Invariant b st m) where
   pub unmap-taken : (space page : ℕ) → firstRefusal (causes b st (unmap space page)) ≡ 0 → Taken b st m (unmap space page)
   unfolding causes accept accepted
   unmap-taken space page e =
-      let mapped = not-false _ (none-applies (causes b st (unmap space page)) refl e .1 .1 .1 .0) in
+      let mapped = not-false _ (clear b st (unmap space page) e .1 .1 .1 .0) in
       (tt, unmap-kept space page (placeOf (lookup (st .tables .list) space page)) (mapped-found b (st .tables) (tables-clear b st (unmap space page) e) space page mapped))
