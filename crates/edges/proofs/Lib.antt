@@ -1,0 +1,2 @@
+-- The theorem of the edges.
+pub mod Theorem

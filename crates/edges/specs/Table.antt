@@ -1,0 +1,182 @@
+-- Document 01, "At the edges" and the sheet of "The run sheet": each row is a case and what it must give, and every row holds.
+use mathlib.Core.List.{List, [], _∷_, _++_}
+use mathlib.Core.Option.{Option, none, some}
+use mathlib.Core.Path.{_≡_}
+use Prim.Native.Nat.{ℕ, zero, suc, _+_, _-_, _*_}
+use lib.ListN.{replicate, set}
+use Rattle.bits.specs.Mask.{digit}
+use Rattle.board.specs.Board.{board01, lineOf}
+use Rattle.mapping.specs.declared.Mapping.{Mapping}
+use Rattle.mapping.specs.declared.MappingList.{MappingList}
+use Rattle.mapping.specs.Entry.{capacity, zeroMapping}
+use Rattle.manager.specs.Answers.{FrameOperation, refused, flush, purge}
+use Rattle.manager.specs.Answers as order
+use Rattle.manager.specs.Tables.{tables, tabulate}
+use Rattle.cache.specs.Store.{store}
+use Rattle.cache.specs.Tag.{frameOf, isDirty}
+use Rattle.machine.specs.State.{State, state, Call, map, unmap, read, write, deviceRead, deviceWrite, evict, Answer, Result}
+use Rattle.machine.specs.Step.{answer, result, step}
+use Rattle.run_sheet.specs.Run.{start, sheetText}
+
+-- ---- rows
+
+-- what a case gives: a text, the answers of calls, a call's answer with the state after it, or numbers
+pub data Seen : Type 0 where
+  text : List ℕ → Seen
+  answers : List Answer → Seen
+  outcome : Result → Seen
+  numbers : List ℕ → Seen
+
+pub record Row : Type 0 where
+  pub given : Seen
+  pub must : Seen
+
+infix 20 _gives_
+abbrev pub _gives_ : Seen → Seen → Row
+given gives must = record { given = given; must = must }
+
+abbrev pub EveryRowHolds : List Row → Type 0
+EveryRowHolds [] = Unit {0}
+EveryRowHolds (row ∷ rows) = (row .given ≡ row .must) × EveryRowHolds rows
+
+-- ---- calls
+
+-- the state after calls
+unfoldable pub after : State → List Call → State
+unfolding step
+after st [] = st
+after st (call ∷ calls) = after (step board01 st call .after) calls
+
+-- the answers of calls, one after the other, the state of each from the one before it
+unfoldable pub askFrom : Result → List Call → List Answer
+unfolding step
+askFrom got [] = got .answer ∷ []
+askFrom got (call ∷ calls) = got .answer ∷ askFrom (step board01 (got .after) call) calls
+
+unfoldable pub ask : State → List Call → List Answer
+unfolding askFrom
+ask st [] = []
+ask st (call ∷ calls) = askFrom (step board01 st call) calls
+
+-- ---- answers
+
+abbrev pub refuses : ℕ → Answer
+refuses n = answer (refused n) none []
+
+-- accepted, with two orders and a word
+abbrev pub accepts : FrameOperation → FrameOperation → Option ℕ → Answer
+accepts first second word = answer (record { number = 0; first = first; second = second }) word []
+
+-- accepted, with no order and no word
+abbrev pub done : Answer
+done = accepts order.none order.none none
+
+-- accepted, with no order and a word
+abbrev pub finds : ℕ → Answer
+finds word = accepts order.none order.none (some word)
+
+-- ---- states
+
+abbrev pub fresh : State
+fresh = start board01
+
+-- the state with other mappings, records or cache
+abbrev pub withList : MappingList → State → State
+withList l st = state (tables l (st .tables .records) (st .tables .protections)) (st .store)
+
+abbrev pub withRecords : List ℕ → State → State
+withRecords records st = state (tables (st .tables .list) records (st .tables .protections)) (st .store)
+
+abbrev pub withCache : List ℕ → List ℕ → State → State
+withCache words tags st = state (st .tables) (store (st .store .memory) words tags)
+
+-- n mappings: each page from this one on of space 0 to frame 0, to read
+unfoldable pub pagesFrom : ℕ → ℕ → List Mapping
+pagesFrom page zero = []
+pagesFrom page (suc n) = record { space = 0; page = page; frame = 0; rights = 1 } ∷ pagesFrom (suc page) n
+
+-- the start with pages 0 to n - 1 of space 0 mapped
+abbrev pub listing : ℕ → State
+listing n = withList (record { items = pagesFrom 0 n ++ replicate (capacity - n) zeroMapping; count = n }) fresh
+
+-- the first line of the cache with this tag, and word 77 in it
+abbrev pub tagged : ℕ → State
+tagged tag = withCache (set (fresh .store .words) 0 77) (set (fresh .store .tags) 0 tag) fresh
+
+-- a page mapped, and a word of it read
+abbrev pub readOnce : State
+readOnce = after fresh (map 0 2 5 1 ∷ read 0 2 3 ∷ [])
+
+-- ---- document 01's sheet
+
+abbrev pub exampleSheet : List ℕ
+exampleSheet =
+    2 ∷ 0
+    ∷ 0 ∷ 0 ∷ 0 ∷ 3 ∷ 2
+    ∷ 1 ∷ 9 ∷ 0 ∷ 3 ∷ 1
+    ∷ 6 ∷ 0
+    ∷ 1 ∷ 1 ∷ 9 ∷ 0 ∷ 0 ∷ 0 ∷ 0 ∷ 0 ∷ 0
+    ∷ 2 ∷ 0 ∷ 0 ∷ 0 ∷ 0 ∷ 17 ∷ 0 ∷ 0 ∷ 0
+    ∷ 1 ∷ 1 ∷ 9 ∷ 0 ∷ 0 ∷ 0 ∷ 0 ∷ 0 ∷ 0
+    ∷ 4 ∷ 3 ∷ 0 ∷ 0 ∷ 0 ∷ 40 ∷ 0 ∷ 0 ∷ 0
+    ∷ 1 ∷ 1 ∷ 9 ∷ 0 ∷ 2 ∷ 0 ∷ 0 ∷ 0 ∷ 0
+    ∷ 2 ∷ 1 ∷ 9 ∷ 0 ∷ 0 ∷ 5 ∷ 0 ∷ 0 ∷ 0
+    ∷ []
+
+abbrev pub exampleText : List ℕ
+exampleText =
+    -- m0 0
+    109 ∷ 48 ∷ 32 ∷ 48 ∷ 10
+    -- m1 0
+    ∷ 109 ∷ 49 ∷ 32 ∷ 48 ∷ 10
+    -- 0 0 - - 0
+    ∷ 48 ∷ 32 ∷ 48 ∷ 32 ∷ 45 ∷ 32 ∷ 45 ∷ 32 ∷ 48 ∷ 10
+    -- 1 0 - - -
+    ∷ 49 ∷ 32 ∷ 48 ∷ 32 ∷ 45 ∷ 32 ∷ 45 ∷ 32 ∷ 45 ∷ 10
+    -- 2 0 F3.0 P3.1 17
+    ∷ 50 ∷ 32 ∷ 48 ∷ 32 ∷ 70 ∷ 51 ∷ 46 ∷ 48 ∷ 32 ∷ 80 ∷ 51 ∷ 46 ∷ 49 ∷ 32 ∷ 49 ∷ 55 ∷ 10
+    -- 3 0 - - -
+    ∷ 51 ∷ 32 ∷ 48 ∷ 32 ∷ 45 ∷ 32 ∷ 45 ∷ 32 ∷ 45 ∷ 10
+    -- 4 0 P3.1 - 42
+    ∷ 52 ∷ 32 ∷ 48 ∷ 32 ∷ 80 ∷ 51 ∷ 46 ∷ 49 ∷ 32 ∷ 45 ∷ 32 ∷ 52 ∷ 50 ∷ 10
+    -- 5 10 - - -
+    ∷ 53 ∷ 32 ∷ 49 ∷ 48 ∷ 32 ∷ 45 ∷ 32 ∷ 45 ∷ 32 ∷ 45 ∷ 10
+    -- end 1 2
+    ∷ 101 ∷ 110 ∷ 100 ∷ 32 ∷ 49 ∷ 32 ∷ 50 ∷ 10
+    ∷ []
+
+-- ---- the table
+
+abbrev pub table : List Row
+table =
+    -- the sheet of "The run sheet"
+    (text (sheetText board01 exampleSheet) gives text exampleText)
+    -- 1. page 1023 is accepted, 1024 gets 3
+    ∷ (answers (ask fresh (map 0 1023 0 1 ∷ map 0 1024 0 1 ∷ [])) gives answers (done ∷ refuses 3 ∷ []))
+    -- 2. frame 63 is accepted, 64 gets 4
+    ∷ (answers (ask fresh (map 0 0 63 1 ∷ map 0 1 64 1 ∷ [])) gives answers (done ∷ refuses 4 ∷ []))
+    -- 3. offset 63 lies in line 8c + 7; 64 gets 6
+    ∷ (numbers (tabulate 8 (λ c. lineOf board01 c 63)) gives numbers (tabulate 8 (λ c. 8 * c + 7)))
+    ∷ (answers (ask fresh (map 0 0 0 1 ∷ read 0 0 63 ∷ read 0 0 64 ∷ [])) gives answers (done ∷ finds 0 ∷ refuses 6 ∷ []))
+    -- 4. a map at count 255 is accepted; at 256 a fresh pair gets 9, a mapped pair 7
+    ∷ (answers (ask (listing 255) (map 1 0 0 1 ∷ [])) gives answers (done ∷ []))
+    ∷ (answers (ask (listing 256) (map 1 0 0 1 ∷ map 0 255 0 1 ∷ [])) gives answers (refuses 9 ∷ refuses 7 ∷ []))
+    -- 5. pages 1 and 9 of one frame: write through one, read through the other, no order
+    ∷ (answers (ask fresh (map 0 1 5 2 ∷ map 0 9 5 1 ∷ write 0 1 3 42 ∷ read 0 9 3 ∷ [])) gives answers (done ∷ done ∷ done ∷ finds 42 ∷ []))
+    -- 6. pages 0 and 1: write, then write: one flush
+    ∷ (answers (ask fresh (map 0 0 5 2 ∷ map 0 1 5 2 ∷ write 0 0 3 42 ∷ write 0 1 3 43 ∷ [])) gives answers (done ∷ done ∷ done ∷ accepts (flush 5 0) order.none none ∷ []))
+    -- 7. held mask 3 with the flag set: 2
+    ∷ (answers (ask (withRecords (set (set (fresh .tables .records) 0 3) 2 1) fresh) (map 0 0 0 1 ∷ [])) gives answers (refuses 2 ∷ []))
+    -- 8. device write over a dirty page: one purge
+    ∷ (answers (ask fresh (map 0 2 5 2 ∷ write 0 2 3 42 ∷ deviceWrite 5 (replicate 64 7) ∷ [])) gives answers (done ∷ done ∷ accepts (purge 5 2) order.none none ∷ []))
+    -- 9. second read of one word in a row: no order, no change
+    ∷ (outcome (step board01 readOnce (read 0 2 3)) gives outcome (result (finds 0) readOnce))
+    -- 10. tag 65: 2; tag 64: clean, frame 63
+    ∷ (answers (ask (tagged 65) (evict 1 ∷ [])) gives answers (refuses 2 ∷ []))
+    ∷ (answers (ask (tagged 64) (map 0 0 63 1 ∷ read 0 0 0 ∷ [])) gives answers (done ∷ finds 77 ∷ []))
+    ∷ (numbers (frameOf 64 ∷ digit (isDirty 64) ∷ []) gives numbers (63 ∷ 0 ∷ []))
+    ∷ []
+
+-- every row of the table holds
+abbrev pub Edges : Type 0
+Edges = EveryRowHolds table

@@ -1,0 +1,4 @@
+-- The run sheet: its bytes, what the machine makes of it, and the text that is printed.
+pub mod Format
+pub mod Text
+pub mod Run

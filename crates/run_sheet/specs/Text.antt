@@ -1,0 +1,93 @@
+-- Document 01, "The run sheet": the lines that are printed, as ASCII codes.
+use mathlib.Core.Bool.{Bool, true, false, cond}
+use mathlib.Core.List.{List, [], _∷_, _++_}
+use mathlib.Core.Option.{Option, none, some}
+use Prim.Native.Nat.{ℕ, zero, suc, _/_}
+use lib.Dec.{eqb, ltb}
+use lib.ListN.{getD}
+use Rattle.io.specs.Digits.{digits}
+use Rattle.manager.specs.Answers as order
+use Rattle.manager.specs.Answers.{FrameOperation}
+use Rattle.machine.specs.State.{Call, map, unmap, read, write, deviceRead, deviceWrite, evict, Answer}
+
+-- ---- characters
+
+abbrev pub newline : ℕ
+newline = 10
+
+abbrev pub space : ℕ
+space = 32
+
+abbrev pub dash : ℕ
+dash = 45
+
+abbrev pub dot : ℕ
+dot = 46
+
+-- ---- numbers
+
+-- how many decimal digits n has, if it has no more than 1 + limit
+unfoldable pub places : ℕ → ℕ → ℕ
+places zero n = 1
+places (suc limit) n = cond (ltb n 10) 1 (suc (places limit (n / 10)))
+
+-- a number below 10 ^ 20
+unfoldable pub decimal : ℕ → List ℕ
+unfolding places
+decimal n = digits 10 (places 19 n) n
+
+-- ---- what is told of an answer
+
+-- F or P, then frame, a dot, colour; or a dash
+unfoldable pub operationText : FrameOperation → List ℕ
+unfolding decimal
+operationText order.none = dash ∷ []
+operationText (order.flush f c) = 70 ∷ (decimal f ++ (dot ∷ decimal c))
+operationText (order.purge f c) = 80 ∷ (decimal f ++ (dot ∷ decimal c))
+
+unfoldable pub wordText : Option ℕ → List ℕ
+unfolding decimal
+wordText none = dash ∷ []
+wordText (some word) = decimal word
+
+-- the first word of what an accepted device read gave, else none
+abbrev pub firstOf : Bool → List ℕ → Option ℕ
+firstOf true buffer = some (getD buffer 0 0)
+firstOf false buffer = none
+
+-- the word read, for a device read its first
+abbrev pub wordOf : Call → Answer → Option ℕ
+wordOf (map space page frame rights) a = none
+wordOf (unmap space page) a = none
+wordOf (read space page offset) a = a .word
+wordOf (write space page offset word) a = none
+wordOf (deviceRead frame buffer) a = firstOf (eqb (a .outcome .number) 0) (a .buffer)
+wordOf (deviceWrite frame buffer) a = none
+wordOf (evict line) a = none
+
+-- ---- the lines
+
+-- `mk R`
+unfoldable pub mappingLine : ℕ → Call → Answer → List ℕ
+unfolding decimal
+mappingLine k call a = 109 ∷ (decimal k ++ (space ∷ (decimal (a .outcome .number) ++ (newline ∷ []))))
+
+-- `k R A B V`
+unfoldable pub stepLine : ℕ → Call → Answer → List ℕ
+unfolding decimal operationText wordText
+stepLine k call a =
+    decimal k
+    ++ (space ∷ (decimal (a .outcome .number)
+    ++ (space ∷ (operationText (a .outcome .first)
+    ++ (space ∷ (operationText (a .outcome .second)
+    ++ (space ∷ (wordText (wordOf call a)
+    ++ (newline ∷ [])))))))))
+
+-- `end F P`
+unfoldable pub endLine : ℕ → ℕ → List ℕ
+unfolding decimal
+endLine flushes purges = 101 ∷ 110 ∷ 100 ∷ space ∷ (decimal flushes ++ (space ∷ (decimal purges ++ (newline ∷ []))))
+
+-- `refused 11`
+abbrev pub refusedLine : List ℕ
+refusedLine = 114 ∷ 101 ∷ 102 ∷ 117 ∷ 115 ∷ 101 ∷ 100 ∷ space ∷ 49 ∷ 49 ∷ newline ∷ []
