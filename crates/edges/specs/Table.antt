@@ -35,9 +35,12 @@ infix 20 _gives_
 abbrev pub _gives_ : Seen → Seen → Row
 given gives must = record { given = given; must = must }
 
+abbrev pub Holds : Row → Type 0
+Holds row = row .given ≡ row .must
+
 abbrev pub EveryRowHolds : List Row → Type 0
 EveryRowHolds [] = Unit {0}
-EveryRowHolds (row ∷ rows) = (row .given ≡ row .must) × EveryRowHolds rows
+EveryRowHolds (row ∷ rows) = Holds row × EveryRowHolds rows
 
 -- ---- calls
 
@@ -147,6 +150,16 @@ exampleText =
 
 -- ---- the table
 
+-- those of case 4, which take the longest to compute
+abbrev pub roomForOne : Row
+roomForOne = answers (ask (listing 255) (map 1 0 0 1 ∷ [])) gives answers (done ∷ [])
+
+abbrev pub freshPair : Row
+freshPair = answers (ask (listing 256) (map 1 0 0 1 ∷ [])) gives answers (refuses 9 ∷ [])
+
+abbrev pub mappedPair : Row
+mappedPair = answers (ask (listing 256) (map 0 255 0 1 ∷ [])) gives answers (refuses 7 ∷ [])
+
 abbrev pub table : List Row
 table =
     -- the sheet of "The run sheet"
@@ -159,8 +172,9 @@ table =
     ∷ (numbers (tabulate 8 (λ c. lineOf board01 c 63)) gives numbers (tabulate 8 (λ c. 8 * c + 7)))
     ∷ (answers (ask fresh (map 0 0 0 1 ∷ read 0 0 63 ∷ read 0 0 64 ∷ [])) gives answers (done ∷ finds 0 ∷ refuses 6 ∷ []))
     -- 4. a map at count 255 is accepted; at 256 a fresh pair gets 9, a mapped pair 7
-    ∷ (answers (ask (listing 255) (map 1 0 0 1 ∷ [])) gives answers (done ∷ []))
-    ∷ (answers (ask (listing 256) (map 1 0 0 1 ∷ map 0 255 0 1 ∷ [])) gives answers (refuses 9 ∷ refuses 7 ∷ []))
+    ∷ roomForOne
+    ∷ freshPair
+    ∷ mappedPair
     -- 5. pages 1 and 9 of one frame: write through one, read through the other, no order
     ∷ (answers (ask fresh (map 0 1 5 2 ∷ map 0 9 5 1 ∷ write 0 1 3 42 ∷ read 0 9 3 ∷ [])) gives answers (done ∷ done ∷ done ∷ finds 42 ∷ []))
     -- 6. pages 0 and 1: write, then write: one flush
