@@ -1,2 +1,3 @@
 -- The theorem of the edges.
+pub mod Full
 pub mod Theorem

@@ -1,8 +1,10 @@
 -- Document 01, "At the edges" and the sheet of "The run sheet": each row is a case and what it must give, and every row holds.
-use mathlib.Core.List.{List, [], _∷_, _++_}
+use mathlib.Core.Bool.{cond}
+use mathlib.Core.List.{List, [], _∷_}
 use mathlib.Core.Option.{Option, none, some}
 use mathlib.Core.Path.{_≡_}
-use Prim.Native.Nat.{ℕ, zero, suc, _+_, _-_, _*_}
+use Prim.Native.Nat.{ℕ, zero, suc, _+_, _*_}
+use lib.Dec.{ltb}
 use lib.ListN.{replicate, set}
 use Rattle.bits.specs.Mask.{digit}
 use Rattle.board.specs.Board.{board01, lineOf}
@@ -93,14 +95,22 @@ withRecords records st = state (tables (st .tables .list) records (st .tables .p
 abbrev pub withCache : List ℕ → List ℕ → State → State
 withCache words tags st = state (st .tables) (store (st .store .memory) words tags)
 
--- n mappings: each page from this one on of space 0 to frame 0, to read
-unfoldable pub pagesFrom : ℕ → ℕ → List Mapping
-pagesFrom page zero = []
-pagesFrom page (suc n) = record { space = 0; page = page; frame = 0; rights = 1 } ∷ pagesFrom (suc page) n
+-- the start with pages 0 to n - 1 of space 0 mapped to frame 0, to read
+abbrev pub pageMapping : ℕ → Mapping
+pageMapping page = record { space = 0; page = page; frame = 0; rights = 1 }
 
--- the start with pages 0 to n - 1 of space 0 mapped
+abbrev pub itemAt : ℕ → ℕ → Mapping
+itemAt n i = cond (ltb i n) (pageMapping i) zeroMapping
+
+unfoldable pub itemsOf : ℕ → (ℕ → Mapping) → List Mapping
+itemsOf zero f = []
+itemsOf (suc k) f = f 0 ∷ itemsOf k (λ i. f (suc i))
+
+abbrev pub pagesMapped : ℕ → MappingList
+pagesMapped n = record { items = itemsOf capacity (itemAt n); count = n }
+
 abbrev pub listing : ℕ → State
-listing n = withList (record { items = pagesFrom 0 n ++ replicate (capacity - n) zeroMapping; count = n }) fresh
+listing n = withList (pagesMapped n) fresh
 
 -- the first line of the cache with this tag, and word 77 in it
 abbrev pub tagged : ℕ → State

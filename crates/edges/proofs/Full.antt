@@ -1,0 +1,120 @@
+-- Case 4: lists of 255 and of 256 mappings. That no two of them share a page is shown and not computed.
+use mathlib.Core.Bool.{Bool, true, _&&_}
+use mathlib.Core.Logic.{inl, ⊎-elim}
+use mathlib.Core.Path.{_≡_, refl, sym, ap, ap₂, subst⁻¹, _∙_}
+use mathlib.Core.List.{List, [], _∷_}
+use Prim.Native.Nat.{ℕ, zero, suc, _<_, _≤_}
+use Rattle.mapping.proofs.Tests.{lt-or-le}
+use native.Mathlib.Omega.{arith}
+use borrow.Author.Tests.{lt-ltb, le-ltb}
+use lib.ListN.{getD}
+use Rattle.board.specs.Board.{Board, board01}
+use Rattle.mapping.specs.declared.Mapping.{Mapping}
+use Rattle.mapping.specs.Entry.{capacity, zeroMapping, mappingAt}
+use Rattle.mapping.specs.Facts.{InRange, Rules}
+use Rattle.mapping.proofs.Entry.{maps-cong₂}
+use Rattle.mapping.proofs.Rules.{rules-keepsRules}
+use Rattle.manager.specs.Refusals.{firstRefusal}
+use Rattle.machine.specs.State.{State, Call, map, Result}
+use Rattle.machine.specs.Refusals.{bufferRight, lentCauses, ownCauses, causes}
+use Rattle.machine.proofs.StepLaws.{step-refused, step-accepted}
+use Rattle.bits.specs.Mask as mask
+use Rattle.board.specs.Board as board
+use Rattle.page_model.specs.Record as frame-record
+use Rattle.page_model.specs.Step as record-step
+use Rattle.mapping.specs.Change as list-change
+use Rattle.mapping.specs.Entry as entry
+use Rattle.mapping.specs.Lookup as list-lookup
+use Rattle.mapping.specs.Rules as list-rules
+use Rattle.manager.specs.Refusals as refusals
+use Rattle.manager.specs.Tables as manager-tables
+use Rattle.cache.specs.Cache as hardware
+use Rattle.cache.specs.Part as part
+use Rattle.cache.specs.Tag as tag
+use Rattle.machine.specs.Refusals as machine-refusals
+use Rattle.machine.specs.Step as machine-step
+use Rattle.run_sheet.specs.Format as format
+use Rattle.run_sheet.specs.Run as run
+use Rattle.run_sheet.specs.Text as text
+use Rattle.edges.specs.Table.{Holds, Seen, answers, roomForOne, freshPair, mappedPair, after, ask, askFrom, pageMapping, itemAt, itemsOf, pagesMapped, listing}
+
+-- ---- what stands where
+
+getD-items : (k : ℕ) (f : ℕ → Mapping) (i : ℕ) → i < k → getD (itemsOf k f) i zeroMapping ≡ f i
+unfolding itemsOf
+getD-items zero f i h = absurd (omega arith)
+getD-items (suc k) f zero h = refl
+getD-items (suc k) f (suc i) h = getD-items k (λ j. f (suc j)) i (omega arith)
+
+getD-past : (k : ℕ) (f : ℕ → Mapping) (i : ℕ) → k ≤ i → getD (itemsOf k f) i zeroMapping ≡ zeroMapping
+unfolding itemsOf
+getD-past zero f i h = refl
+getD-past (suc k) f zero h = absurd (omega arith)
+getD-past (suc k) f (suc i) h = getD-past k (λ j. f (suc j)) i (omega arith)
+
+module _ (n : ℕ) (room : n ≤ capacity) where
+  listed-at : (i : ℕ) → i < n → mappingAt (pagesMapped n) i ≡ pageMapping i
+  listed-at i h = getD-items capacity (itemAt n) i (omega arith) ∙ rw (lt-ltb i n h)
+
+  rest-at : (i : ℕ) → n ≤ i → mappingAt (pagesMapped n) i ≡ zeroMapping
+  rest-at i h = ⊎-elim (λ l. getD-items capacity (itemAt n) i l ∙ rw (le-ltb i n h)) (λ l. getD-past capacity (itemAt n) i l) (lt-or-le i capacity)
+
+  pages-rules : Rules board01 (pagesMapped n)
+  pages-rules =
+      record {
+        count-le = room;
+        in-range = λ i h. subst⁻¹ (λ (m : Mapping). InRange board01 m) (listed-at i h) (record { space-lt = omega arith; page-lt = omega arith; frame-lt = omega arith; rights-of = inl refl });
+        distinct = λ i j hi hj e. maps-cong₂ (listed-at i hi) (listed-at j hj) e .1;
+        rest-zero = rest-at;
+      }
+
+-- ---- the refusal of a call, where nothing that is lent gives one
+
+module _ (b : Board) (st : State) (call : Call) where
+  lent-clear : (manager-tables.lengthsRight b (st .tables) && machine-refusals.storeLengths b (st .store) && bufferRight b call) ≡ true
+      → (manager-tables.rulesKept b (st .tables) && tag.tagsKeepRules b (st .store .tags)) ≡ true
+      → firstRefusal (causes b st call) ≡ firstRefusal (ownCauses b st call)
+  unfolding causes lentCauses firstRefusal
+  lent-clear e f = rw (e, f)
+
+lent-rules : (n : ℕ) → n ≤ capacity → (manager-tables.rulesKept board01 (listing n .tables) && tag.tagsKeepRules board01 (listing n .store .tags)) ≡ true
+unfolding manager-tables.rulesKept manager-tables.recordsKeepRules manager-tables.recordAt mask.all mask.bit mask.countOf frame-record.keepsRules run.start board.lines board.pageLines tag.tagsKeepRules
+lent-rules n room = rw (rules-keepsRules board01 (pagesMapped n) (pages-rules n room))
+
+first-of : (n : ℕ) → n ≤ capacity → (call : Call) → bufferRight board01 call ≡ true → firstRefusal (causes board01 (listing n) call) ≡ firstRefusal (ownCauses board01 (listing n) call)
+unfolding manager-tables.lengthsRight machine-refusals.storeLengths run.start board.lines board.pageLines board.memoryWords board.cacheWords itemsOf
+first-of n room call e = lent-clear board01 (listing n) call e (lent-rules n room)
+
+own-255 : firstRefusal (ownCauses board01 (listing 255) (map 1 0 0 1)) ≡ 0
+unfolding ownCauses firstRefusal list-lookup.lookup list-lookup.firstOf entry.isAt itemsOf
+own-255 = refl
+
+own-fresh : firstRefusal (ownCauses board01 (listing 256) (map 1 0 0 1)) ≡ 9
+unfolding ownCauses firstRefusal list-lookup.lookup list-lookup.firstOf entry.isAt itemsOf
+own-fresh = refl
+
+own-mapped : firstRefusal (ownCauses board01 (listing 256) (map 0 255 0 1)) ≡ 7
+unfolding ownCauses firstRefusal list-lookup.lookup list-lookup.firstOf entry.isAt itemsOf
+own-mapped = refl
+
+-- ---- the rows
+
+-- what is seen of one call
+one : Result → Seen
+one got = answers (got .answer ∷ [])
+
+pub room-for-one : Holds roomForOne
+unfolding ask askFrom one machine-step.accept
+room-for-one = sym (ap one (step-accepted board01 (listing 255) (map 1 0 0 1) (first-of 255 (omega arith) (map 1 0 0 1) refl ∙ own-255)))
+
+pub fresh-pair : Holds freshPair
+unfolding ask askFrom one
+fresh-pair =
+    let e = first-of 256 (omega arith) (map 1 0 0 1) refl ∙ own-fresh in
+    sym (ap one (step-refused board01 (listing 256) (map 1 0 0 1) 9 (e, λ z. omega arith)))
+
+pub mapped-pair : Holds mappedPair
+unfolding ask askFrom one
+mapped-pair =
+    let e = first-of 256 (omega arith) (map 0 255 0 1) refl ∙ own-mapped in
+    sym (ap one (step-refused board01 (listing 256) (map 0 255 0 1) 7 (e, λ z. omega arith)))
