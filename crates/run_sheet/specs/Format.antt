@@ -68,14 +68,18 @@ kindOf n =
     cond (eqb n 1) Read
     (cond (eqb n 2) Write (cond (eqb n 3) DeviceRead (cond (eqb n 4) DeviceWrite (cond (eqb n 5) Evict (cond (eqb n 6) Unmap Other)))))
 
+-- p, o and w are 0
+abbrev pub allZero : ℕ → ℕ → ℕ → Bool
+allZero p o w = eqb p 0 && eqb o 0 && eqb w 0
+
 -- the kind is one of the six, and the fields that it does not use are 0
 abbrev pub keeps : Kind → Fields → Bool
-keeps Read f = eqb (f .w) 0
+keeps Read f = allZero 0 0 (f .w)
 keeps Write f = true
-keeps DeviceRead f = eqb (f .p) 0 && eqb (f .o) 0 && eqb (f .w) 0
-keeps DeviceWrite f = eqb (f .p) 0 && eqb (f .o) 0
-keeps Evict f = eqb (f .p) 0 && eqb (f .o) 0 && eqb (f .w) 0
-keeps Unmap f = eqb (f .o) 0 && eqb (f .w) 0
+keeps DeviceRead f = allZero (f .p) (f .o) (f .w)
+keeps DeviceWrite f = allZero (f .p) (f .o) 0
+keeps Evict f = allZero (f .p) (f .o) (f .w)
+keeps Unmap f = allZero 0 (f .o) (f .w)
 keeps Other f = false
 
 unfoldable pub stepKeeps : List ℕ → ℕ → Bool

@@ -1,4 +1,5 @@
 -- The run sheet: its bytes, what the machine makes of it, and the text that is printed.
 pub mod Format
 pub mod Text
+pub mod Put
 pub mod Run

@@ -1,4 +1,6 @@
 // The run sheet: bytes of a sheet in, bytes of text out.
+pub mod format;
+pub mod text;
 
 // The kind of a step.
 pub enum Kind {
@@ -18,4 +20,10 @@ pub struct Fields {
     pub p: u16,
     pub o: u8,
     pub w: u32,
+}
+
+// The word that a step shows, if it has one.
+pub enum Shown {
+    Absent,
+    Word(u32),
 }

@@ -1,0 +1,21 @@
+-- `run_sheet::put_byte` meets its contract.
+use borrow.Author.Needs.{needs}
+use Rattle.run_sheet.proofs.text.put_byte.Statement.{statement}
+use Rattle.run_sheet.proofs.text.put_byte.Tie as tie
+use Rattle.run_sheet.proofs.text.put_byte.Reads as reads
+use Rattle.run_sheet.proofs.text.put_byte.Lts as lts
+
+slice-write-text : tie.Need-slice-write-text
+slice-write-text c = search needs
+
+add-result : tie.Need-add-result
+add-result c = search needs
+
+same-length : tie.Need-same-length
+same-length c = search needs
+
+returns : tie.Need-returns
+returns c = ?
+
+pub put-byte-spec : {M : Type 1} → statement M
+put-byte-spec = tie.close (tie.spec slice-write-text add-result same-length returns)

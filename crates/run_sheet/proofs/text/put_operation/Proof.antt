@@ -1,0 +1,61 @@
+-- `run_sheet::put_operation` meets its contract.
+use borrow.Author.Needs.{needs}
+use Rattle.run_sheet.proofs.text.put_operation.Statement.{statement}
+use Rattle.run_sheet.proofs.text.put_operation.Tie as tie
+use Rattle.run_sheet.proofs.text.put_operation.Reads as reads
+use Rattle.run_sheet.proofs.text.put_operation.Lts as lts
+use Rattle.run_sheet.proofs.text.put_byte.Reads as put-byte-reads
+use Rattle.run_sheet.proofs.text.put_order.Reads as put-order-reads
+
+enum-told : tie.Need-enum-told
+enum-told c = search needs
+
+put-byte-requires : tie.Need-put-byte-requires
+put-byte-requires c κs = search needs
+
+enum-known-op : tie.Need-enum-known-op
+enum-known-op c = search needs
+
+put-order-requires : tie.Need-put-order-requires
+put-order-requires c κs = search needs
+
+enum-known-op-2 : tie.Need-enum-known-op-2
+enum-known-op-2 c = search needs
+
+put-order-requires-2 : tie.Need-put-order-requires-2
+put-order-requires-2 c κs = search needs
+
+same-length : tie.Need-same-length
+same-length c = search needs
+
+returns : tie.Need-returns
+returns c = ?
+
+same-length-2 : tie.Need-same-length-2
+same-length-2 c = search needs
+
+returns-2 : tie.Need-returns-2
+returns-2 c = ?
+
+same-length-3 : tie.Need-same-length-3
+same-length-3 c = search needs
+
+returns-3 : tie.Need-returns-3
+returns-3 c = ?
+
+pub put-operation-spec : {M : Type 1} → statement M
+put-operation-spec =
+    tie.close
+    (tie.spec
+    enum-told
+    put-byte-requires
+    enum-known-op
+    put-order-requires
+    enum-known-op-2
+    put-order-requires-2
+    same-length
+    returns
+    same-length-2
+    returns-2
+    same-length-3
+    returns-3)

@@ -1,0 +1,37 @@
+-- `run_sheet::put_order` meets its contract.
+use borrow.Author.Needs.{needs}
+use Rattle.run_sheet.proofs.text.put_order.Statement.{statement}
+use Rattle.run_sheet.proofs.text.put_order.Tie as tie
+use Rattle.run_sheet.proofs.text.put_order.Reads as reads
+use Rattle.run_sheet.proofs.text.put_order.Lts as lts
+use Rattle.run_sheet.proofs.text.put_byte.Reads as put-byte-reads
+use Rattle.run_sheet.proofs.text.put_number.Reads as put-number-reads
+
+put-byte-requires : tie.Need-put-byte-requires
+put-byte-requires c κs = search needs
+
+put-number-requires : tie.Need-put-number-requires
+put-number-requires c κs = search needs
+
+put-byte-requires-2 : tie.Need-put-byte-requires-2
+put-byte-requires-2 c κs = search needs
+
+put-number-requires-2 : tie.Need-put-number-requires-2
+put-number-requires-2 c κs = search needs
+
+same-length : tie.Need-same-length
+same-length c = search needs
+
+returns : tie.Need-returns
+returns c = ?
+
+pub put-order-spec : {M : Type 1} → statement M
+put-order-spec =
+    tie.close
+    (tie.spec
+    put-byte-requires
+    put-number-requires
+    put-byte-requires-2
+    put-number-requires-2
+    same-length
+    returns)
