@@ -1,4 +1,5 @@
 -- `run_sheet::put_byte` meets its contract.
+use Rattle.run_sheet.proofs.Written.{put-byte}
 use borrow.Author.Needs.{needs}
 use Rattle.run_sheet.proofs.text.put_byte.Statement.{statement}
 use Rattle.run_sheet.proofs.text.put_byte.Tie as tie
@@ -15,7 +16,7 @@ same-length : tie.Need-same-length
 same-length c = search needs
 
 returns : tie.Need-returns
-returns c = ?
+returns c = put-byte (c .args .byte) (c .pre)
 
 pub put-byte-spec : {M : Type 1} → statement M
 put-byte-spec = tie.close (tie.spec slice-write-text add-result same-length returns)

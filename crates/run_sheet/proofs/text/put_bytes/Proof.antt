@@ -1,41 +1,49 @@
 -- `run_sheet::put_bytes` meets its contract.
+use borrow.Author.Needs.{needs}
+use Prim.Native.Nat.{_≤_, _-_}
+use mathlib.Core.Path.{_≡_, sym}
+use lib.ListN.{length, take}
+use Rattle.cache.specs.Part.{overlay}
+use native.Mathlib.Omega.{arith}
+use Rattle.run_sheet.proofs.Written.{overlay-nil, write-next}
 use Rattle.run_sheet.proofs.text.put_bytes.Statement.{statement}
 use Rattle.run_sheet.proofs.text.put_bytes.Tie as tie
 use Rattle.run_sheet.proofs.text.put_bytes.Reads as reads
 use Rattle.run_sheet.proofs.text.put_bytes.Lts as lts
 
 abbrev Inv-loop : tie.InvT-loop
-Inv-loop text₀ at from i₀ text i = ?
+Inv-loop text₀ at from i₀ text i = (i ≤ length from) × (length text ≡ length text₀) × (text ≡ overlay text₀ at (take i from))
 
 abbrev μ-loop : tie.MeasureT-loop
-μ-loop text₀ at from i₀ text i = ?
+μ-loop text₀ at from i₀ text i = length from - i
 
 loop-holds : tie.Need-loop-holds Inv-loop μ-loop
-loop-holds c = ?
+loop-holds c = (search needs, search needs, sym (overlay-nil _ _))
 
 shared-slice-read-text : tie.Need-shared-slice-read-text Inv-loop μ-loop
-shared-slice-read-text c = ?
+shared-slice-read-text c = search needs
 
 add-text : tie.Need-add-text Inv-loop μ-loop
-add-text c = ?
+add-text c = search needs
 
 slice-write-text : tie.Need-slice-write-text Inv-loop μ-loop
-slice-write-text c = ?
+slice-write-text c = search needs
 
 add-i : tie.Need-add-i Inv-loop μ-loop
-add-i c = ?
+add-i c = search needs
 
 loop-less : tie.Need-loop-less Inv-loop μ-loop
-loop-less c = ?
+loop-less c = search needs
 
 loop-again : tie.Need-loop-again Inv-loop μ-loop
-loop-again c = ?
+loop-again c = 
+    let l = c .before .before .loop in (search needs, search needs, write-next _ (l .text) _ _ (l .i) (omega arith) (omega arith) (l .inv .1) (l .inv .2))
 
 add-result : tie.Need-add-result Inv-loop μ-loop
-add-result c = ?
+add-result c = search needs
 
 same-length : tie.Need-same-length Inv-loop μ-loop
-same-length c = ?
+same-length c = search needs
 
 returns : tie.Need-returns Inv-loop μ-loop
 returns c = ?

@@ -1,0 +1,4 @@
+-- The laws of the run sheet.
+pub mod Sheet
+pub mod Written
+pub mod Digits
