@@ -43,3 +43,16 @@ fewest (suc limit) n k h f = go (fewest limit) (ltb n 10) refl k f
 pub decimal-digits : (n k : ℕ) → n < 2 ^ 64 → Fewest 10 1 n k → digits 10 k n ≡ decimal n
 unfolding decimal
 decimal-digits n k h f = ap (λ (x : ℕ). digits 10 x n) (fewest 19 n k (omega arith) f)
+
+pub places-le : (limit n : ℕ) → places limit n ≤ suc limit
+unfolding places
+places-le zero n = omega arith
+places-le (suc limit) n = go (ltb n 10) (places-le limit (n / 10))
+  where
+    go : (t : Bool) → places limit (n / 10) ≤ suc limit → cond t 1 (suc (places limit (n / 10))) ≤ suc (suc limit)
+    go true h = omega arith
+    go false h = omega arith
+
+-- so a number of 64 bits has no more than 20
+pub few-digits : (n k : ℕ) → n < 2 ^ 64 → Fewest 10 1 n k → k ≤ 20
+few-digits n k h f = omega (arith, fewest 19 n k (omega arith) f, places-le 19 n)

@@ -13,7 +13,7 @@ use Rattle.cache.specs.Store.{store}
 use Rattle.machine.specs.State.{State, state, Call, Answer, Result}
 use Rattle.machine.specs.Step.{step}
 use Rattle.run_sheet.specs.Format.{mappingCount, stepCount, isBroken, mappingCall, stepCall}
-use Rattle.run_sheet.specs.Text.{mappingLine, stepLine, endLine, refusedLine}
+use Rattle.run_sheet.specs.Text.{mappingText, mappingLine, stepText, stepLine, endLine, refusedLine}
 
 -- the machine as it is, the text so far, and the numbers of flushes and purges in all answers
 pub record Run : Type 0 where
@@ -77,11 +77,11 @@ advanceAll b line callAt (suc n) r = advance b (line n) (callAt n) (advanceAll b
 -- ---- the sheet
 
 unfoldable pub runMappings : Board → List ℕ → ℕ → Run
-unfolding advanceAll startRun mappingLine mappingCall
+unfolding advanceAll startRun mappingText mappingCall
 runMappings b sheet n = advanceAll b mappingLine (mappingCall sheet) n (startRun b)
 
 unfoldable pub runSteps : Board → List ℕ → ℕ → Run
-unfolding advanceAll runMappings mappingCount stepLine stepCall
+unfolding advanceAll runMappings mappingCount stepText stepCall
 runSteps b sheet n = advanceAll b stepLine (stepCall b sheet) n (runMappings b sheet (mappingCount sheet))
 
 abbrev pub closed : Run → List ℕ

@@ -7,8 +7,10 @@ use lib.Dec.{eqb, ltb}
 use lib.ListN.{getD}
 use Rattle.io.specs.Digits.{digits}
 use Rattle.manager.specs.Answers as order
-use Rattle.manager.specs.Answers.{FrameOperation}
+use Rattle.manager.specs.Answers.{FrameOperation, Outcome}
 use Rattle.machine.specs.State.{Call, map, unmap, read, write, deviceRead, deviceWrite, evict, Answer}
+use Rattle.run_sheet.specs.declared.Shown.{Shown}
+use Rattle.run_sheet.specs.declared.Shown.the-variants.{Absent, Word}
 
 -- ---- characters
 
@@ -68,20 +70,23 @@ wordOf (evict line) a = none
 -- ---- the lines
 
 -- `mk R`
-unfoldable pub mappingLine : ℕ → Call → Answer → List ℕ
+unfoldable pub mappingText : ℕ → ℕ → List ℕ
 unfolding decimal
-mappingLine k call a = 109 ∷ (decimal k ++ (space ∷ (decimal (a .outcome .number) ++ (newline ∷ []))))
+mappingText k number = 109 ∷ (decimal k ++ (space ∷ (decimal number ++ (newline ∷ []))))
+
+abbrev pub mappingLine : ℕ → Call → Answer → List ℕ
+mappingLine k call a = mappingText k (a .outcome .number)
+
+-- `R A B`
+unfoldable pub answerText : Outcome → List ℕ
+answerText o = decimal (o .number) ++ (space ∷ (operationText (o .first) ++ (space ∷ operationText (o .second))))
 
 -- `k R A B V`
-unfoldable pub stepLine : ℕ → Call → Answer → List ℕ
-unfolding decimal operationText wordText
-stepLine k call a =
-    decimal k
-    ++ (space ∷ (decimal (a .outcome .number)
-    ++ (space ∷ (operationText (a .outcome .first)
-    ++ (space ∷ (operationText (a .outcome .second)
-    ++ (space ∷ (wordText (wordOf call a)
-    ++ (newline ∷ [])))))))))
+unfoldable pub stepText : ℕ → Outcome → Option ℕ → List ℕ
+stepText k o word = decimal k ++ (space ∷ (answerText o ++ (space ∷ (wordText word ++ (newline ∷ [])))))
+
+abbrev pub stepLine : ℕ → Call → Answer → List ℕ
+stepLine k call a = stepText k (a .outcome) (wordOf call a)
 
 -- `end F P`
 unfoldable pub endLine : ℕ → ℕ → List ℕ
@@ -91,3 +96,9 @@ endLine flushes purges = 101 ∷ 110 ∷ 100 ∷ space ∷ (decimal flushes ++ (
 -- `refused 11`
 abbrev pub refusedLine : List ℕ
 refusedLine = 114 ∷ 101 ∷ 102 ∷ 117 ∷ 115 ∷ 101 ∷ 100 ∷ space ∷ 49 ∷ 49 ∷ newline ∷ []
+
+-- ---- what the code holds of an answer
+
+abbrev pub shownWord : Shown → Option ℕ
+shownWord Absent = none
+shownWord (Word word) = some word

@@ -1,7 +1,8 @@
 -- `run_sheet::put_bytes` meets its contract.
+use mathlib.Core.Path.{_≡_, sym, ap, _∙_}
+use lib.Seq.{take-all}
 use borrow.Author.Needs.{needs}
 use Prim.Native.Nat.{_≤_, _-_}
-use mathlib.Core.Path.{_≡_, sym}
 use lib.ListN.{length, take}
 use Rattle.cache.specs.Part.{overlay}
 use native.Mathlib.Omega.{arith}
@@ -46,7 +47,10 @@ same-length : tie.Need-same-length Inv-loop μ-loop
 same-length c = search needs
 
 returns : tie.Need-returns Inv-loop μ-loop
-returns c = ?
+returns c = 
+    let s = c .before .before .args in
+    let l = c .before .loop in
+    record { written = l .inv .2 ∙ ap (overlay (s .text .now) (s .at)) (take-all (l .i) (s .from .now) (omega arith)); next-is = omega arith; short = omega arith }
 
 pub put-bytes-spec : {M : Type 1} → statement M
 put-bytes-spec =

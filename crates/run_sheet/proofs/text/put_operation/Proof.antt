@@ -1,4 +1,7 @@
 -- `run_sheet::put_operation` meets its contract.
+use native.Mathlib.Omega.{arith}
+use Rattle.run_sheet.specs.Text.{operationText}
+use Rattle.run_sheet.proofs.Written.{put-as}
 use borrow.Author.Needs.{needs}
 use Rattle.run_sheet.proofs.text.put_operation.Statement.{statement}
 use Rattle.run_sheet.proofs.text.put_operation.Tie as tie
@@ -29,19 +32,22 @@ same-length : tie.Need-same-length
 same-length c = search needs
 
 returns : tie.Need-returns
-returns c = ?
+unfolding operationText
+returns c = put-as (rw (c .before .before .before .before .enum-told .given .1)) (omega arith) (c .before .before .put-byte .ensures)
 
 same-length-2 : tie.Need-same-length-2
 same-length-2 c = search needs
 
 returns-2 : tie.Need-returns-2
-returns-2 c = ?
+unfolding operationText
+returns-2 c = put-as (rw (c .before .before .before .before .before .op .given .1)) (omega arith) (c .before .before .put-order .ensures)
 
 same-length-3 : tie.Need-same-length-3
 same-length-3 c = search needs
 
 returns-3 : tie.Need-returns-3
-returns-3 c = ?
+unfolding operationText
+returns-3 c = put-as (rw (c .before .before .before .before .before .op2 .given .1)) (omega arith) (c .before .before .put-order2 .ensures)
 
 pub put-operation-spec : {M : Type 1} → statement M
 put-operation-spec =

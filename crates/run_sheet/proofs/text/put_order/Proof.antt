@@ -1,4 +1,7 @@
 -- `run_sheet::put_order` meets its contract.
+use native.Mathlib.Omega.{arith}
+use mathlib.Core.List.{append-assoc}
+use Rattle.run_sheet.proofs.Written.{put-both, put-as}
 use borrow.Author.Needs.{needs}
 use Rattle.run_sheet.proofs.text.put_order.Statement.{statement}
 use Rattle.run_sheet.proofs.text.put_order.Tie as tie
@@ -23,7 +26,11 @@ same-length : tie.Need-same-length
 same-length c = search needs
 
 returns : tie.Need-returns
-returns c = ?
+returns c = 
+    let h = c .before .before .before .before .before .before .before .before .before .before .before .before .before .before .before .before .before .pre in
+    let first = put-both (omega arith) (c .before .before .before .before .before .before .before .before .before .before .before .before .before .before .put-byte .ensures) (c .before .before .before .before .before .before .before .before .before .before .put-number .ensures) in
+    let second = put-both (omega arith) first (c .before .before .before .before .before .before .put-byte2 .ensures) in
+    put-as (simp append-assoc) (omega arith) (put-both (omega arith) second (c .before .before .put-number2 .ensures))
 
 pub put-order-spec : {M : Type 1} → statement M
 put-order-spec =

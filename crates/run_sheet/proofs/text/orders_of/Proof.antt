@@ -1,0 +1,22 @@
+-- `run_sheet::orders_of` meets its contract.
+use mathlib.Core.Path.{refl}
+use borrow.Author.Needs.{needs}
+use Rattle.run_sheet.proofs.text.orders_of.Statement.{statement}
+use Rattle.run_sheet.proofs.text.orders_of.Tie as tie
+use Rattle.run_sheet.proofs.text.orders_of.Reads as reads
+use Rattle.run_sheet.proofs.text.orders_of.Lts as lts
+
+enum-told : tie.Need-enum-told
+enum-told c = search needs
+
+enum-known-answer : tie.Need-enum-known-answer
+enum-known-answer c = search needs
+
+returns : tie.Need-returns
+returns c = search needs
+
+returns-2 : tie.Need-returns-2
+returns-2 c = rw (c .before .answer .given .1) (refl, refl)
+
+pub orders-of-spec : {M : Type 1} → statement M
+orders-of-spec = tie.close (tie.spec enum-told enum-known-answer returns returns-2)

@@ -1,0 +1,70 @@
+-- `run_sheet::put_answer` meets its contract.
+use native.Mathlib.Omega.{arith}
+use mathlib.Core.List.{append-assoc}
+use Rattle.run_sheet.proofs.Written.{put-both, put-as}
+use Rattle.run_sheet.specs.Text.{answerText}
+use borrow.Author.Needs.{needs}
+use Rattle.run_sheet.proofs.text.put_answer.Statement.{statement}
+use Rattle.run_sheet.proofs.text.put_answer.Tie as tie
+use Rattle.run_sheet.proofs.text.put_answer.Reads as reads
+use Rattle.run_sheet.proofs.text.put_answer.Lts as lts
+use Rattle.run_sheet.proofs.text.number_of.Reads as number-of-reads
+use Rattle.run_sheet.proofs.text.orders_of.Reads as orders-of-reads
+use Rattle.run_sheet.proofs.text.put_byte.Reads as put-byte-reads
+use Rattle.run_sheet.proofs.text.put_number.Reads as put-number-reads
+use Rattle.run_sheet.proofs.text.put_operation.Reads as put-operation-reads
+
+number-of-requires : tie.Need-number-of-requires
+number-of-requires c κs = search needs
+
+orders-of-requires : tie.Need-orders-of-requires
+orders-of-requires c κs = search needs
+
+cast-put-number : tie.Need-cast-put-number
+cast-put-number c = search needs
+
+put-number-requires : tie.Need-put-number-requires
+put-number-requires c κs = search needs
+
+put-byte-requires : tie.Need-put-byte-requires
+put-byte-requires c κs = search needs
+
+put-operation-requires : tie.Need-put-operation-requires
+put-operation-requires c κs = search needs
+
+put-byte-requires-2 : tie.Need-put-byte-requires-2
+put-byte-requires-2 c κs = search needs
+
+put-operation-requires-2 : tie.Need-put-operation-requires-2
+put-operation-requires-2 c κs = omega arith
+
+same-length : tie.Need-same-length
+same-length c = search needs
+
+returns : tie.Need-returns
+unfolding answerText
+returns c = 
+    let h = c .before .before .before .before .before .before .before .before .before .before .before .before .before .before .before .before .before .before .before .before .before .before .before .before .pre in
+    let w1 = put-both (omega arith) (c .before .before .before .before .before .before .before .before .before .before .before .before .before .before .before .before .before .before .put-number .ensures) (c .before .before .before .before .before .before .before .before .before .before .before .before .before .before .put-byte .ensures) in
+    let w2 = put-both (omega arith) w1 (c .before .before .before .before .before .before .before .before .before .before .put-operation .ensures) in
+    let w3 = put-both (omega arith) w2 (c .before .before .before .before .before .before .put-byte2 .ensures) in
+    let w4 = put-both (omega arith) w3 (c .before .before .put-operation2 .ensures) in
+    let a = c .before .before .before .before .before .before .before .before .before .before .before .before .before .before .before .before .before .before .before .before .before .before .before .before .args .answer in
+    let n = c .before .before .before .before .before .before .before .before .before .before .before .before .before .before .before .before .before .before .before .before .before .before .number-of .ensures in
+    let e = c .before .before .before .before .before .before .before .before .before .before .before .before .before .before .before .before .before .before .before .before .before .orders-of .ensures in
+    put-as (simp append-assoc (rw (n, e .0, e .1))) (omega arith) w4
+
+pub put-answer-spec : {M : Type 1} → statement M
+put-answer-spec =
+    tie.close
+    (tie.spec
+    number-of-requires
+    orders-of-requires
+    cast-put-number
+    put-number-requires
+    put-byte-requires
+    put-operation-requires
+    put-byte-requires-2
+    put-operation-requires-2
+    same-length
+    returns)
