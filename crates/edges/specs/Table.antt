@@ -11,8 +11,11 @@ use Rattle.board.specs.Board.{board01, lineOf}
 use Rattle.mapping.specs.declared.Mapping.{Mapping}
 use Rattle.mapping.specs.declared.MappingList.{MappingList}
 use Rattle.mapping.specs.Entry.{capacity, zeroMapping}
-use Rattle.manager.specs.Answers.{FrameOperation, refused, flush, purge}
-use Rattle.manager.specs.Answers as order
+use Rattle.page_model.specs.declared.Op.{Op}
+use Rattle.page_model.specs.declared.Op.the-variants.{None, Flush, Purge}
+use Rattle.page_model.specs.declared.Ops.{Ops}
+use Rattle.manager.specs.Answers.{refused, accepted}
+use Rattle.manager.specs.Calls.{noOps}
 use Rattle.manager.specs.Tables.{tables, tabulate}
 use Rattle.cache.specs.Store.{store}
 use Rattle.cache.specs.Tag.{frameOf, isDirty}
@@ -68,17 +71,25 @@ ask st (call ∷ calls) = askFrom (step board01 st call) calls
 abbrev pub refuses : ℕ → Answer
 refuses n = answer (refused n) none []
 
--- accepted, with two orders and a word
-abbrev pub accepts : FrameOperation → FrameOperation → Option ℕ → Answer
-accepts first second word = answer (record { number = 0; first = first; second = second }) word []
+-- accepted, with the frame of its orders, the orders and a word
+abbrev pub accepts : ℕ → Ops → Option ℕ → Answer
+accepts frame ops word = answer (accepted frame ops) word []
 
--- accepted, with no order and no word
+-- the first of two orders, with no second
+abbrev pub only : Op → Ops
+only op = record { first = op; second = None }
+
+-- a change of the list
 abbrev pub done : Answer
-done = accepts order.none order.none none
+done = accepts 0 noOps none
 
--- accepted, with no order and a word
-abbrev pub finds : ℕ → Answer
-finds word = accepts order.none order.none (some word)
+-- a write on a frame, with no order
+abbrev pub written : ℕ → Answer
+written frame = accepts frame noOps none
+
+-- a read on a frame, with no order, and its word
+abbrev pub finds : ℕ → ℕ → Answer
+finds frame word = accepts frame noOps (some word)
 
 -- ---- states
 
@@ -180,24 +191,24 @@ table =
     ∷ (answers (ask fresh (map 0 0 63 1 ∷ map 0 1 64 1 ∷ [])) gives answers (done ∷ refuses 4 ∷ []))
     -- 3. offset 63 lies in line 8c + 7; 64 gets 6
     ∷ (numbers (tabulate 8 (λ c. lineOf board01 c 63)) gives numbers (tabulate 8 (λ c. 8 * c + 7)))
-    ∷ (answers (ask fresh (map 0 0 0 1 ∷ read 0 0 63 ∷ read 0 0 64 ∷ [])) gives answers (done ∷ finds 0 ∷ refuses 6 ∷ []))
+    ∷ (answers (ask fresh (map 0 0 0 1 ∷ read 0 0 63 ∷ read 0 0 64 ∷ [])) gives answers (done ∷ finds 0 0 ∷ refuses 6 ∷ []))
     -- 4. a map at count 255 is accepted; at 256 a fresh pair gets 9, a mapped pair 7
     ∷ roomForOne
     ∷ freshPair
     ∷ mappedPair
     -- 5. pages 1 and 9 of one frame: write through one, read through the other, no order
-    ∷ (answers (ask fresh (map 0 1 5 2 ∷ map 0 9 5 1 ∷ write 0 1 3 42 ∷ read 0 9 3 ∷ [])) gives answers (done ∷ done ∷ done ∷ finds 42 ∷ []))
+    ∷ (answers (ask fresh (map 0 1 5 2 ∷ map 0 9 5 1 ∷ write 0 1 3 42 ∷ read 0 9 3 ∷ [])) gives answers (done ∷ done ∷ written 5 ∷ finds 5 42 ∷ []))
     -- 6. pages 0 and 1: write, then write: one flush
-    ∷ (answers (ask fresh (map 0 0 5 2 ∷ map 0 1 5 2 ∷ write 0 0 3 42 ∷ write 0 1 3 43 ∷ [])) gives answers (done ∷ done ∷ done ∷ accepts (flush 5 0) order.none none ∷ []))
+    ∷ (answers (ask fresh (map 0 0 5 2 ∷ map 0 1 5 2 ∷ write 0 0 3 42 ∷ write 0 1 3 43 ∷ [])) gives answers (done ∷ done ∷ written 5 ∷ accepts 5 (only (Flush 0)) none ∷ []))
     -- 7. held mask 3 with the flag set: 2
     ∷ (answers (ask (withRecords (set (set (fresh .tables .records) 0 3) 2 1) fresh) (map 0 0 0 1 ∷ [])) gives answers (refuses 2 ∷ []))
     -- 8. device write over a dirty page: one purge
-    ∷ (answers (ask fresh (map 0 2 5 2 ∷ write 0 2 3 42 ∷ deviceWrite 5 (replicate 64 7) ∷ [])) gives answers (done ∷ done ∷ accepts (purge 5 2) order.none none ∷ []))
+    ∷ (answers (ask fresh (map 0 2 5 2 ∷ write 0 2 3 42 ∷ deviceWrite 5 (replicate 64 7) ∷ [])) gives answers (done ∷ written 5 ∷ accepts 5 (only (Purge 2)) none ∷ []))
     -- 9. second read of one word in a row: no order, no change
-    ∷ (outcome (step board01 readOnce (read 0 2 3)) gives outcome (result (finds 0) readOnce))
+    ∷ (outcome (step board01 readOnce (read 0 2 3)) gives outcome (result (finds 5 0) readOnce))
     -- 10. tag 65: 2; tag 64: clean, frame 63
     ∷ (answers (ask (tagged 65) (evict 1 ∷ [])) gives answers (refuses 2 ∷ []))
-    ∷ (answers (ask (tagged 64) (map 0 0 63 1 ∷ read 0 0 0 ∷ [])) gives answers (done ∷ finds 77 ∷ []))
+    ∷ (answers (ask (tagged 64) (map 0 0 63 1 ∷ read 0 0 0 ∷ [])) gives answers (done ∷ finds 63 77 ∷ []))
     ∷ (numbers (frameOf 64 ∷ digit (isDirty 64) ∷ []) gives numbers (63 ∷ 0 ∷ []))
     ∷ []
 

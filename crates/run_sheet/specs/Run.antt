@@ -7,7 +7,7 @@ use Rattle.board.specs.Board.{Board, memoryWords, cacheWords, lines}
 use Rattle.mapping.specs.Change.{empty}
 use Rattle.mapping.specs.Entry.{capacity}
 use Rattle.manager.specs.Answers as order
-use Rattle.manager.specs.Answers.{FrameOperation, Outcome}
+use Rattle.manager.specs.Answers.{FrameOperation, Outcome, firstOf, secondOf}
 use Rattle.manager.specs.Tables.{tables, recordBytes}
 use Rattle.cache.specs.Store.{store}
 use Rattle.machine.specs.State.{State, state, Call, Answer, Result}
@@ -47,10 +47,10 @@ purgeOf (order.flush f c) = 0
 purgeOf (order.purge f c) = 1
 
 abbrev pub flushesOf : Outcome → ℕ
-flushesOf o = flushOf (o .first) + flushOf (o .second)
+flushesOf o = flushOf (firstOf o) + flushOf (secondOf o)
 
 abbrev pub purgesOf : Outcome → ℕ
-purgesOf o = purgeOf (o .first) + purgeOf (o .second)
+purgesOf o = purgeOf (firstOf o) + purgeOf (secondOf o)
 
 -- ---- calls in their order
 

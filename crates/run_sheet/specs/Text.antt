@@ -1,13 +1,13 @@
 -- Document 01, "The run sheet": the lines that are printed, as ASCII codes.
-use mathlib.Core.Bool.{Bool, true, false, cond}
+use mathlib.Core.Bool.{cond}
 use mathlib.Core.List.{List, [], _∷_, _++_}
 use mathlib.Core.Option.{Option, none, some}
 use Prim.Native.Nat.{ℕ, zero, suc, _/_}
-use lib.Dec.{eqb, ltb}
+use lib.Dec.{ltb}
 use lib.ListN.{getD}
 use Rattle.io.specs.Digits.{digits}
 use Rattle.manager.specs.Answers as order
-use Rattle.manager.specs.Answers.{FrameOperation, Outcome}
+use Rattle.manager.specs.Answers.{FrameOperation, Outcome, refused, accepted, numberOf, firstOf, secondOf}
 use Rattle.machine.specs.State.{Call, map, unmap, read, write, deviceRead, deviceWrite, evict, Answer}
 use Rattle.run_sheet.specs.declared.Shown.{Shown}
 use Rattle.run_sheet.specs.declared.Shown.the-variants.{Absent, Word}
@@ -53,9 +53,9 @@ wordText none = dash ∷ []
 wordText (some word) = decimal word
 
 -- the first word of what an accepted device read gave, else none
-abbrev pub firstOf : Bool → List ℕ → Option ℕ
-firstOf true buffer = some (getD buffer 0 0)
-firstOf false buffer = none
+abbrev pub firstWord : Outcome → List ℕ → Option ℕ
+firstWord (refused n) buffer = none
+firstWord (accepted f ops) buffer = some (getD buffer 0 0)
 
 -- the word read, for a device read its first
 abbrev pub wordOf : Call → Answer → Option ℕ
@@ -63,7 +63,7 @@ wordOf (map space page frame rights) a = none
 wordOf (unmap space page) a = none
 wordOf (read space page offset) a = a .word
 wordOf (write space page offset word) a = none
-wordOf (deviceRead frame buffer) a = firstOf (eqb (a .outcome .number) 0) (a .buffer)
+wordOf (deviceRead frame buffer) a = firstWord (a .outcome) (a .buffer)
 wordOf (deviceWrite frame buffer) a = none
 wordOf (evict line) a = none
 
@@ -75,11 +75,11 @@ unfolding decimal
 mappingText k number = 109 ∷ (decimal k ++ (space ∷ (decimal number ++ (newline ∷ []))))
 
 abbrev pub mappingLine : ℕ → Call → Answer → List ℕ
-mappingLine k call a = mappingText k (a .outcome .number)
+mappingLine k call a = mappingText k (numberOf (a .outcome))
 
 -- `R A B`
 unfoldable pub answerText : Outcome → List ℕ
-answerText o = decimal (o .number) ++ (space ∷ (operationText (o .first) ++ (space ∷ operationText (o .second))))
+answerText o = decimal (numberOf o) ++ (space ∷ (operationText (firstOf o) ++ (space ∷ operationText (secondOf o))))
 
 -- `k R A B V`
 unfoldable pub stepText : ℕ → Outcome → Option ℕ → List ℕ

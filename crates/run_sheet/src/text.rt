@@ -8,7 +8,7 @@ ghost use mathlib.Core.Path.{_≡_};
 ghost use mathlib.Core.List.{[], _∷_, _++_};
 ghost use Prim.Native.Nat.{_+_, _<_, _≤_};
 ghost use lib.ListN.{length};
-ghost use Rattle.manager.specs.Answers.{operationOn, outcome};
+ghost use Rattle.manager.specs.Answers.{operationOn, outcome, numberOf, firstOf, secondOf};
 ghost use Rattle.run_sheet.specs.Put.{Put};
 ghost use Rattle.run_sheet.specs.Text.{dot, decimal, operationText, wordText, shownWord, mappingText, answerText, stepText, endLine, refusedLine};
 
@@ -72,7 +72,7 @@ fn put_answer(text: &mut [u8], at: usize, answer: Answer) -> usize
 
 // The refusal's number, or 0.
 pub fn number_of(answer: Answer) -> u8
-    ensures { λ r. ⌜ r ≡ outcome answer .number ⌝ }
+    ensures { λ r. ⌜ r ≡ numberOf (outcome answer) ⌝ }
 {
     match answer {
         Answer::Refused(number) => number,
@@ -82,7 +82,7 @@ pub fn number_of(answer: Answer) -> u8
 
 // The orders, of which a refusal has none.
 pub fn orders_of(answer: Answer) -> FrameOps
-    ensures { λ r. ⌜ (operationOn (r .frame) (r .ops .first) ≡ outcome answer .first) × (operationOn (r .frame) (r .ops .second) ≡ outcome answer .second) ⌝ }
+    ensures { λ r. ⌜ (operationOn (r .frame) (r .ops .first) ≡ firstOf (outcome answer)) × (operationOn (r .frame) (r .ops .second) ≡ secondOf (outcome answer)) ⌝ }
 {
     match answer {
         Answer::Refused(_) => FrameOps {

@@ -38,7 +38,7 @@ four-bytes-requires c κs = search needs
 
 returns : tie.Need-returns
 unfolding fieldsAt
-returns c = 
+returns c =
     let e1 = c .before .before .before .before .byte-at .ensures in
     let e2 = c .before .before .before .byte-at2 .ensures in
     let e3 = c .before .before .two-bytes .ensures in

@@ -23,7 +23,7 @@ wide-requires : tie.Need-wide-requires
 wide-requires c κs = search needs
 
 returns : tie.Need-returns
-returns c = 
+returns c =
     let s = c .before .before .before .before .args .sheet .now in
     let m = c .before .wide .result in
     let e = mapping-count s m (c .before .wide .ensures ∙ c .before .before .two-bytes .ensures) in
@@ -42,7 +42,7 @@ wide-requires-2 : tie.Need-wide-requires-2
 wide-requires-2 c κs = search needs
 
 returns-2 : tie.Need-returns-2
-returns-2 c = 
+returns-2 c =
     let s = c .before .before .before .before .before .before .before .args .sheet .now in
     let m = c .before .before .before .before .wide .result in
     let n = c .before .wide2 .result in
@@ -60,7 +60,7 @@ add-length-2 : tie.Need-add-length-2
 add-length-2 c = search needs
 
 returns-3 : tie.Need-returns-3
-returns-3 c = 
+returns-3 c =
     let s = c .before .before .before .before .before .before .before .before .args .sheet .now in
     let m = c .before .before .before .before .before .wide .result in
     let n = c .before .before .wide2 .result in
@@ -69,7 +69,7 @@ returns-3 c =
     sym (rw (le-ltb 256 m (omega arith), le-ltb 4096 n (omega arith), lt-ltb (length s) (2 + 5 * m + 2 + 9 * n) (omega arith))) ∙ broken-by s m n e d
 
 returns-4 : tie.Need-returns-4
-returns-4 c = 
+returns-4 c =
     let s = c .before .before .before .before .before .before .before .before .before .args .sheet .now in
     let m = c .before .before .before .before .before .before .wide .result in
     let n = c .before .before .before .wide2 .result in
@@ -81,7 +81,7 @@ add-steps-keep : tie.Need-add-steps-keep
 add-steps-keep c = search needs
 
 steps-keep-requires : tie.Need-steps-keep-requires
-steps-keep-requires c κs = 
+steps-keep-requires c κs =
     let s = c .before .before .before .before .before .before .before .before .before .args .sheet .now in
     let m = c .before .before .before .before .before .before .wide .result in
     let n = c .before .before .before .wide2 .result in
@@ -90,7 +90,7 @@ steps-keep-requires c κs =
     (first-place s m e, omega arith, omega arith)
 
 returns-5 : tie.Need-returns-5
-returns-5 c = 
+returns-5 c =
     let s = c .before .before .before .before .before .before .before .before .before .before .args .sheet .now in
     let m = c .before .before .before .before .before .before .before .wide .result in
     let n = c .before .before .before .before .wide2 .result in

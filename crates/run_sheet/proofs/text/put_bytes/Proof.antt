@@ -37,7 +37,7 @@ loop-less : tie.Need-loop-less Inv-loop μ-loop
 loop-less c = search needs
 
 loop-again : tie.Need-loop-again Inv-loop μ-loop
-loop-again c = 
+loop-again c =
     let l = c .before .before .loop in (search needs, search needs, write-next _ (l .text) _ _ (l .i) (omega arith) (omega arith) (l .inv .1) (l .inv .2))
 
 add-result : tie.Need-add-result Inv-loop μ-loop
@@ -47,7 +47,7 @@ same-length : tie.Need-same-length Inv-loop μ-loop
 same-length c = search needs
 
 returns : tie.Need-returns Inv-loop μ-loop
-returns c = 
+returns c =
     let s = c .before .before .args in
     let l = c .before .loop in
     record { written = l .inv .2 ∙ ap (overlay (s .text .now) (s .at)) (take-all (l .i) (s .from .now) (omega arith)); next-is = omega arith; short = omega arith }

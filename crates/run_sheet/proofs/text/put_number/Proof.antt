@@ -22,7 +22,7 @@ slice-aggregate-put-bytes : tie.Need-slice-aggregate-put-bytes
 slice-aggregate-put-bytes c = search needs
 
 put-bytes-requires : tie.Need-put-bytes-requires
-put-bytes-requires c κs = 
+put-bytes-requires c κs =
     let d = c .before .before .decimal .ensures in
     omega (arith, d .0 .1, few-digits _ _ (omega arith) (d .1 .0))
 
@@ -30,7 +30,7 @@ same-length : tie.Need-same-length
 same-length c = search needs
 
 returns : tie.Need-returns
-returns c = 
+returns c =
     let s = c .before .before .before .before .before .before .before .before in
     let d = c .before .before .before .before .before .decimal .ensures in
     put-as (d .1 .1 ∙ decimal-digits (s .args .n) _ (omega arith) (d .1 .0)) (omega (arith, d .0 .1, few-digits (s .args .n) _ (omega arith) (d .1 .0))) (c .before .before .put-bytes .ensures)
