@@ -25,7 +25,7 @@ use Rattle.machine.specs.State.{State, state, read, write}
 use Rattle.machine.specs.Step.{accept, frameOf}
 use Rattle.machine.proofs.StepLaws.{clear, read-ready, write-ready}
 use Rattle.consistency.specs.Cacheless.{Cacheless, cacheless, replaced, stored, accepted}
-use Rattle.consistency.specs.Demand3.{wordOf}
+use Rattle.consistency.specs.Demand3.{wordOf, HasFrame}
 use Rattle.consistency.proofs.Access.{access-words, access-own, access-other}
 use Rattle.consistency.proofs.Agrees.{Agrees}
 use Rattle.consistency.proofs.Commit.{commit-invariant}
@@ -145,7 +145,7 @@ module _ (b : Board) (reg : Regular b) (st : State) (m : Cacheless) (inv : Invar
       let hf = ready .0 .1 in
       let ho = ready .1 in
       let hc = colourOf-lt b reg page in (
-        tt,
+        subst⁻¹ HasFrame (mapped-frame b st m inv space page mapped) tt,
         subst⁻¹ (λ (x : Option ℕ). Invariant b (accept b st (write space page offset word) .after) (cacheless (stored (m .word) x offset word) (m .frame)))
             (mapped-frame b st m inv space page mapped)
             (write-kept b reg st m inv (frameOf st space page) (colourOf b page) offset hf hc ho word),

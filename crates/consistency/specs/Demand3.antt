@@ -23,7 +23,7 @@ abbrev pub startState : Board → List ℕ → List ℕ → List ℕ → State
 startState b memory words protections =
     state (tables empty (replicate (b .frames * recordBytes) 0) protections) (store memory words (replicate (lines b) 0))
 
--- ---- what an accepted read must find
+-- ---- what an accepted read must find, and an accepted write: a frame to write to
 
 abbrev pub isRefused : Answer → Bool
 isRefused a = isRefusal (a .outcome)
@@ -33,11 +33,15 @@ abbrev pub wordOf : Cacheless → Option ℕ → ℕ → Option ℕ
 wordOf m none offset = none
 wordOf m (some f) offset = some (m .word f offset)
 
+abbrev pub HasFrame : Option ℕ → Type 0
+HasFrame none = ⊥
+HasFrame (some f) = Unit {0}
+
 abbrev pub Finds : Board → Cacheless → Call → Answer → Type 0
 Finds b m (map space page frame rights) a = Unit {0}
 Finds b m (unmap space page) a = Unit {0}
 Finds b m (read space page offset) a = a .word ≡ wordOf m (m .frame space page) offset
-Finds b m (write space page offset word) a = Unit {0}
+Finds b m (write space page offset word) a = HasFrame (m .frame space page)
 Finds b m (deviceRead frame buffer) a = a .buffer ≡ tabulate (b .pageWords) (m .word frame)
 Finds b m (deviceWrite frame buffer) a = Unit {0}
 Finds b m (evict line) a = Unit {0}
