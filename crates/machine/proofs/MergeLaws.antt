@@ -1,19 +1,17 @@
 -- The machine's own refusal and the manager's, and the earlier of the two: for each call it is the first of all its causes.
-use mathlib.Core.Path.{_≡_, refl, sym, ap, ap₂, _∙_}
+use mathlib.Core.Path.{_≡_, refl, sym, ap, _∙_}
 use mathlib.Core.Bool.{Bool, true, false, not, cond, _&&_}
 use mathlib.Core.List.{List}
-use Prim.Native.Nat.{ℕ, zero, suc, min, _≤_, _<_}
+use Prim.Native.Nat.{ℕ, zero, suc, _≤_, _<_}
 use native.Mathlib.Omega.{arith}
-use native.Mathlib.Nat.{suc-min-suc, min-eq-left, min-eq-right, le-of-lt}
+use native.Mathlib.Nat.{suc-min-suc}
 use borrow.Author.Tests.{eqb-true}
 use lib.Dec.{eqb, leb}
 use lib.ListN.{length}
 use Rattle.bits.proofs.Tautology.{and-left, and-right}
 use Rattle.board.specs.Board.{Board, lines}
 use Rattle.manager.specs.declared.Change.{Change}
-use Rattle.manager.specs.declared.Plan.{Plan}
 use Rattle.manager.specs.declared.Plan.the-variants as step-plan
-use Rattle.manager.specs.declared.ListPlan.{ListPlan}
 use Rattle.manager.specs.declared.ListPlan.the-variants as list-plan
 use Rattle.manager.specs.Calls.{planned, placed}
 use Rattle.manager.specs.Refusals.{firstRefusal, tableCauses, mapCauses, pageCauses, writeCauses, transferCauses, outOfSpace, isRight, isMapped, mappingOf}
@@ -22,7 +20,7 @@ use Rattle.mapping.specs.Entry.{capacity, readOnly}
 use Rattle.cache.specs.Tag.{tagsKeepRules}
 use Rattle.machine.specs.Plans.{storeCauses, accessCauses, earlier, withStep, withPlace}
 use Rattle.machine.specs.Refusals.{storeLengths, causes}
-use Rattle.machine.specs.State.{State, Call, map, unmap, read, write, deviceRead, deviceWrite, evict}
+use Rattle.machine.specs.State.{State, map, unmap, read, write, deviceRead, deviceWrite, evict}
 
 -- ---- the earlier of two
 

@@ -1,12 +1,11 @@
 -- What a plan tells of a call: where it is a refusal, the call's answer; where it is a change, what the call is ready for and what it leaves.
-use mathlib.Core.Path.{_≡_, refl, sym, ap, subst, _∙_}
-use mathlib.Core.Bool.{Bool, true, false, not, _&&_}
-use mathlib.Core.List.{List, [], _∷_, _++_}
+use mathlib.Core.Path.{_≡_, refl, sym, ap, _∙_}
+use mathlib.Core.Bool.{true, _&&_}
+use mathlib.Core.List.{List, [], _++_}
 use mathlib.Core.Option.{Option, none, some}
 use Prim.Native.Nat.{ℕ, zero, suc, _<_}
 use native.Mathlib.Omega.{arith}
 use borrow.Author.Tests.{not-false, leb-false, eqb-true}
-use lib.Dec.{eqb, leb}
 use lib.ListN.{length}
 use Rattle.bits.proofs.Tautology.{and-left, and-right}
 use Rattle.board.specs.Board.{Board, lines, colourOf}
@@ -19,14 +18,14 @@ use Rattle.manager.specs.declared.Plan.the-variants as step-plan
 use Rattle.manager.specs.declared.ListPlan.the-variants as list-plan
 use Rattle.manager.specs.Answers.{Outcome, refused, accepted}
 use Rattle.manager.specs.Calls.{noOps, planned, placed, changeOf, commitChange, commitMap, commitUnmap}
-use Rattle.manager.specs.Refusals.{firstRefusal, placeOf, isMapped, mappingOf}
+use Rattle.manager.specs.Refusals.{firstRefusal, placeOf}
 use Rattle.manager.specs.Tables.{Tables, lengthsRight, rulesKept, recordAt, refill}
 use Rattle.manager.proofs.CauseLaws.{NoneApplies, numbered, none-applies, mapped-range}
 use Rattle.cache.specs.Cache as hardware
 use Rattle.cache.specs.Store.{Store, WellFormed}
 use Rattle.cache.specs.Tag.{tagsKeepRules}
 use Rattle.machine.specs.Refusals.{storeLengths, bufferRight, lentCauses, ownCauses, causes}
-use Rattle.machine.specs.State.{State, state, Call, map, unmap, read, write, deviceRead, deviceWrite, evict, Answer, Result, lentBuffer}
+use Rattle.machine.specs.State.{State, state, Call, map, unmap, read, write, deviceRead, deviceWrite, evict, Result, lentBuffer}
 use Rattle.machine.specs.Step.{answer, result, carryOut, frameOf, accept, step}
 use Rattle.machine.proofs.StoreLaws.{well-formed}
 

@@ -2,7 +2,7 @@
 use mathlib.Core.Path.{_≡_, sym, _∙_}
 use mathlib.Core.Bool.{true}
 use borrow.Author.Tests.{ne-eqb, not-true, not-false}
-use Rattle.board.specs.Board.{board01, memoryWords, cacheWords, pageLines, lines}
+use Rattle.board.specs.Board.{board01, memoryWords, cacheWords, lines}
 use Rattle.manager.specs.Refusals.{firstRefusal}
 use Rattle.cache.specs.Store.{Store, store}
 use Rattle.machine.specs.Refusals.{storeLengths}
