@@ -2,3 +2,4 @@
 pub mod Sheet
 pub mod Written
 pub mod Digits
+pub mod Making

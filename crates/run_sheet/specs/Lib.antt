@@ -2,4 +2,5 @@
 pub mod Format
 pub mod Text
 pub mod Put
+pub mod Did
 pub mod Run

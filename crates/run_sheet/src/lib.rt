@@ -1,6 +1,10 @@
 // The run sheet: bytes of a sheet in, bytes of text out.
 pub mod format;
+pub mod steps;
 pub mod text;
+
+use manager::Answer;
+use mapping::MappingList;
 
 // The kind of a step.
 pub enum Kind {
@@ -26,4 +30,11 @@ pub struct Fields {
 pub enum Shown {
     Absent,
     Word(u32),
+}
+
+// What a step made: the list after it, its answer, and the word that it shows.
+pub struct Made {
+    pub list: MappingList,
+    pub answer: Answer,
+    pub shown: Shown,
 }

@@ -1,0 +1,76 @@
+-- `run_sheet::count_up` meets its contract.
+use borrow.Author.Needs.{needs}
+use Prim.Native.Nat.{ℕ, _≤_, _<_, _-_}
+use mathlib.Core.Path.{_≡_, sym, _∙_}
+use native.Mathlib.Omega.{arith}
+use borrow.Author.Count.{below-none, below-more}
+use lib.ListN.{length, getD}
+use lib.Seq.{getD-set-same, getD-set-other, ext-getD}
+use Rattle.manager.proofs.Laws.{length-tabulate, getD-tabulate}
+use Rattle.run_sheet.specs.Format.{sentWord}
+use Rattle.run_sheet.proofs.steps.count_up.Statement.{statement}
+use Rattle.run_sheet.proofs.steps.count_up.Tie as tie
+use Rattle.run_sheet.proofs.steps.count_up.Reads as reads
+use Rattle.run_sheet.proofs.steps.count_up.Lts as lts
+use Rattle.std.proofs.num.wrapping_add_u32.Reads as wrapping-add-u32-reads
+
+abbrev Inv-loop : tie.InvT-loop
+Inv-loop buffer₀ w i₀ buffer i = (i ≤ 64) × (length buffer ≡ 64) × ((k : ℕ) → k < i → getD buffer k 0 ≡ sentWord w k)
+
+abbrev μ-loop : tie.MeasureT-loop
+μ-loop buffer₀ w i₀ buffer i = 64 - i
+
+loop-holds : tie.Need-loop-holds Inv-loop μ-loop
+loop-holds c = (search needs, search needs, below-none _)
+
+cast-wrapping-add-u32 : tie.Need-cast-wrapping-add-u32 Inv-loop μ-loop
+cast-wrapping-add-u32 c = search needs
+
+wrapping-add-u32-requires : tie.Need-wrapping-add-u32-requires Inv-loop μ-loop
+wrapping-add-u32-requires c κs = search needs
+
+mul-buffer : tie.Need-mul-buffer Inv-loop μ-loop
+mul-buffer c = search needs
+
+slice-write-buffer : tie.Need-slice-write-buffer Inv-loop μ-loop
+slice-write-buffer c = search needs
+
+add-i : tie.Need-add-i Inv-loop μ-loop
+add-i c = search needs
+
+loop-less : tie.Need-loop-less Inv-loop μ-loop
+loop-less c = search needs
+
+loop-again : tie.Need-loop-again Inv-loop μ-loop
+loop-again c =
+    let l = c .before .before .loop in (
+      search needs,
+      search needs,
+      below-more _ _ (λ k h. getD-set-other (l .buffer) (l .i) k _ 0 (omega arith) ∙ l .inv .2 k h) (getD-set-same (l .buffer) (l .i) _ 0 (omega arith) ∙ c .wrapping-add-u32 .ensures),
+    )
+
+same-length : tie.Need-same-length Inv-loop μ-loop
+same-length c = search needs
+
+returns : tie.Need-returns Inv-loop μ-loop
+returns c =
+    let l = c .before .loop in
+    let f = sentWord (c .before .before .before .args .w) in
+    ext-getD 0 (l .buffer) _ (l .inv .1 ∙ sym (length-tabulate 64 f)) (λ k h. l .inv .2 k (omega arith) ∙ sym (getD-tabulate 64 f k (omega arith)))
+
+pub count-up-spec : {M : Type 1} → statement M
+count-up-spec =
+    tie.close
+    (tie.spec
+    Inv-loop
+    μ-loop
+    loop-holds
+    cast-wrapping-add-u32
+    wrapping-add-u32-requires
+    mul-buffer
+    slice-write-buffer
+    add-i
+    loop-less
+    loop-again
+    same-length
+    returns)

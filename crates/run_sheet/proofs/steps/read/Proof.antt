@@ -1,0 +1,50 @@
+-- `run_sheet::read` meets its contract.
+use Rattle.run_sheet.proofs.Making.{did, did-with}
+use borrow.Author.Needs.{needs}
+use Rattle.run_sheet.proofs.steps.read.Statement.{statement}
+use Rattle.run_sheet.proofs.steps.read.Tie as tie
+use Rattle.run_sheet.proofs.steps.read.Reads as reads
+use Rattle.run_sheet.proofs.steps.read.Lts as lts
+use Rattle.machine.proofs.read.Reads as read-reads
+use Rattle.run_sheet.proofs.steps.made_of.Reads as made-of-reads
+
+cast-read : tie.Need-cast-read
+cast-read c = search needs
+
+read-requires : tie.Need-read-requires
+read-requires c κs = search needs
+
+made-of-requires : tie.Need-made-of-requires
+made-of-requires c κs = search needs
+
+same-length : tie.Need-same-length
+same-length c = search needs
+
+same-length-2 : tie.Need-same-length-2
+same-length-2 c = search needs
+
+same-length-3 : tie.Need-same-length-3
+same-length-3 c = search needs
+
+same-length-4 : tie.Need-same-length-4
+same-length-4 c = search needs
+
+same-length-5 : tie.Need-same-length-5
+same-length-5 c = search needs
+
+returns : tie.Need-returns
+returns c = let m = c .made-of .ensures in did-with (m .0) (did (c .before .before .before .before .before .before .before .before .before .before .before .read .ensures) (m .1) (m .2))
+
+pub read-spec : {M : Type 1} → statement M
+read-spec =
+    tie.close
+    (tie.spec
+    cast-read
+    read-requires
+    made-of-requires
+    same-length
+    same-length-2
+    same-length-3
+    same-length-4
+    same-length-5
+    returns)

@@ -1,0 +1,256 @@
+// One step of a sheet, made on the machine.
+use crate::Fields;
+use crate::Kind;
+use crate::Made;
+use crate::Shown;
+use crate::format;
+use machine::Loaded;
+use manager::Answer;
+use mapping::MappingList;
+ghost use mathlib.Core.List.{[], _∷_};
+ghost use mathlib.Core.Path.{_≡_};
+ghost use Prim.Native.Nat.{ℕ, _+_, _<_};
+ghost use lib.ListN.{length, replicate};
+ghost use Rattle.board.specs.Board.{board01};
+ghost use Rattle.manager.specs.Answers.{outcome};
+ghost use Rattle.manager.specs.Tables.{tables, tabulate};
+ghost use Rattle.cache.specs.Store.{store};
+ghost use Rattle.machine.specs.Plans.{loaded};
+ghost use Rattle.machine.specs.State as call;
+ghost use Rattle.machine.specs.State.{state};
+ghost use Rattle.run_sheet.specs.Did.{Did};
+ghost use Rattle.run_sheet.specs.Format.{sentWord, kindOf, callOf};
+ghost use Rattle.run_sheet.specs.Text.{shownWord, firstWord};
+
+// The step of these fields.
+pub fn step(
+    list: MappingList,
+    records: &mut [u8],
+    protections: &mut [u8],
+    memory: &mut [u32],
+    words: &mut [u32],
+    tags: &mut [u8],
+    f: Fields,
+) -> Made
+    ensures { λ r. ⌜ Did (state (tables list (now (records .entry)) (now (protections .entry))) (store (now (memory .entry)) (now (words .entry)) (now (tags .entry)))) (callOf board01 (kindOf (f .kind)) f) (state (tables (r .list) (now (records .exit)) (now (protections .exit))) (store (now (memory .exit)) (now (words .exit)) (now (tags .exit)))) (outcome (r .answer)) (shownWord (r .shown)) ⌝ }
+{
+    let kind = format::kind_of(f.kind);
+    match kind {
+        Kind::Read => read(list, records, protections, memory, words, tags, f),
+        Kind::Write => write(list, records, protections, memory, words, tags, f),
+        Kind::DeviceRead => device_read(list, records, protections, memory, words, tags, f),
+        Kind::DeviceWrite => device_write(list, records, protections, memory, words, tags, f),
+        Kind::Evict => evict(list, records, protections, memory, words, tags, f),
+        Kind::Unmap => unmap(list, records, protections, memory, words, tags, f),
+        Kind::Other => unmap(list, records, protections, memory, words, tags, f),
+    }
+}
+
+// The processor reads.
+fn read(
+    list: MappingList,
+    records: &mut [u8],
+    protections: &mut [u8],
+    memory: &mut [u32],
+    words: &mut [u32],
+    tags: &mut [u8],
+    f: Fields,
+) -> Made
+    ensures { λ r. ⌜ Did (state (tables list (now (records .entry)) (now (protections .entry))) (store (now (memory .entry)) (now (words .entry)) (now (tags .entry)))) (call.read (f .s) (f .p) (f .o)) (state (tables (r .list) (now (records .exit)) (now (protections .exit))) (store (now (memory .exit)) (now (words .exit)) (now (tags .exit)))) (outcome (r .answer)) (shownWord (r .shown)) ⌝ }
+{
+    let got = machine::read(
+        list,
+        records,
+        protections,
+        memory,
+        words,
+        tags,
+        f.s,
+        f.p,
+        f.o as usize,
+    );
+    made_of(list, got)
+}
+
+// The processor writes.
+fn write(
+    list: MappingList,
+    records: &mut [u8],
+    protections: &mut [u8],
+    memory: &mut [u32],
+    words: &mut [u32],
+    tags: &mut [u8],
+    f: Fields,
+) -> Made
+    ensures { λ r. ⌜ Did (state (tables list (now (records .entry)) (now (protections .entry))) (store (now (memory .entry)) (now (words .entry)) (now (tags .entry)))) (call.write (f .s) (f .p) (f .o) (f .w)) (state (tables (r .list) (now (records .exit)) (now (protections .exit))) (store (now (memory .exit)) (now (words .exit)) (now (tags .exit)))) (outcome (r .answer)) (shownWord (r .shown)) ⌝ }
+{
+    let answer = machine::write(
+        list,
+        records,
+        protections,
+        memory,
+        words,
+        tags,
+        f.s,
+        f.p,
+        f.o as usize,
+        f.w,
+    );
+    Made {
+        list,
+        answer,
+        shown: Shown::Absent,
+    }
+}
+
+// A device reads a frame, into a buffer of zeros; its first word is shown.
+fn device_read(
+    list: MappingList,
+    records: &mut [u8],
+    protections: &mut [u8],
+    memory: &mut [u32],
+    words: &[u32],
+    tags: &mut [u8],
+    f: Fields,
+) -> Made
+    ensures { λ r. ⌜ Did (state (tables list (now (records .entry)) (now (protections .entry))) (store (now (memory .entry)) (now (words .entry)) (now (tags .entry)))) (call.deviceRead (f .s) (replicate (board01 .pageWords) 0)) (state (tables (r .list) (now (records .exit)) (now (protections .exit))) (store (now (memory .exit)) (now (words .entry)) (now (tags .exit)))) (outcome (r .answer)) (shownWord (r .shown)) ⌝ }
+{
+    let mut buffer = [0u32; 64];
+    let answer = machine::device_read(
+        list,
+        records,
+        protections,
+        memory,
+        words,
+        tags,
+        &mut buffer,
+        f.s,
+    );
+    let shown = first_word(answer, buffer[0]);
+    Made {
+        list,
+        answer,
+        shown,
+    }
+}
+
+// A device writes a frame: w, w + 1 and so on.
+fn device_write(
+    list: MappingList,
+    records: &mut [u8],
+    protections: &mut [u8],
+    memory: &mut [u32],
+    words: &[u32],
+    tags: &mut [u8],
+    f: Fields,
+) -> Made
+    ensures { λ r. ⌜ Did (state (tables list (now (records .entry)) (now (protections .entry))) (store (now (memory .entry)) (now (words .entry)) (now (tags .entry)))) (call.deviceWrite (f .s) (tabulate (board01 .pageWords) (sentWord (f .w)))) (state (tables (r .list) (now (records .exit)) (now (protections .exit))) (store (now (memory .exit)) (now (words .entry)) (now (tags .exit)))) (outcome (r .answer)) (shownWord (r .shown)) ⌝ }
+{
+    let mut buffer = [0u32; 64];
+    count_up(&mut buffer, f.w);
+    let answer = machine::device_write(
+        list,
+        records,
+        protections,
+        memory,
+        words,
+        tags,
+        &buffer,
+        f.s,
+    );
+    Made {
+        list,
+        answer,
+        shown: Shown::Absent,
+    }
+}
+
+// A line is turned out.
+fn evict(
+    list: MappingList,
+    records: &[u8],
+    protections: &mut [u8],
+    memory: &mut [u32],
+    words: &[u32],
+    tags: &mut [u8],
+    f: Fields,
+) -> Made
+    ensures { λ r. ⌜ Did (state (tables list (now (records .entry)) (now (protections .entry))) (store (now (memory .entry)) (now (words .entry)) (now (tags .entry)))) (call.evict (f .s)) (state (tables (r .list) (now (records .entry)) (now (protections .exit))) (store (now (memory .exit)) (now (words .entry)) (now (tags .exit)))) (outcome (r .answer)) (shownWord (r .shown)) ⌝ }
+{
+    let answer = machine::evict(
+        list,
+        records,
+        protections,
+        memory,
+        words,
+        tags,
+        f.s as usize,
+    );
+    Made {
+        list,
+        answer,
+        shown: Shown::Absent,
+    }
+}
+
+// A page loses its frame.
+fn unmap(
+    list: MappingList,
+    records: &[u8],
+    protections: &mut [u8],
+    memory: &[u32],
+    words: &[u32],
+    tags: &[u8],
+    f: Fields,
+) -> Made
+    ensures { λ r. ⌜ Did (state (tables list (now (records .entry)) (now (protections .entry))) (store (now (memory .entry)) (now (words .entry)) (now (tags .entry)))) (call.unmap (f .s) (f .p)) (state (tables (r .list) (now (records .entry)) (now (protections .exit))) (store (now (memory .entry)) (now (words .entry)) (now (tags .entry)))) (outcome (r .answer)) (shownWord (r .shown)) ⌝ }
+{
+    let got = machine::unmap(list, records, protections, memory, words, tags, f.s, f.p);
+    let answer = got.answer;
+    let list = got.list;
+    Made {
+        list,
+        answer,
+        shown: Shown::Absent,
+    }
+}
+
+// What is kept of a read.
+fn made_of(list: MappingList, got: Loaded) -> Made
+    ensures { λ r. ⌜ (r .list ≡ list) × (outcome (r .answer) ≡ loaded got .outcome) × (shownWord (r .shown) ≡ loaded got .word) ⌝ }
+{
+    match got {
+        Loaded::Refused(number) => Made {
+            list,
+            answer: Answer::Refused(number),
+            shown: Shown::Absent,
+        },
+        Loaded::Word(orders, word) => Made {
+            list,
+            answer: Answer::Accepted(orders),
+            shown: Shown::Word(word),
+        },
+    }
+}
+
+// The word of an accepted device read.
+fn first_word(answer: Answer, word: u32) -> Shown
+    ensures { λ r. ⌜ shownWord r ≡ firstWord (outcome answer) (word ∷ []) ⌝ }
+{
+    match answer {
+        Answer::Refused(_) => Shown::Absent,
+        Answer::Accepted(_) => Shown::Word(word),
+    }
+}
+
+// The words w, w + 1 and so on, modulo 2^32.
+fn count_up(buffer: &mut [u32], w: u32)
+    requires { ⌜ length (now buffer) ≡ board01 .pageWords ⌝ }
+    ensures { λ _. ⌜ now (buffer .exit) ≡ tabulate (board01 .pageWords) (sentWord w) ⌝ }
+{
+    let mut i = 0;
+    while i < buffer.len() {
+        buffer[i] = std::num::wrapping_add_u32(w, i as u32);
+        i += 1;
+    }
+}
