@@ -103,10 +103,6 @@ module _ (b : Board) (reg : Regular b) where
       subst (λ (w : ℕ). lineAt b n + b .lineWords ≤ w) (mul-assoc (b .colours) (pageLines b) (b .lineWords) ∙ ap (λ (x : ℕ). b .colours * x) (reg .divides))
       (after n (lines b) (b .lineWords) h)
 
-  pub memoryAt-lt : (f o : ℕ) → f < b .frames → o < b .pageWords → memoryAt b f o < memoryWords b
-  unfolding memoryAt memoryWords
-  memoryAt-lt f o hf ho = digits-lt hf ho
-
   pub frameAt-end : (f : ℕ) → f < b .frames → frameAt b f + b .pageWords ≤ memoryWords b
   unfolding frameAt memoryWords
   frameAt-end f h = after f (b .frames) (b .pageWords) h
@@ -116,22 +112,6 @@ module _ (b : Board) (reg : Regular b) where
   memoryAt-zero f = omega arith
 
   -- a word of memory is of one frame and offset
-  pub memory-frame-lt : (i : ℕ) → i < memoryWords b → i / b .pageWords < b .frames
-  unfolding memoryWords
-  memory-frame-lt i h = div-lt-iff-lt-mul (reg .page-words) .1 h
-
-  pub memoryAt-frame : (f o : ℕ) → o < b .pageWords → memoryAt b f o / b .pageWords ≡ f
-  unfolding memoryAt
-  memoryAt-frame f o h = digits-div f h
-
-  pub memoryAt-offset : (f o : ℕ) → o < b .pageWords → memoryAt b f o % b .pageWords ≡ o
-  unfolding memoryAt
-  memoryAt-offset f o h = digits-mod f h
-
-  pub memoryAt-split : (i : ℕ) → memoryAt b (i / b .pageWords) (i % b .pageWords) ≡ i
-  unfolding memoryAt
-  memoryAt-split i = div-add-mod' i (b .pageWords)
-
   -- ---- the words of a line and of a frame
 
   -- a place in a row of w words is that row's

@@ -16,5 +16,5 @@ pub mod Processor
 pub mod Device
 pub mod Evict
 pub mod Start
-pub mod TurnedOut
+pub mod Evicted
 pub mod Theorem

@@ -16,7 +16,7 @@ use Rattle.consistency.proofs.Map.{map-taken, unmap-taken}
 use Rattle.consistency.proofs.Processor.{read-taken, write-taken}
 use Rattle.consistency.proofs.Refused.{step-cases, accept-accepted}
 use Rattle.consistency.proofs.Start.{start-invariant}
-use Rattle.consistency.proofs.TurnedOut.{all-turned-out}
+use Rattle.consistency.proofs.Evicted.{all-evicted}
 
 module _ (b : Board) (reg : Regular b) where
   -- ---- a call
@@ -56,7 +56,7 @@ module _ (b : Board) (reg : Regular b) where
   holds st m inv calls =
       record {
         finds = all-find st m inv calls;
-        turned-out = all-turned-out b reg (cachelessAfter b st m calls) (stateAfter b st calls) (invariant-after st m inv calls);
+        evicted = all-evicted b reg (cachelessAfter b st m calls) (stateAfter b st calls) (invariant-after st m inv calls);
       }
 
 pub demand3 : Demand3

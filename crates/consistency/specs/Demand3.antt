@@ -63,7 +63,7 @@ abbrev pub cachelessAfter : Board → State → Cacheless → List Call → Cach
 cachelessAfter b st m [] = m
 cachelessAfter b st m (call ∷ calls) = cachelessAfter b (step b st call .after) (after m call (isRefused (step b st call .answer))) calls
 
--- ---- turning out lines
+-- ---- evicting lines, which document 01 calls turning them out
 
 abbrev pub evictions : List ℕ → List Call
 evictions [] = []
@@ -88,7 +88,7 @@ pub record MemoryIs (b : Board) (m : Cacheless) (st : State) : Type 0 where
 
 pub record Holds (b : Board) (st : State) (m : Cacheless) (calls : List Call) : Type 0 where
   pub finds : AllFind b st m calls
-  pub turned-out :
+  pub evicted :
       (ns : List ℕ) → ((n : ℕ) → Occurs n ns → n < lines b) → ((n : ℕ) → n < lines b → Occurs n ns)
       → NoneRefused b (stateAfter b st calls) (evictions ns)
       × MemoryIs b (cachelessAfter b st m calls) (stateAfter b (stateAfter b st calls) (evictions ns))

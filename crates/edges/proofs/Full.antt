@@ -1,8 +1,8 @@
 -- Case 4: lists of 255 and of 256 mappings. That no two of them share a page is shown and not computed.
-use mathlib.Core.Bool.{Bool, true, _&&_}
+use mathlib.Core.Bool.{true, _&&_}
 use mathlib.Core.Logic.{inl, ⊎-elim}
-use mathlib.Core.Path.{_≡_, refl, sym, ap, ap₂, subst⁻¹, _∙_}
-use mathlib.Core.List.{List, [], _∷_}
+use mathlib.Core.Path.{_≡_, refl, sym, ap, subst⁻¹, _∙_}
+use mathlib.Core.List.{[], _∷_}
 use Prim.Native.Nat.{ℕ, zero, suc, _<_, _≤_}
 use Rattle.mapping.proofs.Tests.{lt-or-le}
 use native.Mathlib.Omega.{arith}
@@ -21,22 +21,15 @@ use Rattle.machine.proofs.StepLaws.{step-refused, step-accepted}
 use Rattle.bits.specs.Mask as mask
 use Rattle.board.specs.Board as board
 use Rattle.page_model.specs.Record as frame-record
-use Rattle.page_model.specs.Step as record-step
-use Rattle.mapping.specs.Change as list-change
 use Rattle.mapping.specs.Entry as entry
 use Rattle.mapping.specs.Lookup as list-lookup
-use Rattle.mapping.specs.Rules as list-rules
 use Rattle.manager.specs.Refusals as refusals
 use Rattle.manager.specs.Tables as manager-tables
-use Rattle.cache.specs.Cache as hardware
-use Rattle.cache.specs.Part as part
 use Rattle.cache.specs.Tag as tag
 use Rattle.machine.specs.Refusals as machine-refusals
 use Rattle.machine.specs.Step as machine-step
-use Rattle.run_sheet.specs.Format as format
 use Rattle.run_sheet.specs.Run as run
-use Rattle.run_sheet.specs.Text as text
-use Rattle.edges.specs.Table.{Holds, Seen, answers, roomForOne, freshPair, mappedPair, after, ask, askFrom, pageMapping, itemAt, itemsOf, pagesMapped, listing}
+use Rattle.edges.specs.Table.{Holds, Seen, answers, roomForOne, freshPair, mappedPair, ask, askFrom, pageMapping, itemAt, itemsOf, pagesMapped, listing}
 
 -- ---- what stands where
 

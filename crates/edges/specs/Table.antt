@@ -19,7 +19,7 @@ use Rattle.manager.specs.Calls.{noOps}
 use Rattle.manager.specs.Tables.{tables, tabulate}
 use Rattle.cache.specs.Store.{store}
 use Rattle.cache.specs.Tag.{frameOf, isDirty}
-use Rattle.machine.specs.State.{State, state, Call, map, unmap, read, write, deviceRead, deviceWrite, evict, Answer, Result}
+use Rattle.machine.specs.State.{State, state, Call, map, read, write, deviceWrite, evict, Answer, Result}
 use Rattle.machine.specs.Step.{answer, result, step}
 use Rattle.run_sheet.specs.Run.{start, sheetText}
 

@@ -1,6 +1,6 @@
 -- What every call of the machine is lent, the calls, and their answers.
 use mathlib.Core.List.{List, []}
-use mathlib.Core.Option.{Option, none, some}
+use mathlib.Core.Option.{Option}
 use Prim.Native.Nat.{ℕ}
 use Rattle.manager.specs.Answers.{Outcome}
 use Rattle.manager.specs.Tables.{Tables}

@@ -1,5 +1,5 @@
 -- What each call plans, answers and leaves in the tables. A plan changes nothing; where it is no refusal, a commit carries it out.
-use mathlib.Core.List.{List, []}
+use mathlib.Core.List.{List}
 use Prim.Native.Nat.{ℕ, zero, suc}
 use Rattle.board.specs.Board.{Board, colourOf}
 use Rattle.page_model.specs.declared.FrameRecord.{FrameRecord}

@@ -2,8 +2,8 @@
 pub use Rattle.mapping.proofs.Records.{items-length}
 pub use Rattle.mapping.proofs.Entry.{inRange-true, range-inRange, isZero-true, isZero-zero, isAt-true, maps-isAt, isAt-false, not-isAt}
 pub use Rattle.mapping.proofs.Rules.{keepsRules-true, rules-keepsRules, count-length}
-pub use Rattle.mapping.proofs.Lookups.{lookup-at, at-lookup, lookup-nothing, nothing-lookup, lookup-cases, listed-found, lookup-listed}
-pub use Rattle.mapping.proofs.Lookups.{mappingOf-at, mappingOf-nothing, mappingOf-some, mappingOf-none, mappingOf-listed, mappingOf-unlisted}
+pub use Rattle.mapping.proofs.Lookups.{lookup-at, at-lookup, lookup-nothing, nothing-lookup, lookup-cases, listed-found}
+pub use Rattle.mapping.proofs.Lookups.{mappingOf-at, mappingOf-nothing, mappingOf-listed, mappingOf-unlisted}
 pub use Rattle.mapping.proofs.Change.{empty-count, empty-length, empty-at}
 pub use Rattle.mapping.proofs.Change.{append-full, append-room, append-count, append-length, append-at-same, append-at-other}
 pub use Rattle.mapping.proofs.Change.{remove-unlisted, remove-over, remove-listed, remove-count, remove-length, remove-at-earlier, remove-at-later}

@@ -1,5 +1,5 @@
 -- The laws of lookup: what it says of the list, and what it finds in a list that keeps its rules.
-use mathlib.Core.Path.{_≡_, refl, sym, ap, _∙_}
+use mathlib.Core.Path.{_≡_, sym, ap, _∙_}
 use mathlib.Core.Logic.{_⊎_, inl, inr, ⊎-elim}
 use mathlib.Core.Option.{none, some}
 use Prim.Native.Nat.{ℕ, min, _<_}
@@ -53,22 +53,6 @@ module _ (l : MappingList) (s p : ℕ) where
   unfolding mappingOf
   mappingOf-nothing e = ap (mappingFound l) e
 
-  -- and back: a mapping that there is stands at a listed place, and where there is none nothing is found
-  pub mappingOf-some : (m : Mapping) → mappingOf l s p ≡ some m → (i : ℕ) × FoundAt l s p i × (mappingAt l i ≡ m)
-  mappingOf-some m e = ⊎-elim (λ f. here (f .0) (f .1)) nowhere lookup-cases
-    where
-      here : (i : ℕ) → FoundAt l s p i → (i : ℕ) × FoundAt l s p i × (mappingAt l i ≡ m)
-      here i f = let g = mappingOf-at i (at-lookup i f) in (i, f, cc)
-
-      nowhere : Unlisted l s p → (i : ℕ) × FoundAt l s p i × (mappingAt l i ≡ m)
-      nowhere u = let g = mappingOf-nothing (nothing-lookup u) in let z : _≡_ {A = ℕ} 0 1 = cc in absurd (omega arith)
-
-  pub mappingOf-none : mappingOf l s p ≡ none → lookup l s p ≡ Nothing
-  mappingOf-none e = ⊎-elim (λ f. here (f .0) (f .1)) nothing-lookup lookup-cases
-    where
-      here : (i : ℕ) → FoundAt l s p i → lookup l s p ≡ Nothing
-      here i f = let g = mappingOf-at i (at-lookup i f) in let z : _≡_ {A = ℕ} 0 1 = cc in absurd (omega arith)
-
 -- ---- a list that keeps its rules
 
 module _ (b : Board) (l : MappingList) (rules : Rules b l) where
@@ -82,9 +66,6 @@ module _ (b : Board) (l : MappingList) (rules : Rules b l) where
         maps = m;
         first = λ k j e. let f = rules .distinct k i (omega arith) h (e .0 ∙ sym (m .0), e .1 ∙ sym (m .1)) in omega arith;
       }
-
-  pub lookup-listed : (i : ℕ) → i < l .count → lookup l (mappingAt l i .space) (mappingAt l i .page) ≡ At i
-  lookup-listed i h = at-lookup l _ _ i (listed-found i _ _ h (refl, refl))
 
   pub mappingOf-listed : (i s p : ℕ) → i < l .count → MapsTo (mappingAt l i) s p → mappingOf l s p ≡ some (mappingAt l i)
   mappingOf-listed i s p h m = mappingOf-at l s p i (at-lookup l s p i (listed-found i s p h m))

@@ -7,7 +7,6 @@ use native.Mathlib.Omega.{arith}
 use lib.ListN.{length, take, drop, getD, set, length-append, length-take, take-append-drop}
 use lib.Seq.{take-at, drop-at, drop-drop, set-split, take-suc, length-take-le}
 use Rattle.cache.specs.Part.{overlay}
-use Rattle.cache.proofs.Laws.Part.{length-overlay}
 use Rattle.run_sheet.specs.Put.{Put}
 
 pub overlay-nil : (l : List ℕ) (at : ℕ) → overlay l at [] ≡ l
@@ -52,12 +51,6 @@ put-both {l} {m} {n} {p} {q} {at} {k} {j} h x y =
       next-is = omega (arith, length-append p q);
       short = omega (arith, length-append p q);
     }
-
-pub put-length : {l m p : List ℕ} {at k a : ℕ} → at + a ≤ length l → Put l at p a m k → length m ≡ length l
-put-length {l} {m} {p} {at} h x = ap length (x .written) ∙ length-overlay l at p (omega arith)
-
-pub put-next : {l m p : List ℕ} {at k a : ℕ} → Put l at p a m k → k ≤ at + a
-put-next x = omega arith
 
 pub put-byte : {l : List ℕ} {at : ℕ} (x : ℕ) → at < length l → Put l at (x ∷ []) 1 (set l at x) (at + 1)
 put-byte {l} {at} x h = record { written = set-overlay l at x h; next-is = refl; short = omega arith }

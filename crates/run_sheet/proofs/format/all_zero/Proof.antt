@@ -3,8 +3,6 @@ use borrow.Author.Tests.{eq-eqb, ne-eqb}
 use mathlib.Core.Path.{sym}
 use Rattle.run_sheet.proofs.format.all_zero.Statement.{statement}
 use Rattle.run_sheet.proofs.format.all_zero.Tie as tie
-use Rattle.run_sheet.proofs.format.all_zero.Reads as reads
-use Rattle.run_sheet.proofs.format.all_zero.Lts as lts
 
 returns : tie.Need-returns
 returns c = simp (ne-eqb _ _ (c .if1 .taken))

@@ -6,8 +6,6 @@ use Rattle.run_sheet.specs.Format.{byteAt}
 use borrow.Author.Needs.{needs}
 use Rattle.run_sheet.proofs.format.byte_at.Statement.{statement}
 use Rattle.run_sheet.proofs.format.byte_at.Tie as tie
-use Rattle.run_sheet.proofs.format.byte_at.Reads as reads
-use Rattle.run_sheet.proofs.format.byte_at.Lts as lts
 
 shared-slice-read-result : tie.Need-shared-slice-read-result
 shared-slice-read-result c = search needs

@@ -3,11 +3,6 @@ use Rattle.run_sheet.specs.Format.{fieldsAt}
 use borrow.Author.Needs.{needs}
 use Rattle.run_sheet.proofs.format.fields_at.Statement.{statement}
 use Rattle.run_sheet.proofs.format.fields_at.Tie as tie
-use Rattle.run_sheet.proofs.format.fields_at.Reads as reads
-use Rattle.run_sheet.proofs.format.fields_at.Lts as lts
-use Rattle.run_sheet.proofs.format.byte_at.Reads as byte-at-reads
-use Rattle.run_sheet.proofs.format.four_bytes.Reads as four-bytes-reads
-use Rattle.run_sheet.proofs.format.two_bytes.Reads as two-bytes-reads
 
 byte-at-requires : tie.Need-byte-at-requires
 byte-at-requires c κs = search needs

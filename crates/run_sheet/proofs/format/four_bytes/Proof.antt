@@ -5,9 +5,6 @@ use Rattle.run_sheet.specs.Format.{fourBytes}
 use borrow.Author.Needs.{needs}
 use Rattle.run_sheet.proofs.format.four_bytes.Statement.{statement}
 use Rattle.run_sheet.proofs.format.four_bytes.Tie as tie
-use Rattle.run_sheet.proofs.format.four_bytes.Reads as reads
-use Rattle.run_sheet.proofs.format.four_bytes.Lts as lts
-use Rattle.run_sheet.proofs.format.two_bytes.Reads as two-bytes-reads
 
 two-bytes-requires : tie.Need-two-bytes-requires
 two-bytes-requires c κs = search needs

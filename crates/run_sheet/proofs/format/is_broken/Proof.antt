@@ -10,11 +10,6 @@ use Rattle.run_sheet.proofs.Sheet.{mapping-count, step-count, first-pla
 use borrow.Author.Needs.{needs}
 use Rattle.run_sheet.proofs.format.is_broken.Statement.{statement}
 use Rattle.run_sheet.proofs.format.is_broken.Tie as tie
-use Rattle.run_sheet.proofs.format.is_broken.Reads as reads
-use Rattle.run_sheet.proofs.format.is_broken.Lts as lts
-use Rattle.run_sheet.proofs.format.steps_keep.Reads as steps-keep-reads
-use Rattle.run_sheet.proofs.format.two_bytes.Reads as two-bytes-reads
-use Rattle.run_sheet.proofs.format.wide.Reads as wide-reads
 
 two-bytes-requires : tie.Need-two-bytes-requires
 two-bytes-requires c κs = search needs

@@ -2,9 +2,6 @@
 use borrow.Author.Needs.{needs}
 use Rattle.run_sheet.proofs.format.keeps.Statement.{statement}
 use Rattle.run_sheet.proofs.format.keeps.Tie as tie
-use Rattle.run_sheet.proofs.format.keeps.Reads as reads
-use Rattle.run_sheet.proofs.format.keeps.Lts as lts
-use Rattle.run_sheet.proofs.format.all_zero.Reads as all-zero-reads
 
 enum-told : tie.Need-enum-told
 enum-told c = search needs

@@ -1,10 +1,8 @@
 -- `run_sheet::kind_of` meets its contract.
-use borrow.Author.Tests.{eq-eqb, ne-eqb}
+use borrow.Author.Tests.{ne-eqb}
 use mathlib.Core.Path.{_≡_}
 use Rattle.run_sheet.proofs.format.kind_of.Statement.{statement}
 use Rattle.run_sheet.proofs.format.kind_of.Tie as tie
-use Rattle.run_sheet.proofs.format.kind_of.Reads as reads
-use Rattle.run_sheet.proofs.format.kind_of.Lts as lts
 
 returns : tie.Need-returns
 returns c = let e : c .before .args .n ≡ 1 = c .match .keys1 in rw e

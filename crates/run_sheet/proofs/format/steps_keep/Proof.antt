@@ -12,11 +12,6 @@ use Rattle.run_sheet.specs.Format.{stepKeeps}
 use Rattle.run_sheet.proofs.Sheet.{keeps-at}
 use Rattle.run_sheet.proofs.format.steps_keep.Statement.{statement}
 use Rattle.run_sheet.proofs.format.steps_keep.Tie as tie
-use Rattle.run_sheet.proofs.format.steps_keep.Reads as reads
-use Rattle.run_sheet.proofs.format.steps_keep.Lts as lts
-use Rattle.run_sheet.proofs.format.fields_at.Reads as fields-at-reads
-use Rattle.run_sheet.proofs.format.keeps.Reads as keeps-reads
-use Rattle.run_sheet.proofs.format.kind_of.Reads as kind-of-reads
 
 abbrev Inv-loop : tie.InvT-loop
 Inv-loop sheet first count i₀ i = (i ≤ count) × ((k : ℕ) → k < i → stepKeeps sheet k ≡ true)

@@ -5,9 +5,6 @@ use Rattle.run_sheet.specs.Format.{twoBytes}
 use borrow.Author.Needs.{needs}
 use Rattle.run_sheet.proofs.format.two_bytes.Statement.{statement}
 use Rattle.run_sheet.proofs.format.two_bytes.Tie as tie
-use Rattle.run_sheet.proofs.format.two_bytes.Reads as reads
-use Rattle.run_sheet.proofs.format.two_bytes.Lts as lts
-use Rattle.run_sheet.proofs.format.byte_at.Reads as byte-at-reads
 
 byte-at-requires : tie.Need-byte-at-requires
 byte-at-requires c κs = search needs

@@ -10,9 +10,6 @@ use Rattle.manager.proofs.Laws.{length-tabulate, getD-tabulate}
 use Rattle.run_sheet.specs.Format.{sentWord}
 use Rattle.run_sheet.proofs.steps.count_up.Statement.{statement}
 use Rattle.run_sheet.proofs.steps.count_up.Tie as tie
-use Rattle.run_sheet.proofs.steps.count_up.Reads as reads
-use Rattle.run_sheet.proofs.steps.count_up.Lts as lts
-use Rattle.std.proofs.num.wrapping_add_u32.Reads as wrapping-add-u32-reads
 
 abbrev Inv-loop : tie.InvT-loop
 Inv-loop buffer₀ w i₀ buffer i = (i ≤ 64) × (length buffer ≡ 64) × ((k : ℕ) → k < i → getD buffer k 0 ≡ sentWord w k)

@@ -5,10 +5,6 @@ use Rattle.run_sheet.proofs.Making.{did, first-same}
 use borrow.Author.Needs.{needs}
 use Rattle.run_sheet.proofs.steps.device_read.Statement.{statement}
 use Rattle.run_sheet.proofs.steps.device_read.Tie as tie
-use Rattle.run_sheet.proofs.steps.device_read.Reads as reads
-use Rattle.run_sheet.proofs.steps.device_read.Lts as lts
-use Rattle.machine.proofs.device_read.Reads as device-read-reads
-use Rattle.run_sheet.proofs.steps.first_word.Reads as first-word-reads
 
 slice-aggregate-device-read : tie.Need-slice-aggregate-device-read
 slice-aggregate-device-read c = search needs

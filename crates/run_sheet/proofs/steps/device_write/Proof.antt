@@ -4,10 +4,6 @@ use Rattle.run_sheet.proofs.Making.{did, did-sent}
 use borrow.Author.Needs.{needs}
 use Rattle.run_sheet.proofs.steps.device_write.Statement.{statement}
 use Rattle.run_sheet.proofs.steps.device_write.Tie as tie
-use Rattle.run_sheet.proofs.steps.device_write.Reads as reads
-use Rattle.run_sheet.proofs.steps.device_write.Lts as lts
-use Rattle.machine.proofs.device_write.Reads as device-write-reads
-use Rattle.run_sheet.proofs.steps.count_up.Reads as count-up-reads
 
 slice-aggregate-count-up : tie.Need-slice-aggregate-count-up
 slice-aggregate-count-up c = search needs

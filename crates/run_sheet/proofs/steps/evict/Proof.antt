@@ -4,9 +4,6 @@ use Rattle.run_sheet.proofs.Making.{did}
 use borrow.Author.Needs.{needs}
 use Rattle.run_sheet.proofs.steps.evict.Statement.{statement}
 use Rattle.run_sheet.proofs.steps.evict.Tie as tie
-use Rattle.run_sheet.proofs.steps.evict.Reads as reads
-use Rattle.run_sheet.proofs.steps.evict.Lts as lts
-use Rattle.machine.proofs.evict.Reads as evict-reads
 
 cast-evict : tie.Need-cast-evict
 cast-evict c = search needs

@@ -2,8 +2,6 @@
 use borrow.Author.Needs.{needs}
 use Rattle.run_sheet.proofs.steps.first_word.Statement.{statement}
 use Rattle.run_sheet.proofs.steps.first_word.Tie as tie
-use Rattle.run_sheet.proofs.steps.first_word.Reads as reads
-use Rattle.run_sheet.proofs.steps.first_word.Lts as lts
 
 enum-told : tie.Need-enum-told
 enum-told c = search needs

@@ -3,8 +3,6 @@ use mathlib.Core.Path.{refl}
 use borrow.Author.Needs.{needs}
 use Rattle.run_sheet.proofs.steps.made_of.Statement.{statement}
 use Rattle.run_sheet.proofs.steps.made_of.Tie as tie
-use Rattle.run_sheet.proofs.steps.made_of.Reads as reads
-use Rattle.run_sheet.proofs.steps.made_of.Lts as lts
 
 enum-known-got : tie.Need-enum-known-got
 enum-known-got c = search needs

@@ -3,10 +3,6 @@ use Rattle.run_sheet.proofs.Making.{did, did-with}
 use borrow.Author.Needs.{needs}
 use Rattle.run_sheet.proofs.steps.read.Statement.{statement}
 use Rattle.run_sheet.proofs.steps.read.Tie as tie
-use Rattle.run_sheet.proofs.steps.read.Reads as reads
-use Rattle.run_sheet.proofs.steps.read.Lts as lts
-use Rattle.machine.proofs.read.Reads as read-reads
-use Rattle.run_sheet.proofs.steps.made_of.Reads as made-of-reads
 
 cast-read : tie.Need-cast-read
 cast-read c = search needs

@@ -4,15 +4,6 @@ use Rattle.run_sheet.proofs.Making.{did-kind}
 use borrow.Author.Needs.{needs}
 use Rattle.run_sheet.proofs.steps.step.Statement.{statement}
 use Rattle.run_sheet.proofs.steps.step.Tie as tie
-use Rattle.run_sheet.proofs.steps.step.Reads as reads
-use Rattle.run_sheet.proofs.steps.step.Lts as lts
-use Rattle.run_sheet.proofs.format.kind_of.Reads as kind-of-reads
-use Rattle.run_sheet.proofs.steps.device_read.Reads as device-read-reads
-use Rattle.run_sheet.proofs.steps.device_write.Reads as device-write-reads
-use Rattle.run_sheet.proofs.steps.evict.Reads as evict-reads
-use Rattle.run_sheet.proofs.steps.read.Reads as read-reads
-use Rattle.run_sheet.proofs.steps.unmap.Reads as unmap-reads
-use Rattle.run_sheet.proofs.steps.write.Reads as write-reads
 
 kind-of-requires : tie.Need-kind-of-requires
 kind-of-requires c κs = search needs

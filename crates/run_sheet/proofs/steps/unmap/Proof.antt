@@ -4,9 +4,6 @@ use Rattle.run_sheet.proofs.Making.{did}
 use borrow.Author.Needs.{needs}
 use Rattle.run_sheet.proofs.steps.unmap.Statement.{statement}
 use Rattle.run_sheet.proofs.steps.unmap.Tie as tie
-use Rattle.run_sheet.proofs.steps.unmap.Reads as reads
-use Rattle.run_sheet.proofs.steps.unmap.Lts as lts
-use Rattle.machine.proofs.unmap.Reads as unmap-reads
 
 unmap-requires : tie.Need-unmap-requires
 unmap-requires c κs = search needs

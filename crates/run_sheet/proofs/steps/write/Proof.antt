@@ -4,9 +4,6 @@ use Rattle.run_sheet.proofs.Making.{did}
 use borrow.Author.Needs.{needs}
 use Rattle.run_sheet.proofs.steps.write.Statement.{statement}
 use Rattle.run_sheet.proofs.steps.write.Tie as tie
-use Rattle.run_sheet.proofs.steps.write.Reads as reads
-use Rattle.run_sheet.proofs.steps.write.Lts as lts
-use Rattle.machine.proofs.write.Reads as write-reads
 
 cast-write : tie.Need-cast-write
 cast-write c = search needs

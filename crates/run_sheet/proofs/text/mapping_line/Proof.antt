@@ -6,10 +6,6 @@ use native.Mathlib.Omega.{arith}
 use borrow.Author.Needs.{needs}
 use Rattle.run_sheet.proofs.text.mapping_line.Statement.{statement}
 use Rattle.run_sheet.proofs.text.mapping_line.Tie as tie
-use Rattle.run_sheet.proofs.text.mapping_line.Reads as reads
-use Rattle.run_sheet.proofs.text.mapping_line.Lts as lts
-use Rattle.run_sheet.proofs.text.put_byte.Reads as put-byte-reads
-use Rattle.run_sheet.proofs.text.put_number.Reads as put-number-reads
 
 put-byte-requires : tie.Need-put-byte-requires
 put-byte-requires c κs = search needs

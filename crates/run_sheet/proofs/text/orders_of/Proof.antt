@@ -3,8 +3,6 @@ use mathlib.Core.Path.{refl}
 use borrow.Author.Needs.{needs}
 use Rattle.run_sheet.proofs.text.orders_of.Statement.{statement}
 use Rattle.run_sheet.proofs.text.orders_of.Tie as tie
-use Rattle.run_sheet.proofs.text.orders_of.Reads as reads
-use Rattle.run_sheet.proofs.text.orders_of.Lts as lts
 
 enum-told : tie.Need-enum-told
 enum-told c = search needs

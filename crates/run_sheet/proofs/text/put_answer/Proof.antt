@@ -6,13 +6,6 @@ use Rattle.run_sheet.specs.Text.{answerText}
 use borrow.Author.Needs.{needs}
 use Rattle.run_sheet.proofs.text.put_answer.Statement.{statement}
 use Rattle.run_sheet.proofs.text.put_answer.Tie as tie
-use Rattle.run_sheet.proofs.text.put_answer.Reads as reads
-use Rattle.run_sheet.proofs.text.put_answer.Lts as lts
-use Rattle.run_sheet.proofs.text.number_of.Reads as number-of-reads
-use Rattle.run_sheet.proofs.text.orders_of.Reads as orders-of-reads
-use Rattle.run_sheet.proofs.text.put_byte.Reads as put-byte-reads
-use Rattle.run_sheet.proofs.text.put_number.Reads as put-number-reads
-use Rattle.run_sheet.proofs.text.put_operation.Reads as put-operation-reads
 
 number-of-requires : tie.Need-number-of-requires
 number-of-requires c κs = search needs

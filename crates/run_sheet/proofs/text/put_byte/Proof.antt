@@ -3,8 +3,6 @@ use Rattle.run_sheet.proofs.Written.{put-byte}
 use borrow.Author.Needs.{needs}
 use Rattle.run_sheet.proofs.text.put_byte.Statement.{statement}
 use Rattle.run_sheet.proofs.text.put_byte.Tie as tie
-use Rattle.run_sheet.proofs.text.put_byte.Reads as reads
-use Rattle.run_sheet.proofs.text.put_byte.Lts as lts
 
 slice-write-text : tie.Need-slice-write-text
 slice-write-text c = search needs

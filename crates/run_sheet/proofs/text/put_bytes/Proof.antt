@@ -9,8 +9,6 @@ use native.Mathlib.Omega.{arith}
 use Rattle.run_sheet.proofs.Written.{overlay-nil, write-next}
 use Rattle.run_sheet.proofs.text.put_bytes.Statement.{statement}
 use Rattle.run_sheet.proofs.text.put_bytes.Tie as tie
-use Rattle.run_sheet.proofs.text.put_bytes.Reads as reads
-use Rattle.run_sheet.proofs.text.put_bytes.Lts as lts
 
 abbrev Inv-loop : tie.InvT-loop
 Inv-loop text₀ at from i₀ text i = (i ≤ length from) × (length text ≡ length text₀) × (text ≡ overlay text₀ at (take i from))

@@ -7,10 +7,6 @@ use Rattle.run_sheet.proofs.Digits.{decimal-digits}
 use borrow.Author.Needs.{needs}
 use Rattle.run_sheet.proofs.text.put_number.Statement.{statement}
 use Rattle.run_sheet.proofs.text.put_number.Tie as tie
-use Rattle.run_sheet.proofs.text.put_number.Reads as reads
-use Rattle.run_sheet.proofs.text.put_number.Lts as lts
-use Rattle.io.proofs.decimal.Reads as decimal-reads
-use Rattle.run_sheet.proofs.text.put_bytes.Reads as put-bytes-reads
 
 decimal-requires : tie.Need-decimal-requires
 decimal-requires c κs = search needs

@@ -5,10 +5,6 @@ use Rattle.run_sheet.proofs.Written.{put-as}
 use borrow.Author.Needs.{needs}
 use Rattle.run_sheet.proofs.text.put_operation.Statement.{statement}
 use Rattle.run_sheet.proofs.text.put_operation.Tie as tie
-use Rattle.run_sheet.proofs.text.put_operation.Reads as reads
-use Rattle.run_sheet.proofs.text.put_operation.Lts as lts
-use Rattle.run_sheet.proofs.text.put_byte.Reads as put-byte-reads
-use Rattle.run_sheet.proofs.text.put_order.Reads as put-order-reads
 
 enum-told : tie.Need-enum-told
 enum-told c = search needs

@@ -5,10 +5,6 @@ use Rattle.run_sheet.proofs.Written.{put-both, put-as}
 use borrow.Author.Needs.{needs}
 use Rattle.run_sheet.proofs.text.put_order.Statement.{statement}
 use Rattle.run_sheet.proofs.text.put_order.Tie as tie
-use Rattle.run_sheet.proofs.text.put_order.Reads as reads
-use Rattle.run_sheet.proofs.text.put_order.Lts as lts
-use Rattle.run_sheet.proofs.text.put_byte.Reads as put-byte-reads
-use Rattle.run_sheet.proofs.text.put_number.Reads as put-number-reads
 
 put-byte-requires : tie.Need-put-byte-requires
 put-byte-requires c κs = search needs

@@ -5,10 +5,6 @@ use native.Mathlib.Omega.{arith}
 use borrow.Author.Needs.{needs}
 use Rattle.run_sheet.proofs.text.put_word.Statement.{statement}
 use Rattle.run_sheet.proofs.text.put_word.Tie as tie
-use Rattle.run_sheet.proofs.text.put_word.Reads as reads
-use Rattle.run_sheet.proofs.text.put_word.Lts as lts
-use Rattle.run_sheet.proofs.text.put_byte.Reads as put-byte-reads
-use Rattle.run_sheet.proofs.text.put_number.Reads as put-number-reads
 
 enum-told : tie.Need-enum-told
 enum-told c = search needs

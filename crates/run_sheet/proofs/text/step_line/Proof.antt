@@ -6,12 +6,6 @@ use native.Mathlib.Omega.{arith}
 use borrow.Author.Needs.{needs}
 use Rattle.run_sheet.proofs.text.step_line.Statement.{statement}
 use Rattle.run_sheet.proofs.text.step_line.Tie as tie
-use Rattle.run_sheet.proofs.text.step_line.Reads as reads
-use Rattle.run_sheet.proofs.text.step_line.Lts as lts
-use Rattle.run_sheet.proofs.text.put_answer.Reads as put-answer-reads
-use Rattle.run_sheet.proofs.text.put_byte.Reads as put-byte-reads
-use Rattle.run_sheet.proofs.text.put_number.Reads as put-number-reads
-use Rattle.run_sheet.proofs.text.put_word.Reads as put-word-reads
 
 put-number-requires : tie.Need-put-number-requires
 put-number-requires c κs = search needs

@@ -108,7 +108,7 @@ module _ (b : Board) (reg : Regular b) (m : Cacheless) where
         memory-words = λ f o hf ho. inv .agrees f hf .current .in-memory o ho (λ c hc d. let z = zero (lineOf b c o) (lineOf-lt b reg c o hc ho) in omega arith);
       }
 
-  pub all-turned-out : (st : State) → Invariant b st m → (ns : List ℕ) → Lines ns → ((n : ℕ) → n < lines b → Occurs n ns)
+  pub all-evicted : (st : State) → Invariant b st m → (ns : List ℕ) → Lines ns → ((n : ℕ) → n < lines b → Occurs n ns)
       → NoneRefused b st (evictions ns) × MemoryIs b m (stateAfter b st (evictions ns))
-  all-turned-out st inv ns h every =
+  all-evicted st inv ns h every =
       (none-are-refused st inv ns h, memory-is (stateAfter b st (evictions ns)) (invariant-after st inv ns h) (λ n l. empty-after st inv ns h n (inl (every n l))))
