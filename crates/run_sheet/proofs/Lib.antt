@@ -3,3 +3,4 @@ pub mod Sheet
 pub mod Written
 pub mod Digits
 pub mod Making
+pub mod Running

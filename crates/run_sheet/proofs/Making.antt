@@ -33,10 +33,9 @@ pub first-same : (o : Outcome) (w : ℕ) (l : List ℕ) → w ≡ getD l 0 0 →
 first-same (refused n) w l e = refl
 first-same (accepted f ops) w l e = ap some e
 
--- the same words sent, by another name
-pub did-sent : {st next : State} {frame : ℕ} {b c : List ℕ} {o : Outcome} {w : Option ℕ} → b ≡ c → Did st (deviceWrite frame b) next o w → Did st (deviceWrite frame c) next o w
-did-sent {st = st} {next = next} {frame = frame} {o = o} {w = w} e d = subst (λ (x : List ℕ). Did st (deviceWrite frame x) next o w) e d
+-- the same call, by another name
+pub did-as : {st next : State} {c d : Call} {o : Outcome} {w : Option ℕ} → c ≡ d → Did st c next o w → Did st d next o w
+did-as {st = st} {next = next} {o = o} {w = w} e x = subst (λ (c : Call). Did st c next o w) e x
 
--- the same kind, by another name
 pub did-kind : (f : Fields) {st next : State} {k j : Kind} {o : Outcome} {w : Option ℕ} → k ≡ j → Did st (callOf board01 k f) next o w → Did st (callOf board01 j f) next o w
-did-kind f {st = st} {next = next} {o = o} {w = w} e d = subst (λ (x : Kind). Did st (callOf board01 x f) next o w) e d
+did-kind f e d = did-as (ap (λ (x : Kind). callOf board01 x f) e) d

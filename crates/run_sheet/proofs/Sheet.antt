@@ -1,21 +1,19 @@
 -- The format, in the numbers that the code has in hand: the two counts, and the place of the first step.
-use mathlib.Core.Bool.{Bool, not, _||_}
+use mathlib.Core.Bool.{Bool, true, false, not, _||_, false≢true}
 use mathlib.Core.List.{List}
-use mathlib.Core.Path.{_≡_, ap, ap₂, _∙_}
-use Prim.Native.Nat.{ℕ, _+_, _*_}
+use mathlib.Core.Path.{_≡_, refl, sym, ap, ap₂, _∙_}
+use Prim.Native.Nat.{ℕ, _+_, _*_, _≤_}
 use lib.Dec.{ltb}
 use lib.ListN.{length}
 use native.Mathlib.Omega.{arith}
 use Rattle.bits.specs.Mask.{all}
+use Rattle.board.specs.Board.{board01}
+use borrow.Author.Tests.{ltb-false}
 use Rattle.run_sheet.specs.declared.Fields.{Fields}
 use Rattle.run_sheet.specs.declared.Kind.{Kind}
-use Rattle.run_sheet.specs.Format.{mostMappings, mostSteps, twoBytes, mappingCount, mappingPlace, stepCount, stepPlace, sheetLength, fieldsAt, kindOf, keeps, stepKeeps, isBroken}
+use Rattle.run_sheet.specs.Format.{mostMappings, mostSteps, twoBytes, mappingCount, mappingPlace, stepCount, stepPlace, sheetLength, fieldsAt, kindOf, keeps, stepKeeps, isBroken, callOf, stepCall}
 
 module _ (s : List ℕ) (m : ℕ) where
-  pub mapping-count : m ≡ twoBytes s 0 → m ≡ mappingCount s
-  unfolding mappingCount
-  mapping-count e = e
-
   pub step-count : (n : ℕ) → m ≡ mappingCount s → n ≡ twoBytes s (2 + 5 * m) → n ≡ stepCount s
   unfolding stepCount mappingPlace
   step-count n e d = d ∙ ap (λ (k : ℕ). twoBytes s (2 + 5 * k)) e
@@ -47,3 +45,19 @@ module _ (s : List ℕ) (first i : ℕ) where
   keeps-at f k r e d g h =
       let there : f ≡ fieldsAt s (stepPlace s i) = d ∙ ap (fieldsAt s) (step-place e) in
       h ∙ ap (λ (x : Kind). keeps x f) g ∙ ap (λ (x : Fields). keeps (kindOf (x .kind)) x) there
+
+  pub call-at : (f : Fields) → first ≡ stepPlace s 0 → f ≡ fieldsAt s (first + 9 * i) → callOf board01 (kindOf (f .kind)) f ≡ stepCall board01 s i
+  unfolding stepCall
+  call-at f e d = ap (λ (x : Fields). callOf board01 (kindOf (x .kind)) x) (d ∙ ap (fieldsAt s) (step-place e))
+
+-- ---- an unbroken sheet
+
+or-false : (a b : Bool) → (a || b) ≡ false → (a ≡ false) × (b ≡ false)
+or-false false b e = (refl, e)
+or-false true b e = absurd (false≢true (sym e))
+
+pub counts-fit : (s : List ℕ) → isBroken s ≡ false → (mappingCount s ≤ mostMappings) × (stepCount s ≤ mostSteps)
+unfolding isBroken
+counts-fit s e =
+    let counts = or-false _ _ (or-false _ _ (or-false _ _ (or-false _ _ e .0) .0) .0) in
+    (ltb-false _ _ (counts .0), ltb-false _ _ (counts .1))

@@ -4,3 +4,4 @@ pub mod Text
 pub mod Put
 pub mod Did
 pub mod Run
+pub mod Ran

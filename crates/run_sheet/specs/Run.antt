@@ -30,9 +30,13 @@ start b =
     state (tables empty (replicate (b .frames * recordBytes) 0) (replicate capacity 0))
     (store (replicate (memoryWords b) 0) (replicate (cacheWords b) 0) (replicate (lines b) 0))
 
+-- nothing called yet
+abbrev pub runFrom : State → Run
+runFrom st = record { machine = st; text = []; flushes = 0; purges = 0 }
+
 unfoldable pub startRun : Board → Run
 unfolding start
-startRun b = record { machine = start b; text = []; flushes = 0; purges = 0 }
+startRun b = runFrom (start b)
 
 -- ---- the operations of an answer
 

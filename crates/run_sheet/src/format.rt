@@ -1,32 +1,57 @@
 // The bytes of a sheet: its numbers, a step's fields, and the test of the whole sheet.
 use crate::Fields;
 use crate::Kind;
+use mapping::Mapping;
 ghost use mathlib.Core.Path.{_≡_};
-ghost use Prim.Native.Nat.{_+_, _<_, _≤_};
+ghost use Prim.Native.Nat.{_+_, _*_, _<_, _≤_};
 ghost use Rattle.bits.specs.Mask.{all};
-ghost use Rattle.run_sheet.specs.Format.{byteAt, twoBytes, fourBytes, mappingCount, mostSteps, stepPlace, fieldsAt, kindOf, allZero, keeps, stepKeeps, isBroken};
+ghost use Rattle.machine.specs.State as call;
+ghost use Rattle.run_sheet.specs.Format.{byteAt, twoBytes, fourBytes, mappingCount, stepCount, mappingCall, mostMappings, mostSteps, stepPlace, fieldsAt, kindOf, allZero, keeps, stepKeeps, isBroken};
 
 // Whether the sheet is broken: a count past its limit, bytes too few or too many, another kind, or an unused field not 0.
 pub fn is_broken(sheet: &[u8]) -> bool
     ensures { λ r. ⌜ r ≡ isBroken (now (sheet .entry)) ⌝ }
 {
-    let mappings = wide(two_bytes(sheet, 0));
+    let mappings = mapping_count(sheet);
     if mappings > 256 {
         return true;
     }
-    let at = 2 + 5 * mappings;
-    let steps = wide(two_bytes(sheet, at));
+    let steps = step_count(sheet, mappings);
     if steps > 4096 {
         return true;
     }
-    let length = at + 2 + 9 * steps;
+    let first = first_step(mappings);
+    let length = first + 9 * steps;
     if sheet.len() < length {
         return true;
     }
     if length < sheet.len() {
         return true;
     }
-    !steps_keep(sheet, at + 2, steps)
+    !steps_keep(sheet, first, steps)
+}
+
+// How many mappings the sheet says that it has.
+pub fn mapping_count(sheet: &[u8]) -> usize
+    ensures { λ r. ⌜ r ≡ mappingCount (now (sheet .entry)) ⌝ }
+{
+    two_bytes(sheet, 0) as usize
+}
+
+// How many steps the sheet says that it has.
+pub fn step_count(sheet: &[u8], mappings: usize) -> usize
+    requires { ⌜ (mappings ≡ mappingCount (now sheet)) × (mappings ≤ mostMappings) ⌝ }
+    ensures { λ r. ⌜ r ≡ stepCount (now (sheet .entry)) ⌝ }
+{
+    two_bytes(sheet, 2 + 5 * mappings) as usize
+}
+
+// The place of the first step after that many mappings.
+pub fn first_step(mappings: usize) -> usize
+    requires { ⌜ mappings ≤ mostMappings ⌝ }
+    ensures { λ r. ⌜ r ≡ 2 + 5 * mappings + 2 ⌝ }
+{
+    2 + 5 * mappings + 2
 }
 
 // Whether the first count steps, which start at a place, keep to the format.
@@ -101,6 +126,20 @@ pub fn fields_at(sheet: &[u8], at: usize) -> Fields
     }
 }
 
+// Mapping k.
+pub fn mapping_at(sheet: &[u8], k: usize) -> Mapping
+    requires { ⌜ k < mostMappings ⌝ }
+    ensures { λ r. ⌜ call.map (r .space) (r .page) (r .frame) (r .rights) ≡ mappingCall (now (sheet .entry)) k ⌝ }
+{
+    let at = 2 + 5 * k;
+    Mapping {
+        space: byte_at(sheet, at),
+        page: two_bytes(sheet, at + 1),
+        frame: byte_at(sheet, at + 3),
+        rights: byte_at(sheet, at + 4),
+    }
+}
+
 // The number of four bytes at a place, low byte first.
 pub fn four_bytes(sheet: &[u8], at: usize) -> u32
     requires { ⌜ at < 131072 ⌝ }
@@ -129,10 +168,4 @@ pub fn byte_at(sheet: &[u8], at: usize) -> u8
         return sheet[at];
     }
     0
-}
-
-fn wide(n: u16) -> usize
-    ensures { λ r. ⌜ r ≡ n ⌝ }
-{
-    n as usize
 }

@@ -10,6 +10,7 @@ ghost use Prim.Native.Nat.{_+_, _<_, _≤_};
 ghost use lib.ListN.{length};
 ghost use Rattle.manager.specs.Answers.{operationOn, outcome, numberOf, firstOf, secondOf};
 ghost use Rattle.run_sheet.specs.Put.{Put};
+ghost use Rattle.run_sheet.specs.Run.{flushOf, purgeOf, flushesOf, purgesOf};
 ghost use Rattle.run_sheet.specs.Text.{dot, decimal, operationText, wordText, shownWord, mappingText, answerText, stepText, endLine, refusedLine};
 
 // The line of a mapping.
@@ -50,6 +51,27 @@ pub fn end_line(text: &mut [u8], at: usize, flushes: u64, purges: u64) -> usize
     let f = put_byte(text, e, b' ');
     let g = put_number(text, f, purges);
     put_byte(text, g, b'\n')
+}
+
+// The line of a broken sheet.
+pub fn refused_line(text: &mut [u8], at: usize) -> usize
+    requires { ⌜ at + 160 ≤ length (now text) ⌝ }
+    ensures { λ r. ⌜ Put (now (text .entry)) at refusedLine 160 (now (text .exit)) r ⌝ }
+{
+    let line = [
+        b'r',
+        b'e',
+        b'f',
+        b'u',
+        b's',
+        b'e',
+        b'd',
+        b' ',
+        b'1',
+        b'1',
+        b'\n',
+    ];
+    put_bytes(text, at, &line)
 }
 
 // The refusal's number, or 0, and the two orders.
@@ -93,6 +115,52 @@ pub fn orders_of(answer: Answer) -> FrameOps
             },
         },
         Answer::Accepted(orders) => orders,
+    }
+}
+
+// How many flushes an answer orders.
+pub fn flushes_of(answer: Answer) -> u64
+    ensures { λ r. ⌜ (r ≡ flushesOf (outcome answer)) × (r ≤ 2) ⌝ }
+{
+    let orders = orders_of(answer);
+    let frame = orders.frame;
+    let ops = orders.ops;
+    let first = ops.first;
+    let second = ops.second;
+    flush_of(frame, first) + flush_of(frame, second)
+}
+
+// How many purges an answer orders.
+pub fn purges_of(answer: Answer) -> u64
+    ensures { λ r. ⌜ (r ≡ purgesOf (outcome answer)) × (r ≤ 2) ⌝ }
+{
+    let orders = orders_of(answer);
+    let frame = orders.frame;
+    let ops = orders.ops;
+    let first = ops.first;
+    let second = ops.second;
+    purge_of(frame, first) + purge_of(frame, second)
+}
+
+// 1 for a flush.
+fn flush_of(frame: u8, op: Op) -> u64
+    ensures { λ r. ⌜ (r ≡ flushOf (operationOn frame op)) × (r ≤ 1) ⌝ }
+{
+    match op {
+        Op::None => 0,
+        Op::Flush(_) => 1,
+        Op::Purge(_) => 0,
+    }
+}
+
+// 1 for a purge.
+fn purge_of(frame: u8, op: Op) -> u64
+    ensures { λ r. ⌜ (r ≡ purgeOf (operationOn frame op)) × (r ≤ 1) ⌝ }
+{
+    match op {
+        Op::None => 0,
+        Op::Flush(_) => 0,
+        Op::Purge(_) => 1,
     }
 }
 

@@ -1,6 +1,7 @@
 -- `run_sheet::device_write` meets its contract.
-use mathlib.Core.Path.{refl}
-use Rattle.run_sheet.proofs.Making.{did, did-sent}
+use mathlib.Core.Path.{refl, ap}
+use Rattle.machine.specs.State.{deviceWrite}
+use Rattle.run_sheet.proofs.Making.{did, did-as}
 use borrow.Author.Needs.{needs}
 use Rattle.run_sheet.proofs.steps.device_write.Statement.{statement}
 use Rattle.run_sheet.proofs.steps.device_write.Tie as tie
@@ -30,7 +31,7 @@ same-length-4 : tie.Need-same-length-4
 same-length-4 c = search needs
 
 returns : tie.Need-returns
-returns c = did-sent (c .before .before .before .before .before .before .before .before .before .before .before .before .before .before .before .count-up .ensures) (did (c .before .before .before .before .before .before .before .before .device-write .ensures) refl refl)
+returns c = did-as (ap (deviceWrite (c .before .before .before .before .before .before .before .before .before .before .before .before .before .before .before .before .before .before .before .before .before .before .args .f .s)) (c .before .before .before .before .before .before .before .before .before .before .before .before .before .before .before .count-up .ensures)) (did (c .before .before .before .before .before .before .before .before .device-write .ensures) refl refl)
 
 pub device-write-spec : {M : Type 1} → statement M
 device-write-spec =
