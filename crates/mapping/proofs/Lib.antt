@@ -1,6 +1,7 @@
 -- The laws of the mapping list: Laws has those for callers, the others what leads to them and what the functions' proofs cite.
 pub mod Tests
 pub mod Records
+pub mod Walk
 pub mod Entry
 pub mod Rules
 pub mod First

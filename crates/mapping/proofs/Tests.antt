@@ -1,9 +1,9 @@
--- Tests: a chain of them, the case that one picks, the test of every place, and the order of two numbers.
+-- Tests: a chain of them, the case that one picks, how a branch came out, the test of every place, and the order of two numbers.
 use mathlib.Core.Path.{_≡_, refl, sym, _∙_}
-use mathlib.Core.Bool.{Bool, true, false, cond, _&&_, _||_, false≢true}
+use mathlib.Core.Bool.{Bool, true, false, not, cond, _&&_, _||_, false≢true}
 use mathlib.Core.Logic.{_⊎_, inl, inr}
 use Prim.Native.Nat.{ℕ, _≤_, _<_}
-use lib.Dec.{ltb}
+use lib.Dec.{T as Holds, ltb}
 use borrow.Author.Tests.{ltb-true, ltb-false}
 use Rattle.bits.specs.Mask.{all}
 use Rattle.bits.proofs.Mask.{all-at}
@@ -31,6 +31,15 @@ cond-true t x y e = simp e
 
 pub cond-false : {A : Type 0} (t : Bool) (x y : A) → t ≡ false → cond t x y ≡ y
 cond-false t x y e = simp e
+
+-- how a branch came out
+pub branch-true : (t : Bool) → Holds t → t ≡ true
+branch-true true h = refl
+branch-true false h = absurd h
+
+pub branch-false : (t : Bool) → Holds (not t) → t ≡ false
+branch-false true h = absurd h
+branch-false false h = refl
 
 -- one place that fails makes the test of all fail
 pub all-not : (n : ℕ) (p : ℕ → Bool) (k : ℕ) → k < n → p k ≡ false → all n p ≡ false

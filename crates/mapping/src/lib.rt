@@ -1,4 +1,6 @@
 // The mapping list: which frame stands behind a page of a space, and with which rights.
+pub mod lent;
+
 ghost use mathlib.Core.Path.{_≡_};
 ghost use Prim.Native.Nat.{_<_, _≤_};
 ghost use Rattle.board.specs.Board.{board01};
