@@ -1,0 +1,340 @@
+//! Random run sheets: of every size, with refusals of every sort, with many pages for few frames,
+//! and some of them damaged.
+
+use crate::damage::Damage;
+use crate::random::Random;
+
+pub const MAPPINGS: usize = 256;
+pub const STEPS: usize = 4096;
+const SPACES: usize = 16;
+const PAGES: usize = 1024;
+const FRAMES: usize = 64;
+const OFFSETS: usize = 64;
+const LINES: usize = 64;
+const COLOURS: usize = 8;
+const LINE_WORDS: usize = 8;
+
+/// The kinds of step, by the numbers of document 01.
+pub const READ: u8 = 1;
+pub const WRITE: u8 = 2;
+pub const DEVICE_READ: u8 = 3;
+pub const DEVICE_WRITE: u8 = 4;
+pub const EVICT: u8 = 5;
+pub const UNMAP: u8 = 6;
+
+pub type Mapping = [u8; 5];
+pub type Step = [u8; 9];
+
+/// The records of a sheet.
+#[derive(Default)]
+pub struct Sheet {
+    pub mappings: Vec<Mapping>,
+    pub steps: Vec<Step>,
+}
+
+impl Sheet {
+    pub fn encode(&self) -> Vec<u8> {
+        let mut bytes = (self.mappings.len() as u16).to_le_bytes().to_vec();
+        bytes.extend(self.mappings.concat());
+        bytes.extend((self.steps.len() as u16).to_le_bytes());
+        bytes.extend(self.steps.concat());
+        bytes
+    }
+}
+
+/// The bytes of one random sheet, and how it was damaged, if it was.
+pub fn sheet(seed: u64, number: u64) -> (Vec<u8>, Option<Damage>) {
+    let mut random = Random::new(seed, number);
+    let plan = Plan::random(&mut random);
+    let sheet = Maker::make(&mut random, plan);
+    if random.chance(8) {
+        let damage = Damage::random(&mut random);
+        (damage.apply(&mut random, sheet), Some(damage))
+    } else {
+        (sheet.encode(), None)
+    }
+}
+
+/// A sheet to measure with: this many mappings, and as many steps as a sheet may have, of all kinds
+/// but unmap. Nothing is refused.
+pub fn accepted_sheet(seed: u64, mappings: usize) -> Vec<u8> {
+    let mut random = Random::new(seed, mappings as u64);
+    let plan = Plan {
+        mappings,
+        steps: STEPS,
+        spaces: (0..SPACES).collect(),
+        pages: (0..PAGES).collect(),
+        frames: random.some(mappings.min(16), FRAMES),
+        offsets: (0..OFFSETS).collect(),
+        read_only: 0,
+        bad: 0,
+        weights: [45, 35, 6, 6, 8, 0],
+    };
+    Maker::make(&mut random, plan).encode()
+}
+
+/// What a sheet's numbers are drawn from.
+struct Plan {
+    mappings: usize,
+    steps: usize,
+    spaces: Vec<usize>,
+    pages: Vec<usize>,
+    frames: Vec<usize>,
+    offsets: Vec<usize>,
+    /// How many of 100 mappings may not be written through.
+    read_only: usize,
+    /// How many of 100 calls are to be refused.
+    bad: usize,
+    /// How often each kind of step comes, from kind 1.
+    weights: [usize; 6],
+}
+
+impl Plan {
+    fn random(random: &mut Random) -> Self {
+        let (mappings, steps) = match random.below(1000) {
+            0..300 => (random.below(4), random.below(11)),
+            300..800 => (1 + random.below(16), 1 + random.below(64)),
+            800..950 => (1 + random.below(64), 1 + random.below(300)),
+            950..980 => (MAPPINGS, random.below(65)),
+            980..990 => (1 + random.below(32), STEPS - random.pick(&[0, 1, 1000])),
+            _ => (MAPPINGS, STEPS),
+        };
+        let crowded = mappings > 16;
+        let spaces = if crowded {
+            16
+        } else {
+            random.pick(&[1, 2, 16])
+        };
+        let pages = if crowded {
+            64
+        } else {
+            random.pick(&[2, 9, 24])
+        };
+        let first_page = random.pick(&[0, 3, 512, PAGES - pages]);
+        let frames = random.pick(&[1, 1, 2, 3, 8, FRAMES]);
+        let offsets = random.pick(&[2, 8, OFFSETS]);
+        Self {
+            mappings,
+            steps,
+            spaces: random.some(spaces, SPACES),
+            pages: (first_page..first_page + pages).collect(),
+            frames: random.some(frames, FRAMES),
+            offsets: random.some(offsets, OFFSETS),
+            read_only: random.pick(&[0, 10, 30]),
+            bad: random.pick(&[0, 0, 5, 30]),
+            weights: random.pick(&[
+                [40, 40, 6, 6, 7, 1],
+                [20, 20, 25, 25, 8, 2],
+                [30, 30, 4, 4, 30, 2],
+                [30, 30, 8, 8, 4, 20],
+                [10, 60, 5, 15, 10, 0],
+            ]),
+        }
+    }
+}
+
+/// A mapping that the sheet's calls so far leave in the list.
+#[derive(Clone, Copy, PartialEq, Eq)]
+struct Place {
+    space: u8,
+    page: u16,
+}
+
+struct Maker<'a> {
+    random: &'a mut Random,
+    plan: Plan,
+    mapped: Vec<Place>,
+    unmapped: Vec<Place>,
+}
+
+impl<'a> Maker<'a> {
+    fn make(random: &'a mut Random, plan: Plan) -> Sheet {
+        let (mappings, steps) = (plan.mappings, plan.steps);
+        let mut maker = Maker {
+            random,
+            plan,
+            mapped: Vec::new(),
+            unmapped: Vec::new(),
+        };
+        Sheet {
+            mappings: (0..mappings).map(|_| maker.mapping()).collect(),
+            steps: (0..steps).map(|_| maker.step()).collect(),
+        }
+    }
+
+    fn mapping(&mut self) -> Mapping {
+        let [bad_place, bad_frame, bad_rights, twice] = self.faults();
+        let mut place = match self.mapped.as_slice() {
+            [] => self.place(),
+            mapped if twice => self.random.pick(mapped),
+            _ => self.fresh_place(),
+        };
+        let mut frame = self.random.pick(&self.plan.frames) as u8;
+        let read_only = self.random.chance(self.plan.read_only);
+        let mut rights = if read_only { 1 } else { 2 };
+        if bad_place {
+            place = self.beyond(place);
+        }
+        if bad_frame {
+            frame = self.random.pick(&[64, 65, 127, 128, 192, 255]);
+        }
+        if bad_rights {
+            rights = self.random.pick(&[0, 3, 4, 255]);
+        }
+        if !(bad_place || bad_frame || bad_rights || self.mapped.contains(&place)) {
+            self.mapped.push(place);
+        }
+        let [low, high] = place.page.to_le_bytes();
+        [place.space, low, high, frame, rights]
+    }
+
+    fn step(&mut self) -> Step {
+        let mut kind = 1 + self.random.weighted(&self.plan.weights) as u8;
+        if kind == UNMAP && self.long() && 2 * self.mapped.len() <= self.plan.mappings {
+            kind = READ;
+        }
+        let word = self.word();
+        match kind {
+            READ | WRITE => {
+                let (place, offset) = self.word_place();
+                let word = if kind == WRITE { word } else { 0 };
+                encode(kind, place.space, place.page, offset, word)
+            }
+            DEVICE_READ => encode(kind, self.frame(), 0, 0, 0),
+            DEVICE_WRITE => encode(kind, self.frame(), 0, 0, word),
+            EVICT => encode(kind, self.line(), 0, 0, 0),
+            _ => {
+                let place = self.leaving_place();
+                encode(kind, place.space, place.page, 0, 0)
+            }
+        }
+    }
+
+    /// Whether unmaps would soon leave the sheet nothing to do: it keeps half its mappings.
+    fn long(&self) -> bool {
+        self.plan.steps > 4 * self.plan.mappings
+    }
+
+    /// The page and offset of a read or write: mapped, unless it is to be refused.
+    fn word_place(&mut self) -> (Place, u8) {
+        let [bad_place, bad_offset, not_mapped, _] = self.faults();
+        let mut place = match self.mapped.as_slice() {
+            mapped @ [_, ..] if !not_mapped => self.random.pick(mapped),
+            _ => self.absent_place(),
+        };
+        if bad_place {
+            place = self.beyond(place);
+        }
+        let offset = if bad_offset {
+            self.random.pick(&[64, 65, 72, 128, 255])
+        } else {
+            self.random.pick(&self.plan.offsets) as u8
+        };
+        (place, offset)
+    }
+
+    /// The page of an unmap: mapped, unless it is to be refused.
+    fn leaving_place(&mut self) -> Place {
+        let [bad_place, not_mapped, ..] = self.faults();
+        if not_mapped || self.mapped.is_empty() {
+            let place = self.absent_place();
+            return if bad_place { self.beyond(place) } else { place };
+        }
+        let leaving = self.random.below(self.mapped.len());
+        if bad_place {
+            return self.beyond(self.mapped[leaving]);
+        }
+        let place = self.mapped.remove(leaving);
+        self.unmapped.push(place);
+        place
+    }
+
+    fn frame(&mut self) -> u8 {
+        let [bad, ..] = self.faults();
+        match self.random.below(8) {
+            _ if bad => self.random.pick(&[64, 65, 127, 128, 192, 255]),
+            0 => self.random.below(FRAMES) as u8,
+            _ => self.random.pick(&self.plan.frames) as u8,
+        }
+    }
+
+    fn line(&mut self) -> u8 {
+        let [bad, ..] = self.faults();
+        match self.mapped.as_slice() {
+            _ if bad => self.random.pick(&[64, 65, 127, 128, 192, 255]),
+            mapped @ [_, ..] if self.random.chance(70) => {
+                let colour = usize::from(self.random.pick(mapped).page) % COLOURS;
+                let offset = self.random.pick(&self.plan.offsets);
+                (colour * LINES / COLOURS + offset / LINE_WORDS) as u8
+            }
+            _ => self.random.below(LINES) as u8,
+        }
+    }
+
+    fn word(&mut self) -> u32 {
+        match self.random.below(4) {
+            0 => self.random.below(100) as u32,
+            1 => self
+                .random
+                .pick(&[0, 1, 255, 256, 1 << 31, u32::MAX - 63, u32::MAX]),
+            _ => self.random.draw() as u32,
+        }
+    }
+
+    /// Which of four faults a call has: some at least if it is to be refused, else none.
+    fn faults(&mut self) -> [bool; 4] {
+        let set = if self.random.chance(self.plan.bad) {
+            1 + self.random.below(15)
+        } else {
+            0
+        };
+        [1, 2, 4, 8].map(|bit| set & bit != 0)
+    }
+
+    fn place(&mut self) -> Place {
+        Place {
+            space: self.random.pick(&self.plan.spaces) as u8,
+            page: self.random.pick(&self.plan.pages) as u16,
+        }
+    }
+
+    /// A page that is not mapped, if one is soon found.
+    fn fresh_place(&mut self) -> Place {
+        let mut place = self.place();
+        for _ in 0..20 {
+            if !self.mapped.contains(&place) {
+                break;
+            }
+            place = self.place();
+        }
+        place
+    }
+
+    /// A page that was unmapped or, more or less surely, never mapped.
+    fn absent_place(&mut self) -> Place {
+        if self.unmapped.is_empty() || self.random.chance(30) {
+            self.fresh_place()
+        } else {
+            self.random.pick(&self.unmapped)
+        }
+    }
+
+    /// The place with its space, its page or both past their limits, often by the limit itself.
+    fn beyond(&mut self, place: Place) -> Place {
+        let Place { space, page } = place;
+        let past_space = self.random.pick(&[16, 255, space + 16, space | 0x80]);
+        let past_page = self.random.pick(&[1024, 65535, page + 1024, page | 0x8000]);
+        let (space, page) = self.random.pick(&[
+            (past_space, page),
+            (space, past_page),
+            (past_space, past_page),
+        ]);
+        Place { space, page }
+    }
+}
+
+fn encode(kind: u8, s: u8, p: u16, o: u8, w: u32) -> Step {
+    let [p0, p1] = p.to_le_bytes();
+    let [w0, w1, w2, w3] = w.to_le_bytes();
+    [kind, s, p0, p1, o, w0, w1, w2, w3]
+}

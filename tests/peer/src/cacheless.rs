@@ -1,0 +1,66 @@
+//! The cacheless memory: what every accepted read must find. It is fed the accepted calls alone and
+//! shares nothing with the machine.
+
+use crate::board::{PageWords, FRAMES, PAGES, PAGE_WORDS, SPACES};
+use crate::call::{sent, Call, Found};
+
+pub struct Cacheless {
+    words: [PageWords; FRAMES],
+    frames: Vec<[Option<u8>; PAGES]>,
+}
+
+/// Memory all 0 and nothing mapped.
+impl Default for Cacheless {
+    fn default() -> Self {
+        Self {
+            words: [[0; PAGE_WORDS]; FRAMES],
+            frames: vec![[None; PAGES]; SPACES],
+        }
+    }
+}
+
+impl Cacheless {
+    /// Follows an accepted call and says what it finds. A call through a page with no frame, which
+    /// no right machine accepts, finds and changes nothing.
+    pub fn follow(&mut self, call: Call) -> Found {
+        match call {
+            Call::Map {
+                space, page, frame, ..
+            } => *self.frame(space, page) = Some(frame),
+            Call::Unmap { space, page } => *self.frame(space, page) = None,
+            Call::Read {
+                space,
+                page,
+                offset,
+            } => {
+                if let Some(frame) = *self.frame(space, page) {
+                    return Found::Word(self.words[usize::from(frame)][usize::from(offset)]);
+                }
+            }
+            Call::Write {
+                space,
+                page,
+                offset,
+                word,
+            } => {
+                if let Some(frame) = *self.frame(space, page) {
+                    self.words[usize::from(frame)][usize::from(offset)] = word;
+                }
+            }
+            Call::DeviceRead { frame } => {
+                return Found::Page(Box::new(self.words[usize::from(frame)]))
+            }
+            Call::DeviceWrite { frame, first } => self.words[usize::from(frame)] = sent(first),
+            Call::Evict { .. } => {}
+        }
+        Found::Nothing
+    }
+
+    pub fn words(&self) -> &[PageWords; FRAMES] {
+        &self.words
+    }
+
+    fn frame(&mut self, space: u8, page: u16) -> &mut Option<u8> {
+        &mut self.frames[usize::from(space)][usize::from(page)]
+    }
+}

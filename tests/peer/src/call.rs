@@ -1,0 +1,85 @@
+//! A call of the machine and its answer.
+
+use crate::board::{Colour, Frame, PageWords};
+use crate::Refusal;
+use std::fmt;
+
+/// One call, with its numbers as the caller gives them: nothing of them is tested yet.
+#[derive(Clone, Copy, Debug, PartialEq, Eq)]
+pub enum Call {
+    Map {
+        space: u8,
+        page: u16,
+        frame: u8,
+        rights: u8,
+    },
+    Read {
+        space: u8,
+        page: u16,
+        offset: u8,
+    },
+    Write {
+        space: u8,
+        page: u16,
+        offset: u8,
+        word: u32,
+    },
+    DeviceRead {
+        frame: u8,
+    },
+    /// The device sends `first`, `first` + 1, and so on.
+    DeviceWrite {
+        frame: u8,
+        first: u32,
+    },
+    /// Document 01's "turning out".
+    Evict {
+        line: u8,
+    },
+    Unmap {
+        space: u8,
+        page: u16,
+    },
+}
+
+/// The words that a device write sends.
+pub fn sent(first: u32) -> PageWords {
+    std::array::from_fn(|k| first.wrapping_add(k as u32))
+}
+
+/// What the manager has the cache do (document 01's "order").
+#[derive(Clone, Copy, Debug, PartialEq, Eq)]
+pub enum Operation {
+    Flush(Frame, Colour),
+    Purge(Frame, Colour),
+}
+
+impl fmt::Display for Operation {
+    fn fmt(&self, f: &mut fmt::Formatter) -> fmt::Result {
+        let (letter, frame, colour) = match self {
+            Self::Flush(frame, colour) => ('F', frame, colour),
+            Self::Purge(frame, colour) => ('P', frame, colour),
+        };
+        write!(f, "{letter}{}.{}", frame.index(), colour.index())
+    }
+}
+
+/// The operations of one call, in order.
+pub type Operations = [Option<Operation>; 2];
+
+/// What a call read.
+#[derive(Clone, Debug, Default, PartialEq, Eq)]
+pub enum Found {
+    #[default]
+    Nothing,
+    Word(u32),
+    Page(Box<PageWords>),
+}
+
+#[derive(Clone, Debug, Default, PartialEq, Eq)]
+pub struct Accepted {
+    pub operations: Operations,
+    pub found: Found,
+}
+
+pub type Answer = Result<Accepted, Refusal>;

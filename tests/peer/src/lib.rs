@@ -1,0 +1,143 @@
+//! Runs a run sheet as document 01 describes, on a machine written from that document alone, with a
+//! cacheless memory beside it that every accepted read and the memory at the end must equal.
+
+pub mod board;
+pub mod cacheless;
+pub mod call;
+pub mod hardware;
+pub mod machine;
+pub mod manager;
+pub mod record;
+mod refusal;
+pub mod sheet;
+mod text;
+
+pub use refusal::Refusal;
+
+use board::{Frame, Line};
+use cacheless::Cacheless;
+use call::{Answer, Call};
+use machine::Machine;
+use sheet::Sheet;
+use text::Text;
+
+/// The text of a sheet. Panics where the machine and the cacheless memory differ.
+pub fn run(sheet: &[u8]) -> Vec<u8> {
+    try_run(sheet).unwrap_or_else(|difference| panic!("{difference}"))
+}
+
+/// The text of a sheet, or how the machine and the cacheless memory differ.
+pub fn try_run(sheet: &[u8]) -> Result<Vec<u8>, String> {
+    let Ok(sheet) = Sheet::parse(sheet) else {
+        return Ok(text::broken());
+    };
+    let mut pair = Pair::default();
+    let mut text = Text::default();
+    for (k, &mapping) in sheet.mappings.iter().enumerate() {
+        text.mapping(k, pair.call(mapping)?);
+    }
+    for (k, &step) in sheet.steps.iter().enumerate() {
+        text.step(k, pair.call(step).map_err(|e| format!("step {k}: {e}"))?);
+    }
+    pair.settle()?;
+    Ok(text.end())
+}
+
+/// The machine, and the memory that it must look like.
+#[derive(Default)]
+struct Pair {
+    machine: Machine,
+    cacheless: Cacheless,
+}
+
+impl Pair {
+    fn call(&mut self, call: Call) -> Result<Answer, String> {
+        let answer = self.machine.call(call);
+        if let Ok(accepted) = &answer {
+            let right = self.cacheless.follow(call);
+            let found = &accepted.found;
+            if *found != right {
+                return Err(format!("{call:?} found {found:?} and not {right:?}"));
+            }
+        }
+        Ok(answer)
+    }
+
+    /// Evicts every line of a copy and compares the two memories.
+    fn settle(&self) -> Result<(), String> {
+        let mut hardware = self.machine.hardware.clone();
+        Line::all().for_each(|line| hardware.evict(line));
+        for (frame, right) in Frame::all().zip(self.cacheless.words()) {
+            let found = hardware.page(frame);
+            if found != right {
+                return Err(format!(
+                    "at the end {frame:?} is {found:?} and not {right:?}"
+                ));
+            }
+        }
+        Ok(())
+    }
+}
+
+#[cfg(test)]
+mod tests {
+    use super::*;
+
+    /// A pair with frame 0 mapped at page 0 and word 5 written at offset 0.
+    fn written() -> Pair {
+        let mut pair = Pair::default();
+        let (space, page) = (0, 0);
+        let calls = [
+            Call::Map {
+                space,
+                page,
+                frame: 0,
+                rights: 2,
+            },
+            Call::Write {
+                space,
+                page,
+                offset: 0,
+                word: 5,
+            },
+        ];
+        for call in calls {
+            pair.call(call).unwrap().unwrap();
+        }
+        pair
+    }
+
+    /// Changes a word of memory behind the machine's back.
+    fn tamper(pair: &mut Pair, offset: usize) {
+        let frame = Frame::new(0).unwrap();
+        pair.machine.hardware.page_mut(frame)[offset] += 1;
+    }
+
+    #[test]
+    fn a_wrong_read_is_caught() {
+        let read = Call::Read {
+            space: 0,
+            page: 0,
+            offset: 8,
+        };
+        assert!(written().call(read).is_ok());
+        let mut pair = written();
+        tamper(&mut pair, 8);
+        assert!(pair.call(read).is_err());
+    }
+
+    #[test]
+    fn a_wrong_word_of_a_transfer_is_caught() {
+        let mut pair = written();
+        tamper(&mut pair, 63);
+        assert!(pair.call(Call::DeviceRead { frame: 0 }).is_err());
+    }
+
+    #[test]
+    fn a_wrong_memory_at_the_end_is_caught() {
+        assert!(written().settle().is_ok());
+        let mut pair = written();
+        tamper(&mut pair, 63);
+        assert!(pair.settle().is_err());
+    }
+}

@@ -1,0 +1,131 @@
+//! Document 01, "The run sheet": its example, and what breaks a sheet.
+
+const EXAMPLE: &str = "02 00  00 00 00 03 02  01 09 00 03 01  06 00  01 01 09 00 00 00 00 00 00
+    02 00 00 00 00 11 00 00 00  01 01 09 00 00 00 00 00 00  04 03 00 00 00 28 00 00 00
+    01 01 09 00 02 00 00 00 00  02 01 09 00 00 05 00 00 00";
+
+const EXAMPLE_TEXT: &str = "\
+m0 0
+m1 0
+0 0 - - 0
+1 0 - - -
+2 0 F3.0 P3.1 17
+3 0 - - -
+4 0 P3.1 - 42
+5 10 - - -
+end 1 2
+";
+
+fn bytes(hexadecimal: &str) -> Vec<u8> {
+    hexadecimal
+        .split_whitespace()
+        .map(|byte| u8::from_str_radix(byte, 16).unwrap())
+        .collect()
+}
+
+fn text(sheet: &[u8]) -> String {
+    String::from_utf8(peer::run(sheet)).unwrap()
+}
+
+/// The text of a sheet with no mapping and one step.
+fn one_step(step: &str) -> String {
+    text(&bytes(&format!("00 00 01 00 {step}")))
+}
+
+const BROKEN: &str = "refused 11\n";
+
+#[test]
+fn example() {
+    assert_eq!(text(&bytes(EXAMPLE)), EXAMPLE_TEXT);
+}
+
+#[test]
+fn nothing_to_do() {
+    assert_eq!(text(&[0, 0, 0, 0]), "end 0 0\n");
+}
+
+#[test]
+fn every_shorter_or_longer_sheet_is_broken() {
+    let mut sheet = bytes(EXAMPLE);
+    for end in 0..sheet.len() {
+        assert_eq!(text(&sheet[..end]), BROKEN, "cut at {end}");
+    }
+    sheet.push(0);
+    assert_eq!(text(&sheet), BROKEN);
+}
+
+#[test]
+fn counts_past_their_limits_are_broken() {
+    let mappings = |count: u16| {
+        let mut sheet = count.to_le_bytes().to_vec();
+        sheet.resize(2 + 5 * usize::from(count), 0);
+        sheet.extend([0, 0]);
+        text(&sheet)
+    };
+    assert_ne!(mappings(256), BROKEN);
+    assert_eq!(mappings(257), BROKEN);
+
+    let steps = |count: u16| {
+        let mut sheet = vec![0, 0];
+        sheet.extend(count.to_le_bytes());
+        sheet.extend([5, 0, 0, 0, 0, 0, 0, 0, 0].repeat(count.into()));
+        text(&sheet)
+    };
+    assert_ne!(steps(4096), BROKEN);
+    assert_eq!(steps(4097), BROKEN);
+}
+
+#[test]
+fn kinds_and_unused_fields() {
+    for kind in [0, 7, 0x80, 0xff] {
+        assert_eq!(
+            one_step(&format!("{kind:02x} 00 00 00 00 00 00 00 00")),
+            BROKEN
+        );
+    }
+    // For each kind, the bytes after it that may be other than 0.
+    let used: [&[usize]; 6] = [
+        &[1, 2, 3, 4],
+        &[1, 2, 3, 4, 5, 6, 7, 8],
+        &[1],
+        &[1, 5, 6, 7, 8],
+        &[1],
+        &[1, 2, 3],
+    ];
+    for (kind, used) in (1..).zip(used) {
+        for field in 1..9 {
+            let mut sheet = vec![0, 0, 1, 0, kind, 0, 0, 0, 0, 0, 0, 0, 0];
+            sheet[4 + field] = 1;
+            let broken = text(&sheet) == BROKEN;
+            assert_eq!(broken, !used.contains(&field), "kind {kind}, byte {field}");
+        }
+    }
+}
+
+#[test]
+fn refused_steps() {
+    assert_eq!(
+        one_step("01 10 00 00 00 00 00 00 00"),
+        "0 3 - - -\nend 0 0\n"
+    );
+    assert_eq!(
+        one_step("03 40 00 00 00 00 00 00 00"),
+        "0 4 - - -\nend 0 0\n"
+    );
+    assert_eq!(
+        one_step("05 40 00 00 00 00 00 00 00"),
+        "0 6 - - -\nend 0 0\n"
+    );
+    assert_eq!(
+        one_step("06 00 00 00 00 00 00 00 00"),
+        "0 8 - - -\nend 0 0\n"
+    );
+}
+
+#[test]
+fn device_words_wrap() {
+    let sheet = "01 00  00 00 00 00 01  03 00  04 00 00 00 00 ff ff ff ff
+        01 00 00 00 01 00 00 00 00  03 00 00 00 00 00 00 00 00";
+    let wrapped = "m0 0\n0 0 - - -\n1 0 - - 0\n2 0 - - 4294967295\nend 0 0\n";
+    assert_eq!(text(&bytes(sheet)), wrapped);
+}
