@@ -2,10 +2,10 @@
 pub mod lent;
 
 ghost use mathlib.Core.Path.{_≡_};
-ghost use Prim.Native.Nat.{_<_, _≤_};
+ghost use Prim.Native.Nat.{_≤_};
 ghost use Rattle.board.specs.Board.{board01};
 ghost use Rattle.mapping.specs.Entry.{capacity, zeroMapping, inRange, isZero, isAt, mappingAt};
-ghost use Rattle.mapping.specs.Rules.{allInRange, fresh, noDoubles, restZero, keepsRules};
+ghost use Rattle.mapping.specs.Rules.{allInRange, noDoubles, restZero, keepsRules};
 ghost use Rattle.mapping.specs.Lookup.{lookup};
 ghost use Rattle.mapping.specs.Change.{empty, append, remove};
 
@@ -206,27 +206,16 @@ fn no_doubles(list: MappingList) -> bool
 {
     let mut i = 0;
     while i < list.count {
-        if !fresh(list, i) {
-            return false;
+        let m = list.items[i];
+        let mut j = 0;
+        while j < i {
+            let earlier = list.items[j];
+            if earlier.is_at(m.space, m.page) {
+                return false;
+            }
+            j += 1;
         }
         i += 1;
-    }
-    true
-}
-
-// Whether no place before i has the space and page of place i.
-fn fresh(list: MappingList, i: usize) -> bool
-    requires { ⌜ i < capacity ⌝ }
-    ensures { λ r. ⌜ r ≡ fresh list i ⌝ }
-{
-    let m = list.items[i];
-    let mut j = 0;
-    while j < i {
-        let earlier = list.items[j];
-        if earlier.is_at(m.space, m.page) {
-            return false;
-        }
-        j += 1;
     }
     true
 }
