@@ -23,7 +23,6 @@ use Rattle.board.specs.Board as board
 use Rattle.page_model.specs.Record as frame-record
 use Rattle.mapping.specs.Entry as entry
 use Rattle.mapping.specs.Lookup as list-lookup
-use Rattle.manager.specs.Refusals as refusals
 use Rattle.manager.specs.Tables as manager-tables
 use Rattle.cache.specs.Tag as tag
 use Rattle.machine.specs.Refusals as machine-refusals

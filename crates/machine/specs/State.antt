@@ -3,8 +3,9 @@ use mathlib.Core.List.{List, []}
 use mathlib.Core.Option.{Option}
 use Prim.Native.Nat.{ℕ}
 use Rattle.manager.specs.Answers.{Outcome}
-use Rattle.manager.specs.Tables.{Tables}
-use Rattle.cache.specs.Store.{Store}
+use Rattle.mapping.specs.declared.MappingList.{MappingList}
+use Rattle.manager.specs.Tables.{Tables, tables}
+use Rattle.cache.specs.Store.{Store, store}
 
 -- the manager's tables, and memory with the cache's words and tags
 pub record State : Type 0 where
@@ -13,6 +14,10 @@ pub record State : Type 0 where
 
 abbrev pub state : Tables → Store → State
 state t s = record { tables = t; store = s }
+
+-- what a call is lent, in its order: list, records, protections, memory, words, tags
+abbrev pub machineOf : MappingList → List ℕ → List ℕ → List ℕ → List ℕ → List ℕ → State
+machineOf list records protections memory words tags = state (tables list records protections) (store memory words tags)
 
 -- A call with its numbers and words as they are passed, whatever they are. Document 01 calls evict turning out.
 pub data Call : Type 0 where

@@ -1,6 +1,3 @@
--- The laws of the run sheet.
-pub mod Sheet
-pub mod Written
-pub mod Digits
+-- The laws of the run of a sheet.
 pub mod Making
 pub mod Running

@@ -9,13 +9,13 @@ use Rattle.mapping.specs.declared.MappingList.{MappingList}
 use Rattle.manager.specs.Answers.{Outcome, refused, accepted}
 use Rattle.manager.specs.Tables.{tables}
 use Rattle.cache.specs.Store.{Store}
-use Rattle.machine.specs.State.{State, state, Call, deviceWrite, Answer, Result}
+use Rattle.machine.specs.State.{State, state, Call, Answer, Result}
 use Rattle.machine.specs.Step.{result, step}
-use Rattle.run_sheet.specs.declared.Fields.{Fields}
-use Rattle.run_sheet.specs.declared.Kind.{Kind}
+use Rattle.sheet_codec.specs.declared.Fields.{Fields}
+use Rattle.sheet_codec.specs.declared.Kind.{Kind}
 use Rattle.run_sheet.specs.Did.{Did}
-use Rattle.run_sheet.specs.Format.{callOf}
-use Rattle.run_sheet.specs.Text.{wordOf, firstWord}
+use Rattle.sheet_codec.specs.Format.{callOf}
+use Rattle.sheet_codec.specs.Text.{wordOf, firstWord}
 
 pub did : {st next : State} {call : Call} {a : Answer} {o : Outcome} {w : Option ℕ} → result a next ≡ step board01 st call → o ≡ a .outcome → w ≡ wordOf call a → Did st call next o w
 did {call = call} e d f =

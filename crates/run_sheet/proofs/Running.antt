@@ -17,12 +17,13 @@ use Rattle.cache.specs.Store.{store}
 use Rattle.machine.specs.State.{State, state, Call, Answer}
 use Rattle.machine.specs.Step.{step}
 use Rattle.run_sheet.specs.Did.{Did}
-use Rattle.run_sheet.specs.Format.{mostMappings, mostSteps, mappingCount, stepCount, isBroken, mappingCall, stepCall}
-use Rattle.run_sheet.specs.Put.{Put}
-use Rattle.run_sheet.specs.Ran.{lineBytes, textBytes, printed, Ran}
-use Rattle.run_sheet.specs.Run.{Run, start, runFrom, startRun, flushesOf, purgesOf, advance, advanceAll, runMappings, runSteps, closed, sheetText}
-use Rattle.run_sheet.specs.Text.{mappingText, mappingLine, stepText, stepLine, endLine, refusedLine}
-use Rattle.run_sheet.proofs.Written.{overlay-nil, put-both, put-as}
+use Rattle.sheet_codec.specs.Format.{mostMappings, mostSteps, mappingCount, stepCount, isBroken, mappingCall, stepCall}
+use Rattle.sheet_codec.specs.Put.{Put}
+use Rattle.run_sheet.specs.Ran.{Ran}
+use Rattle.run_sheet.specs.Run.{Run, start, runFrom, advance, advanceAll, runMappings, runSteps, closed, sheetText, textBytes, printed}
+use Rattle.sheet_codec.specs.Text.{mappingLine, mappingLineOf, stepLine, stepLineOf, endLine, refusedLine, lineBytes}
+use Rattle.sheet_codec.specs.Totals.{flushesOf, purgesOf}
+use Rattle.sheet_codec.proofs.Written.{overlay-nil, put-both, put-as}
 
 -- ---- runs one after the other
 
@@ -78,26 +79,26 @@ ran-one line d put e f p =
     }
 
 pub ran-mapping : (n : ℕ) {st next : State} {call : Call} {o : Outcome} {w : Option ℕ} {l m : List ℕ} {at k f p x : ℕ} → Did st call next o w → x ≡ numberOf o
-    → Put l at (mappingText n x) lineBytes m k
+    → Put l at (mappingLine n x) lineBytes m k
     → (f ≡ flushesOf o) × (f ≤ 2)
     → (p ≡ purgesOf o) × (p ≤ 2)
-    → Ran (advance board01 (mappingLine n) call (runFrom st)) 1 l at next m k f p
-ran-mapping n d e put f p = ran-one (mappingLine n) d put (ap (mappingText n) (e ∙ ap numberOf (d .answered))) f p
+    → Ran (advance board01 (mappingLineOf n) call (runFrom st)) 1 l at next m k f p
+ran-mapping n d e put f p = ran-one (mappingLineOf n) d put (ap (mappingLine n) (e ∙ ap numberOf (d .answered))) f p
 
 pub ran-step : (n : ℕ) {st next : State} {call : Call} {o : Outcome} {w : Option ℕ} {l m : List ℕ} {at k f p : ℕ} → Did st call next o w
-    → Put l at (stepText n o w) lineBytes m k
+    → Put l at (stepLine n o w) lineBytes m k
     → (f ≡ flushesOf o) × (f ≤ 2)
     → (p ≡ purgesOf o) × (p ≤ 2)
-    → Ran (advance board01 (stepLine n) call (runFrom st)) 1 l at next m k f p
-ran-step n d put f p = ran-one (stepLine n) d put (ap₂ (stepText n) (d .answered) (d .shown)) f p
+    → Ran (advance board01 (stepLineOf n) call (runFrom st)) 1 l at next m k f p
+ran-step n d put f p = ran-one (stepLineOf n) d put (ap₂ (stepLine n) (d .answered) (d .shown)) f p
 
 -- a run and another from where it ended
-ran-both : {r s : Run} {i j : ℕ} {l m n : List ℕ} {at k end f g p q : ℕ} {st next : State} → at ≤ length l → Ran r i l at st m k f p → Ran s j m k next n end g q
+ran-both : {r s : Run} {i j : ℕ} {l m n : List ℕ} {at k end f g p q : ℕ} {st next : State} → Ran r i l at st m k f p → Ran s j m k next n end g q
     → Ran (joined r s) (i + j) l at next n end (f + g) (p + q)
-ran-both h x y =
+ran-both x y =
     record {
       machine-is = y .machine-is;
-      text-is = put-as refl (omega arith) (put-both h (x .text-is) (y .text-is));
+      text-is = put-as refl (omega arith) (put-both (x .text-is) (y .text-is));
       flushes-are = ap₂ _+_ (x .flushes-are) (y .flushes-are);
       purges-are = ap₂ _+_ (x .purges-are) (y .purges-are);
       few-flushes = omega (arith, x .few-flushes, y .few-flushes);
@@ -114,14 +115,13 @@ module _ (line : ℕ → Call → Answer → List ℕ) (callAt : ℕ → Call) w
   joined-next i r = record-same refl refl (omega arith) (omega arith)
 
   -- one call more
-  pub ran-next : (st : State) {i : ℕ} {l m n : List ℕ} {at k end f g p q : ℕ} {now next : State} → at ≤ length l
-      → Ran (advanceAll board01 line callAt i (runFrom st)) i l at now m k f p
+  pub ran-next : (st : State) {i : ℕ} {l m n : List ℕ} {at k end f g p q : ℕ} {now next : State} → Ran (advanceAll board01 line callAt i (runFrom st)) i l at now m k f p
       → Ran (advance board01 (line i) (callAt i) (runFrom now)) 1 m k next n end g q
       → Ran (advanceAll board01 line callAt (i + 1) (runFrom st)) (i + 1) l at next n end (f + g) (p + q)
   unfolding advanceAll
-  ran-next st {i = i} {now = now} h x y =
+  ran-next st {i = i} {now = now} x y =
       let from : ℕ → Run = λ (k : ℕ). advanceAll board01 line callAt k (runFrom st) in
-      ran-as (ap (λ (m : State). joined (from i) (advance board01 (line i) (callAt i) (runFrom m))) (x .machine-is) ∙ sym (joined-next i (from i)) ∙ ap from (sym (add-one i))) (ran-both h x y)
+      ran-as (ap (λ (m : State). joined (from i) (advance board01 (line i) (callAt i) (runFrom m))) (x .machine-is) ∙ sym (joined-next i (from i)) ∙ ap from (sym (add-one i))) (ran-both x y)
 
   pub ran-counted : (st : State) {i n : ℕ} {l m : List ℕ} {at k f p : ℕ} {now : State} → i ≡ n → Ran (advanceAll board01 line callAt i (runFrom st)) i l at now m k f p
       → Ran (advanceAll board01 line callAt n (runFrom st)) n l at now m k f p
@@ -129,21 +129,21 @@ module _ (line : ℕ → Call → Answer → List ℕ) (callAt : ℕ → Call) w
       subst (λ (n : ℕ). Ran (advanceAll board01 line callAt n (runFrom st)) n l at now m k f p) e x
 
   -- all calls from where a run ended
-  pub ran-all : {r : Run} {j i : ℕ} {l m n : List ℕ} {at k end f g p q : ℕ} {now next : State} → at ≤ length l → Ran r j l at now m k f p
+  pub ran-all : {r : Run} {j i : ℕ} {l m n : List ℕ} {at k end f g p q : ℕ} {now next : State} → Ran r j l at now m k f p
       → Ran (advanceAll board01 line callAt i (runFrom now)) i m k next n end g q
       → Ran (advanceAll board01 line callAt i r) (j + i) l at next n end (f + g) (p + q)
-  ran-all {r = r} {i = i} h x y =
-      ran-as (ap (λ (m : State). joined r (advanceAll board01 line callAt i (runFrom m))) (x .machine-is) ∙ sym (joined-all board01 line callAt i r)) (ran-both h x y)
+  ran-all {r = r} {i = i} x y =
+      ran-as (ap (λ (m : State). joined r (advanceAll board01 line callAt i (runFrom m))) (x .machine-is) ∙ sym (joined-all board01 line callAt i r)) (ran-both x y)
 
 -- ---- the whole sheet
 
 -- the last line after the calls
 pub ran-closed : {r : Run} {i : ℕ} {l m n : List ℕ} {k end f p : ℕ} {st : State} → i ≤ mostMappings + mostSteps → Ran r i l 0 st m k f p → Put m k (endLine f p) lineBytes n end → Put l 0 (closed r) textBytes n end
-ran-closed {r = r} h x y = put-as (ap₂ (λ (f p : ℕ). r .text ++ endLine f p) (x .flushes-are) (x .purges-are)) (omega arith) (put-both (omega arith) (x .text-is) y)
+ran-closed {r = r} h x y = put-as (ap₂ (λ (f p : ℕ). r .text ++ endLine f p) (x .flushes-are) (x .purges-are)) (omega arith) (put-both (x .text-is) y)
 
 module _ (sheet : List ℕ) (list : MappingList) (m n : ℕ) where
   abbrev pub madeBy : State → Run
-  madeBy st = advanceAll board01 stepLine (stepCall board01 sheet) n (advanceAll board01 mappingLine (mappingCall sheet) m (runFrom st))
+  madeBy st = advanceAll board01 stepLineOf (stepCall board01 sheet) n (advanceAll board01 mappingLineOf (mappingCall sheet) m (runFrom st))
 
   abbrev pub zeros : State
   zeros = state (tables list (replicate 192 0) (replicate 256 0)) (store (replicate 4096 0) (replicate 512 0) (replicate 64 0))
@@ -152,11 +152,11 @@ module _ (sheet : List ℕ) (list : MappingList) (m n : ℕ) where
   unfolding start memoryWords cacheWords lines
   zeros-start e = ap (λ (l : MappingList). state (tables l (replicate 192 0) (replicate 256 0)) (store (replicate 4096 0) (replicate 512 0) (replicate 64 0))) e
 
-  pub run-is : list ≡ empty → m ≡ mappingCount sheet → n ≡ stepCount sheet → madeBy zeros ≡ runSteps board01 sheet (stepCount sheet)
-  unfolding runSteps runMappings startRun
+  pub run-is : list ≡ empty → m ≡ mappingCount sheet → n ≡ stepCount sheet → madeBy zeros ≡ runSteps board01 sheet
+  unfolding runSteps runMappings
   run-is e f g =
       ap madeBy (zeros-start e)
-      ∙ ap₂ (λ (i j : ℕ). advanceAll board01 stepLine (stepCall board01 sheet) j (advanceAll board01 mappingLine (mappingCall sheet) i (runFrom (start board01)))) f g
+      ∙ ap₂ (λ (i j : ℕ). advanceAll board01 stepLineOf (stepCall board01 sheet) j (advanceAll board01 mappingLineOf (mappingCall sheet) i (runFrom (start board01)))) f g
 
 module _ (l sheet : List ℕ) where
   pub printed-nothing : length l < textBytes → Put l 0 (printed (length l) sheet) textBytes l 0
@@ -169,7 +169,7 @@ module _ (l sheet : List ℕ) where
   unfolding sheetText
   text-refused e = rw (e, sheetText) refl
 
-  text-run : isBroken sheet ≡ false → closed (runSteps board01 sheet (stepCount sheet)) ≡ sheetText board01 sheet
+  text-run : isBroken sheet ≡ false → closed (runSteps board01 sheet) ≡ sheetText board01 sheet
   unfolding sheetText
   text-run e = rw (e, sheetText) refl
 
@@ -181,5 +181,5 @@ module _ (l sheet : List ℕ) where
     pub printed-refusal : isBroken sheet ≡ true → Put l 0 refusedLine lineBytes m k → Put l 0 (printed (length l) sheet) textBytes m k
     printed-refusal e x = printed-text (text-refused e) (omega arith) x
 
-    pub printed-run : isBroken sheet ≡ false → Put l 0 (closed (runSteps board01 sheet (stepCount sheet))) textBytes m k → Put l 0 (printed (length l) sheet) textBytes m k
+    pub printed-run : isBroken sheet ≡ false → Put l 0 (closed (runSteps board01 sheet)) textBytes m k → Put l 0 (printed (length l) sheet) textBytes m k
     printed-run e x = printed-text (text-run e) (omega arith) x

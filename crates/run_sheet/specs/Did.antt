@@ -6,7 +6,7 @@ use Rattle.board.specs.Board.{board01}
 use Rattle.manager.specs.Answers.{Outcome}
 use Rattle.machine.specs.State.{State, Call}
 use Rattle.machine.specs.Step.{step}
-use Rattle.run_sheet.specs.Text.{wordOf}
+use Rattle.sheet_codec.specs.Text.{wordOf}
 
 pub record Did (st : State) (call : Call) (next : State) (o : Outcome) (word : Option ℕ) : Type 0 where
   pub after : next ≡ step board01 st call .after

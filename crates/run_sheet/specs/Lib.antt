@@ -1,7 +1,4 @@
--- The run sheet: its bytes, what the machine makes of it, and the text that is printed.
-pub mod Format
-pub mod Text
-pub mod Put
+-- The run of a sheet: what the machine makes of it, and what the code holds on the way.
 pub mod Did
 pub mod Run
 pub mod Ran

@@ -1,19 +1,19 @@
 -- Document 01, "The run sheet": a sheet that is not broken is run from the start, mappings first, and each answer is printed.
-use mathlib.Core.Bool.{true, false}
+use mathlib.Core.Bool.{true, false, cond}
 use mathlib.Core.List.{List, [], _++_}
 use Prim.Native.Nat.{ℕ, zero, suc, _+_, _*_}
+use lib.Dec.{ltb}
 use lib.ListN.{replicate}
-use Rattle.board.specs.Board.{Board, memoryWords, cacheWords, lines}
+use Rattle.board.specs.Board.{Board, board01, memoryWords, cacheWords, lines}
 use Rattle.mapping.specs.Change.{empty}
 use Rattle.mapping.specs.Entry.{capacity}
-use Rattle.manager.specs.Answers as order
-use Rattle.manager.specs.Answers.{FrameOperation, Outcome, firstOf, secondOf}
 use Rattle.manager.specs.Tables.{tables, recordBytes}
 use Rattle.cache.specs.Store.{store}
 use Rattle.machine.specs.State.{State, state, Call, Answer, Result}
 use Rattle.machine.specs.Step.{step}
-use Rattle.run_sheet.specs.Format.{mappingCount, stepCount, isBroken, mappingCall, stepCall}
-use Rattle.run_sheet.specs.Text.{mappingText, mappingLine, stepText, stepLine, endLine, refusedLine}
+use Rattle.sheet_codec.specs.Format.{mostMappings, mostSteps, mappingCount, stepCount, isBroken, mappingCall, stepCall}
+use Rattle.sheet_codec.specs.Totals.{flushesOf, purgesOf}
+use Rattle.sheet_codec.specs.Text.{lineBytes, mappingLine, mappingLineOf, stepLine, stepLineOf, endLine, refusedLine}
 
 -- the machine as it is, the text so far, and the numbers of flushes and purges in all answers
 pub record Run : Type 0 where
@@ -33,28 +33,6 @@ start b =
 -- nothing called yet
 abbrev pub runFrom : State → Run
 runFrom st = record { machine = st; text = []; flushes = 0; purges = 0 }
-
-unfoldable pub startRun : Board → Run
-unfolding start
-startRun b = runFrom (start b)
-
--- ---- the operations of an answer
-
-abbrev pub flushOf : FrameOperation → ℕ
-flushOf order.none = 0
-flushOf (order.flush f c) = 1
-flushOf (order.purge f c) = 0
-
-abbrev pub purgeOf : FrameOperation → ℕ
-purgeOf order.none = 0
-purgeOf (order.flush f c) = 0
-purgeOf (order.purge f c) = 1
-
-abbrev pub flushesOf : Outcome → ℕ
-flushesOf o = flushOf (firstOf o) + flushOf (secondOf o)
-
-abbrev pub purgesOf : Outcome → ℕ
-purgesOf o = purgeOf (firstOf o) + purgeOf (secondOf o)
 
 -- ---- calls in their order
 
@@ -80,22 +58,35 @@ advanceAll b line callAt (suc n) r = advance b (line n) (callAt n) (advanceAll b
 
 -- ---- the sheet
 
-unfoldable pub runMappings : Board → List ℕ → ℕ → Run
-unfolding advanceAll startRun mappingText mappingCall
-runMappings b sheet n = advanceAll b mappingLine (mappingCall sheet) n (startRun b)
+-- after its mappings
+unfoldable pub runMappings : Board → List ℕ → Run
+unfolding start advanceAll mappingLine mappingCount mappingCall
+runMappings b sheet = advanceAll b mappingLineOf (mappingCall sheet) (mappingCount sheet) (runFrom (start b))
 
-unfoldable pub runSteps : Board → List ℕ → ℕ → Run
-unfolding advanceAll runMappings mappingCount stepText stepCall
-runSteps b sheet n = advanceAll b stepLine (stepCall b sheet) n (runMappings b sheet (mappingCount sheet))
+-- after its steps
+unfoldable pub runSteps : Board → List ℕ → Run
+unfolding advanceAll runMappings stepLine stepCount stepCall
+runSteps b sheet = advanceAll b stepLineOf (stepCall b sheet) (stepCount sheet) (runMappings b sheet)
 
 abbrev pub closed : Run → List ℕ
 closed r = r .text ++ endLine (r .flushes) (r .purges)
 
 -- the text of a sheet
 unfoldable pub sheetText : Board → List ℕ → List ℕ
-unfolding isBroken runSteps stepCount endLine
+unfolding isBroken runSteps endLine
 sheetText b sheet =
     elim (isBroken sheet) [
       | true ↦ refusedLine
-      | false ↦ closed (runSteps b sheet (stepCount sheet))
+      | false ↦ closed (runSteps b sheet)
     ]
+
+-- ---- the text in a buffer
+
+-- room for the lines of the largest sheet
+abbrev pub textBytes : ℕ
+textBytes = lineBytes * (mostMappings + mostSteps + 1)
+
+-- what goes into a buffer of n bytes: the text of the sheet, or nothing where the largest sheet's might not fit
+unfoldable pub printed : ℕ → List ℕ → List ℕ
+unfolding sheetText
+printed n sheet = cond (ltb n textBytes) [] (sheetText board01 sheet)

@@ -1,18 +1,31 @@
 // The run sheet: bytes of a sheet in, bytes of text out.
-pub mod format;
-pub mod run;
-pub mod steps;
-pub mod text;
+mod run;
+mod steps;
 
 use manager::Answer;
 use mapping::MappingList;
+use sheet_codec::Shown;
+use sheet_codec::format;
+use sheet_codec::text;
+ghost use mathlib.Core.List.{[], _∷_};
+ghost use mathlib.Core.Path.{_≡_};
 ghost use lib.ListN.{length};
 ghost use Rattle.io.specs.Counts.{Counts};
-ghost use Rattle.run_sheet.specs.Put.{Put};
-ghost use Rattle.run_sheet.specs.Ran.{textBytes, printed};
+ghost use Rattle.sheet_codec.specs.Format.{mostBytes};
+ghost use Rattle.sheet_codec.specs.Put.{Put};
+ghost use Rattle.run_sheet.specs.Run.{textBytes, printed};
 
-// How many bytes of room a text needs, so that the largest sheet's fits.
+// The bytes of the largest sheet, and how much room a text needs, so that the largest sheet's fits.
+pub const SHEET_BYTES: usize = 38148;
+
 pub const TEXT_BYTES: usize = 696480;
+
+// Both constants. A constant carries no contract, so this function ties them to the definitions.
+pub fn sizes() -> [usize; 2]
+    ensures { λ r. ⌜ r ≡ mostBytes ∷ textBytes ∷ [] ⌝ }
+{
+    [SHEET_BYTES, TEXT_BYTES]
+}
 
 // Runs a sheet on a machine that starts empty, and writes what is printed to the front of text. Answers how many bytes it wrote: none
 // where text is shorter than TEXT_BYTES.
@@ -27,32 +40,6 @@ pub fn run_sheet(sheet: &[u8], text: &mut [u8]) -> usize
         return text::refused_line(text, 0);
     }
     run::run_unbroken(sheet, text)
-}
-
-// The kind of a step.
-pub enum Kind {
-    Read,
-    Write,
-    DeviceRead,
-    DeviceWrite,
-    Evict,
-    Unmap,
-    Other,
-}
-
-// A step's fields, as document 01 names them.
-pub struct Fields {
-    pub kind: u8,
-    pub s: u8,
-    pub p: u16,
-    pub o: u8,
-    pub w: u32,
-}
-
-// The word that a step shows, if it has one.
-pub enum Shown {
-    Absent,
-    Word(u32),
 }
 
 // What a step made: the list after it, its answer, and the word that it shows.

@@ -1,184 +1,48 @@
 // The run of a sheet: its calls in their order, each with its line of text.
 use crate::Progress;
-use crate::format;
 use crate::steps;
-use crate::text;
 use mapping::MappingList;
+use sheet_codec::answers;
+use sheet_codec::format;
+use sheet_codec::text;
 ghost use mathlib.Core.Bool.{false};
 ghost use mathlib.Core.Path.{_≡_};
 ghost use Prim.Native.Nat.{_+_, _*_, _<_, _≤_};
 ghost use lib.ListN.{length};
 ghost use Rattle.board.specs.Board.{board01};
-ghost use Rattle.manager.specs.Tables.{tables};
-ghost use Rattle.cache.specs.Store.{store};
-ghost use Rattle.machine.specs.State.{state};
-ghost use Rattle.run_sheet.specs.Format.{mostMappings, mostSteps, mappingCount, stepCount, stepPlace, isBroken, mappingCall, stepCall};
-ghost use Rattle.run_sheet.specs.Text.{mappingLine, stepLine};
-ghost use Rattle.run_sheet.specs.Run.{runFrom, advance, advanceAll, runSteps, closed};
-ghost use Rattle.run_sheet.specs.Put.{Put};
-ghost use Rattle.run_sheet.specs.Ran.{lineBytes, textBytes, Ran};
+ghost use Rattle.machine.specs.State.{machineOf};
+ghost use Rattle.sheet_codec.specs.Format.{mostMappings, mostSteps, mappingCount, stepPlace, isBroken, mappingCall, stepCall};
+ghost use Rattle.sheet_codec.specs.Text.{lineBytes, mappingLineOf, stepLineOf};
+ghost use Rattle.run_sheet.specs.Run.{runFrom, advance, advanceAll, runSteps, closed, textBytes};
+ghost use Rattle.sheet_codec.specs.Put.{Put};
+ghost use Rattle.run_sheet.specs.Ran.{Ran};
 
-// Mapping k of the sheet.
-fn map_one(
-    list: MappingList,
-    records: &[u8],
-    protections: &mut [u8],
-    memory: &[u32],
-    words: &[u32],
-    tags: &[u8],
-    sheet: &[u8],
-    k: usize,
-    text: &mut [u8],
-    at: usize,
-) -> Progress
-    requires { ⌜ (k < mostMappings) × (at + lineBytes ≤ length (now text)) ⌝ }
-    ensures { λ r. ⌜ Ran (advance board01 (mappingLine k) (mappingCall (now (sheet .entry)) k) (runFrom (state (tables list (now (records .entry)) (now (protections .entry))) (store (now (memory .entry)) (now (words .entry)) (now (tags .entry)))))) 1 (now (text .entry)) at (state (tables (r .list) (now (records .entry)) (now (protections .exit))) (store (now (memory .entry)) (now (words .entry)) (now (tags .entry)))) (now (text .exit)) (r .at) (r .flushes) (r .purges) ⌝ }
+// An unbroken sheet, run from the start: nothing mapped or cached, memory all 0.
+pub fn run_unbroken(sheet: &[u8], text: &mut [u8]) -> usize
+    requires { ⌜ (isBroken (now sheet) ≡ false) × (textBytes ≤ length (now text)) ⌝ }
+    ensures { λ r. ⌜ Put (now (text .entry)) 0 (closed (runSteps board01 (now (sheet .entry)))) textBytes (now (text .exit)) r ⌝ }
 {
-    let m = format::mapping_at(sheet, k);
-    let got = machine::map(list, records, protections, memory, words, tags, m);
-    let answer = got.answer;
-    let list = got.list;
-    let number = text::number_of(answer);
-    let at = text::mapping_line(text, at, k, number);
-    let flushes = text::flushes_of(answer);
-    let purges = text::purges_of(answer);
-    Progress {
+    let mappings = format::mapping_count(sheet);
+    let steps = format::step_count(sheet, mappings);
+    let list = mapping::empty();
+    let mut records = [0u8; 192];
+    let mut protections = [0u8; 256];
+    let mut memory = [0u32; 4096];
+    let mut words = [0u32; 512];
+    let mut tags = [0u8; 64];
+    let done = run_calls(
         list,
-        at,
-        flushes,
-        purges,
-    }
-}
-
-// The first count mappings of the sheet.
-fn run_mappings(
-    list: MappingList,
-    records: &[u8],
-    protections: &mut [u8],
-    memory: &[u32],
-    words: &[u32],
-    tags: &[u8],
-    sheet: &[u8],
-    count: usize,
-    text: &mut [u8],
-    at: usize,
-) -> Progress
-    requires { ⌜ (count ≤ mostMappings) × (at + lineBytes * count ≤ length (now text)) ⌝ }
-    ensures { λ r. ⌜ Ran (advanceAll board01 mappingLine (mappingCall (now (sheet .entry))) count (runFrom (state (tables list (now (records .entry)) (now (protections .entry))) (store (now (memory .entry)) (now (words .entry)) (now (tags .entry)))))) count (now (text .entry)) at (state (tables (r .list) (now (records .entry)) (now (protections .exit))) (store (now (memory .entry)) (now (words .entry)) (now (tags .entry)))) (now (text .exit)) (r .at) (r .flushes) (r .purges) ⌝ }
-{
-    let mut list = list;
-    let mut at = at;
-    let mut flushes = 0;
-    let mut purges = 0;
-    let mut i = 0;
-    while i < count {
-        let made = map_one(
-            list,
-            records,
-            protections,
-            memory,
-            words,
-            tags,
-            sheet,
-            i,
-            text,
-            at,
-        );
-        list = made.list;
-        at = made.at;
-        flushes += made.flushes;
-        purges += made.purges;
-        i += 1;
-    }
-    Progress {
-        list,
-        at,
-        flushes,
-        purges,
-    }
-}
-
-// Step k of the sheet, where the steps start at first.
-fn step_one(
-    list: MappingList,
-    records: &mut [u8],
-    protections: &mut [u8],
-    memory: &mut [u32],
-    words: &mut [u32],
-    tags: &mut [u8],
-    sheet: &[u8],
-    first: usize,
-    k: usize,
-    text: &mut [u8],
-    at: usize,
-) -> Progress
-    requires { ⌜ (first ≡ stepPlace (now sheet) 0) × (first ≤ 2048) × (k < mostSteps) × (at + lineBytes ≤ length (now text)) ⌝ }
-    ensures { λ r. ⌜ Ran (advance board01 (stepLine k) (stepCall board01 (now (sheet .entry)) k) (runFrom (state (tables list (now (records .entry)) (now (protections .entry))) (store (now (memory .entry)) (now (words .entry)) (now (tags .entry)))))) 1 (now (text .entry)) at (state (tables (r .list) (now (records .exit)) (now (protections .exit))) (store (now (memory .exit)) (now (words .exit)) (now (tags .exit)))) (now (text .exit)) (r .at) (r .flushes) (r .purges) ⌝ }
-{
-    let f = format::fields_at(sheet, first + 9 * k);
-    let made = steps::step(list, records, protections, memory, words, tags, f);
-    let list = made.list;
-    let answer = made.answer;
-    let shown = made.shown;
-    let at = text::step_line(text, at, k, answer, shown);
-    let flushes = text::flushes_of(answer);
-    let purges = text::purges_of(answer);
-    Progress {
-        list,
-        at,
-        flushes,
-        purges,
-    }
-}
-
-// The first count steps of the sheet, which start at first.
-fn run_steps(
-    list: MappingList,
-    records: &mut [u8],
-    protections: &mut [u8],
-    memory: &mut [u32],
-    words: &mut [u32],
-    tags: &mut [u8],
-    sheet: &[u8],
-    first: usize,
-    count: usize,
-    text: &mut [u8],
-    at: usize,
-) -> Progress
-    requires { ⌜ (first ≡ stepPlace (now sheet) 0) × (first ≤ 2048) × (count ≤ mostSteps) × (at + lineBytes * count ≤ length (now text)) ⌝ }
-    ensures { λ r. ⌜ Ran (advanceAll board01 stepLine (stepCall board01 (now (sheet .entry))) count (runFrom (state (tables list (now (records .entry)) (now (protections .entry))) (store (now (memory .entry)) (now (words .entry)) (now (tags .entry)))))) count (now (text .entry)) at (state (tables (r .list) (now (records .exit)) (now (protections .exit))) (store (now (memory .exit)) (now (words .exit)) (now (tags .exit)))) (now (text .exit)) (r .at) (r .flushes) (r .purges) ⌝ }
-{
-    let mut list = list;
-    let mut at = at;
-    let mut flushes = 0;
-    let mut purges = 0;
-    let mut i = 0;
-    while i < count {
-        let made = step_one(
-            list,
-            records,
-            protections,
-            memory,
-            words,
-            tags,
-            sheet,
-            first,
-            i,
-            text,
-            at,
-        );
-        list = made.list;
-        at = made.at;
-        flushes += made.flushes;
-        purges += made.purges;
-        i += 1;
-    }
-    Progress {
-        list,
-        at,
-        flushes,
-        purges,
-    }
+        &mut records,
+        &mut protections,
+        &mut memory,
+        &mut words,
+        &mut tags,
+        sheet,
+        mappings,
+        steps,
+        text,
+    );
+    text::end_line(text, done.at, done.flushes, done.purges)
 }
 
 // The first mappings of the sheet, and then its first steps.
@@ -195,7 +59,7 @@ fn run_calls(
     text: &mut [u8],
 ) -> Progress
     requires { ⌜ (mappings ≡ mappingCount (now sheet)) × (mappings ≤ mostMappings) × (steps ≤ mostSteps) × (textBytes ≤ length (now text)) ⌝ }
-    ensures { λ r. ⌜ Ran (advanceAll board01 stepLine (stepCall board01 (now (sheet .entry))) steps (advanceAll board01 mappingLine (mappingCall (now (sheet .entry))) mappings (runFrom (state (tables list (now (records .entry)) (now (protections .entry))) (store (now (memory .entry)) (now (words .entry)) (now (tags .entry))))))) (mappings + steps) (now (text .entry)) 0 (state (tables (r .list) (now (records .exit)) (now (protections .exit))) (store (now (memory .exit)) (now (words .exit)) (now (tags .exit)))) (now (text .exit)) (r .at) (r .flushes) (r .purges) ⌝ }
+    ensures { λ r. ⌜ Ran (advanceAll board01 stepLineOf (stepCall board01 (now (sheet .entry))) steps (advanceAll board01 mappingLineOf (mappingCall (now (sheet .entry))) mappings (runFrom (machineOf list (now (records .entry)) (now (protections .entry)) (now (memory .entry)) (now (words .entry)) (now (tags .entry)))))) (mappings + steps) (now (text .entry)) 0 (machineOf (r .list) (now (records .exit)) (now (protections .exit)) (now (memory .exit)) (now (words .exit)) (now (tags .exit))) (now (text .exit)) (r .at) (r .flushes) (r .purges) ⌝ }
 {
     let mapped = run_mappings(
         list,
@@ -233,30 +97,165 @@ fn run_calls(
     }
 }
 
-// An unbroken sheet, run from the start: nothing mapped or cached, memory all 0.
-pub fn run_unbroken(sheet: &[u8], text: &mut [u8]) -> usize
-    requires { ⌜ (isBroken (now sheet) ≡ false) × (textBytes ≤ length (now text)) ⌝ }
-    ensures { λ r. ⌜ Put (now (text .entry)) 0 (closed (runSteps board01 (now (sheet .entry)) (stepCount (now (sheet .entry))))) textBytes (now (text .exit)) r ⌝ }
+// The first count mappings of the sheet.
+fn run_mappings(
+    list: MappingList,
+    records: &[u8],
+    protections: &mut [u8],
+    memory: &[u32],
+    words: &[u32],
+    tags: &[u8],
+    sheet: &[u8],
+    count: usize,
+    text: &mut [u8],
+    at: usize,
+) -> Progress
+    requires { ⌜ (count ≤ mostMappings) × (at + lineBytes * count ≤ length (now text)) ⌝ }
+    ensures { λ r. ⌜ Ran (advanceAll board01 mappingLineOf (mappingCall (now (sheet .entry))) count (runFrom (machineOf list (now (records .entry)) (now (protections .entry)) (now (memory .entry)) (now (words .entry)) (now (tags .entry))))) count (now (text .entry)) at (machineOf (r .list) (now (records .entry)) (now (protections .exit)) (now (memory .entry)) (now (words .entry)) (now (tags .entry))) (now (text .exit)) (r .at) (r .flushes) (r .purges) ⌝ }
 {
-    let mappings = format::mapping_count(sheet);
-    let steps = format::step_count(sheet, mappings);
-    let list = mapping::empty();
-    let mut records = [0u8; 192];
-    let mut protections = [0u8; 256];
-    let mut memory = [0u32; 4096];
-    let mut words = [0u32; 512];
-    let mut tags = [0u8; 64];
-    let done = run_calls(
+    let mut list = list;
+    let mut at = at;
+    let mut flushes = 0;
+    let mut purges = 0;
+    let mut i = 0;
+    while i < count {
+        let made = map_one(
+            list,
+            records,
+            protections,
+            memory,
+            words,
+            tags,
+            sheet,
+            i,
+            text,
+            at,
+        );
+        list = made.list;
+        at = made.at;
+        flushes += made.flushes;
+        purges += made.purges;
+        i += 1;
+    }
+    Progress {
         list,
-        &mut records,
-        &mut protections,
-        &mut memory,
-        &mut words,
-        &mut tags,
-        sheet,
-        mappings,
-        steps,
-        text,
-    );
-    text::end_line(text, done.at, done.flushes, done.purges)
+        at,
+        flushes,
+        purges,
+    }
+}
+
+// Mapping k of the sheet.
+fn map_one(
+    list: MappingList,
+    records: &[u8],
+    protections: &mut [u8],
+    memory: &[u32],
+    words: &[u32],
+    tags: &[u8],
+    sheet: &[u8],
+    k: usize,
+    text: &mut [u8],
+    at: usize,
+) -> Progress
+    requires { ⌜ (k < mostMappings) × (at + lineBytes ≤ length (now text)) ⌝ }
+    ensures { λ r. ⌜ Ran (advance board01 (mappingLineOf k) (mappingCall (now (sheet .entry)) k) (runFrom (machineOf list (now (records .entry)) (now (protections .entry)) (now (memory .entry)) (now (words .entry)) (now (tags .entry))))) 1 (now (text .entry)) at (machineOf (r .list) (now (records .entry)) (now (protections .exit)) (now (memory .entry)) (now (words .entry)) (now (tags .entry))) (now (text .exit)) (r .at) (r .flushes) (r .purges) ⌝ }
+{
+    let m = format::mapping_at(sheet, k);
+    let got = machine::map(list, records, protections, memory, words, tags, m);
+    let answer = got.answer;
+    let list = got.list;
+    let number = answers::number_of(answer);
+    let at = text::mapping_line(text, at, k, number);
+    let flushes = answers::flushes_of(answer);
+    let purges = answers::purges_of(answer);
+    Progress {
+        list,
+        at,
+        flushes,
+        purges,
+    }
+}
+
+// The first count steps of the sheet, which start at first.
+fn run_steps(
+    list: MappingList,
+    records: &mut [u8],
+    protections: &mut [u8],
+    memory: &mut [u32],
+    words: &mut [u32],
+    tags: &mut [u8],
+    sheet: &[u8],
+    first: usize,
+    count: usize,
+    text: &mut [u8],
+    at: usize,
+) -> Progress
+    requires { ⌜ (first ≡ stepPlace (now sheet) 0) × (first ≤ 2048) × (count ≤ mostSteps) × (at + lineBytes * count ≤ length (now text)) ⌝ }
+    ensures { λ r. ⌜ Ran (advanceAll board01 stepLineOf (stepCall board01 (now (sheet .entry))) count (runFrom (machineOf list (now (records .entry)) (now (protections .entry)) (now (memory .entry)) (now (words .entry)) (now (tags .entry))))) count (now (text .entry)) at (machineOf (r .list) (now (records .exit)) (now (protections .exit)) (now (memory .exit)) (now (words .exit)) (now (tags .exit))) (now (text .exit)) (r .at) (r .flushes) (r .purges) ⌝ }
+{
+    let mut list = list;
+    let mut at = at;
+    let mut flushes = 0;
+    let mut purges = 0;
+    let mut i = 0;
+    while i < count {
+        let made = step_one(
+            list,
+            records,
+            protections,
+            memory,
+            words,
+            tags,
+            sheet,
+            first,
+            i,
+            text,
+            at,
+        );
+        list = made.list;
+        at = made.at;
+        flushes += made.flushes;
+        purges += made.purges;
+        i += 1;
+    }
+    Progress {
+        list,
+        at,
+        flushes,
+        purges,
+    }
+}
+
+// Step k of the sheet, where the steps start at first.
+fn step_one(
+    list: MappingList,
+    records: &mut [u8],
+    protections: &mut [u8],
+    memory: &mut [u32],
+    words: &mut [u32],
+    tags: &mut [u8],
+    sheet: &[u8],
+    first: usize,
+    k: usize,
+    text: &mut [u8],
+    at: usize,
+) -> Progress
+    requires { ⌜ (first ≡ stepPlace (now sheet) 0) × (first ≤ 2048) × (k < mostSteps) × (at + lineBytes ≤ length (now text)) ⌝ }
+    ensures { λ r. ⌜ Ran (advance board01 (stepLineOf k) (stepCall board01 (now (sheet .entry)) k) (runFrom (machineOf list (now (records .entry)) (now (protections .entry)) (now (memory .entry)) (now (words .entry)) (now (tags .entry))))) 1 (now (text .entry)) at (machineOf (r .list) (now (records .exit)) (now (protections .exit)) (now (memory .exit)) (now (words .exit)) (now (tags .exit))) (now (text .exit)) (r .at) (r .flushes) (r .purges) ⌝ }
+{
+    let f = format::fields_at(sheet, first + 9 * k);
+    let made = steps::step(list, records, protections, memory, words, tags, f);
+    let list = made.list;
+    let answer = made.answer;
+    let shown = made.shown;
+    let at = text::step_line(text, at, k, answer, shown);
+    let flushes = answers::flushes_of(answer);
+    let purges = answers::purges_of(answer);
+    Progress {
+        list,
+        at,
+        flushes,
+        purges,
+    }
 }

@@ -1,26 +1,25 @@
 // One step of a sheet, made on the machine.
-use crate::Fields;
-use crate::Kind;
 use crate::Made;
-use crate::Shown;
-use crate::format;
 use machine::Loaded;
 use manager::Answer;
 use mapping::MappingList;
+use sheet_codec::Fields;
+use sheet_codec::Kind;
+use sheet_codec::Shown;
+use sheet_codec::format;
 ghost use mathlib.Core.List.{[], _∷_};
 ghost use mathlib.Core.Path.{_≡_};
-ghost use Prim.Native.Nat.{ℕ, _+_, _<_};
+ghost use Prim.Native.Nat.{_+_, _<_};
 ghost use lib.ListN.{length, replicate};
 ghost use Rattle.board.specs.Board.{board01};
 ghost use Rattle.manager.specs.Answers.{outcome};
-ghost use Rattle.manager.specs.Tables.{tables, tabulate};
-ghost use Rattle.cache.specs.Store.{store};
+ghost use Rattle.manager.specs.Tables.{tabulate};
 ghost use Rattle.machine.specs.Plans.{loaded};
 ghost use Rattle.machine.specs.State as call;
-ghost use Rattle.machine.specs.State.{state};
+ghost use Rattle.machine.specs.State.{machineOf};
 ghost use Rattle.run_sheet.specs.Did.{Did};
-ghost use Rattle.run_sheet.specs.Format.{sentWord, kindOf, callOf};
-ghost use Rattle.run_sheet.specs.Text.{shownWord, firstWord};
+ghost use Rattle.sheet_codec.specs.Format.{sentWord, kindOf, callOf};
+ghost use Rattle.sheet_codec.specs.Text.{shownWord, firstWord};
 
 // The step of these fields.
 pub fn step(
@@ -32,7 +31,7 @@ pub fn step(
     tags: &mut [u8],
     f: Fields,
 ) -> Made
-    ensures { λ r. ⌜ Did (state (tables list (now (records .entry)) (now (protections .entry))) (store (now (memory .entry)) (now (words .entry)) (now (tags .entry)))) (callOf board01 (kindOf (f .kind)) f) (state (tables (r .list) (now (records .exit)) (now (protections .exit))) (store (now (memory .exit)) (now (words .exit)) (now (tags .exit)))) (outcome (r .answer)) (shownWord (r .shown)) ⌝ }
+    ensures { λ r. ⌜ Did (machineOf list (now (records .entry)) (now (protections .entry)) (now (memory .entry)) (now (words .entry)) (now (tags .entry))) (callOf board01 (kindOf (f .kind)) f) (machineOf (r .list) (now (records .exit)) (now (protections .exit)) (now (memory .exit)) (now (words .exit)) (now (tags .exit))) (outcome (r .answer)) (shownWord (r .shown)) ⌝ }
 {
     let kind = format::kind_of(f.kind);
     match kind {
@@ -56,7 +55,7 @@ fn read(
     tags: &mut [u8],
     f: Fields,
 ) -> Made
-    ensures { λ r. ⌜ Did (state (tables list (now (records .entry)) (now (protections .entry))) (store (now (memory .entry)) (now (words .entry)) (now (tags .entry)))) (call.read (f .s) (f .p) (f .o)) (state (tables (r .list) (now (records .exit)) (now (protections .exit))) (store (now (memory .exit)) (now (words .exit)) (now (tags .exit)))) (outcome (r .answer)) (shownWord (r .shown)) ⌝ }
+    ensures { λ r. ⌜ Did (machineOf list (now (records .entry)) (now (protections .entry)) (now (memory .entry)) (now (words .entry)) (now (tags .entry))) (call.read (f .s) (f .p) (f .o)) (machineOf (r .list) (now (records .exit)) (now (protections .exit)) (now (memory .exit)) (now (words .exit)) (now (tags .exit))) (outcome (r .answer)) (shownWord (r .shown)) ⌝ }
 {
     let got = machine::read(
         list,
@@ -82,7 +81,7 @@ fn write(
     tags: &mut [u8],
     f: Fields,
 ) -> Made
-    ensures { λ r. ⌜ Did (state (tables list (now (records .entry)) (now (protections .entry))) (store (now (memory .entry)) (now (words .entry)) (now (tags .entry)))) (call.write (f .s) (f .p) (f .o) (f .w)) (state (tables (r .list) (now (records .exit)) (now (protections .exit))) (store (now (memory .exit)) (now (words .exit)) (now (tags .exit)))) (outcome (r .answer)) (shownWord (r .shown)) ⌝ }
+    ensures { λ r. ⌜ Did (machineOf list (now (records .entry)) (now (protections .entry)) (now (memory .entry)) (now (words .entry)) (now (tags .entry))) (call.write (f .s) (f .p) (f .o) (f .w)) (machineOf (r .list) (now (records .exit)) (now (protections .exit)) (now (memory .exit)) (now (words .exit)) (now (tags .exit))) (outcome (r .answer)) (shownWord (r .shown)) ⌝ }
 {
     let answer = machine::write(
         list,
@@ -113,7 +112,7 @@ fn device_read(
     tags: &mut [u8],
     f: Fields,
 ) -> Made
-    ensures { λ r. ⌜ Did (state (tables list (now (records .entry)) (now (protections .entry))) (store (now (memory .entry)) (now (words .entry)) (now (tags .entry)))) (call.deviceRead (f .s) (replicate (board01 .pageWords) 0)) (state (tables (r .list) (now (records .exit)) (now (protections .exit))) (store (now (memory .exit)) (now (words .entry)) (now (tags .exit)))) (outcome (r .answer)) (shownWord (r .shown)) ⌝ }
+    ensures { λ r. ⌜ Did (machineOf list (now (records .entry)) (now (protections .entry)) (now (memory .entry)) (now (words .entry)) (now (tags .entry))) (call.deviceRead (f .s) (replicate (board01 .pageWords) 0)) (machineOf (r .list) (now (records .exit)) (now (protections .exit)) (now (memory .exit)) (now (words .entry)) (now (tags .exit))) (outcome (r .answer)) (shownWord (r .shown)) ⌝ }
 {
     let mut buffer = [0u32; 64];
     let answer = machine::device_read(
@@ -144,7 +143,7 @@ fn device_write(
     tags: &mut [u8],
     f: Fields,
 ) -> Made
-    ensures { λ r. ⌜ Did (state (tables list (now (records .entry)) (now (protections .entry))) (store (now (memory .entry)) (now (words .entry)) (now (tags .entry)))) (call.deviceWrite (f .s) (tabulate (board01 .pageWords) (sentWord (f .w)))) (state (tables (r .list) (now (records .exit)) (now (protections .exit))) (store (now (memory .exit)) (now (words .entry)) (now (tags .exit)))) (outcome (r .answer)) (shownWord (r .shown)) ⌝ }
+    ensures { λ r. ⌜ Did (machineOf list (now (records .entry)) (now (protections .entry)) (now (memory .entry)) (now (words .entry)) (now (tags .entry))) (call.deviceWrite (f .s) (tabulate (board01 .pageWords) (sentWord (f .w)))) (machineOf (r .list) (now (records .exit)) (now (protections .exit)) (now (memory .exit)) (now (words .entry)) (now (tags .exit))) (outcome (r .answer)) (shownWord (r .shown)) ⌝ }
 {
     let mut buffer = [0u32; 64];
     count_up(&mut buffer, f.w);
@@ -165,7 +164,7 @@ fn device_write(
     }
 }
 
-// A line is turned out.
+// A line is evicted.
 fn evict(
     list: MappingList,
     records: &[u8],
@@ -175,7 +174,7 @@ fn evict(
     tags: &mut [u8],
     f: Fields,
 ) -> Made
-    ensures { λ r. ⌜ Did (state (tables list (now (records .entry)) (now (protections .entry))) (store (now (memory .entry)) (now (words .entry)) (now (tags .entry)))) (call.evict (f .s)) (state (tables (r .list) (now (records .entry)) (now (protections .exit))) (store (now (memory .exit)) (now (words .entry)) (now (tags .exit)))) (outcome (r .answer)) (shownWord (r .shown)) ⌝ }
+    ensures { λ r. ⌜ Did (machineOf list (now (records .entry)) (now (protections .entry)) (now (memory .entry)) (now (words .entry)) (now (tags .entry))) (call.evict (f .s)) (machineOf (r .list) (now (records .entry)) (now (protections .exit)) (now (memory .exit)) (now (words .entry)) (now (tags .exit))) (outcome (r .answer)) (shownWord (r .shown)) ⌝ }
 {
     let answer = machine::evict(
         list,
@@ -203,7 +202,7 @@ fn unmap(
     tags: &[u8],
     f: Fields,
 ) -> Made
-    ensures { λ r. ⌜ Did (state (tables list (now (records .entry)) (now (protections .entry))) (store (now (memory .entry)) (now (words .entry)) (now (tags .entry)))) (call.unmap (f .s) (f .p)) (state (tables (r .list) (now (records .entry)) (now (protections .exit))) (store (now (memory .entry)) (now (words .entry)) (now (tags .entry)))) (outcome (r .answer)) (shownWord (r .shown)) ⌝ }
+    ensures { λ r. ⌜ Did (machineOf list (now (records .entry)) (now (protections .entry)) (now (memory .entry)) (now (words .entry)) (now (tags .entry))) (call.unmap (f .s) (f .p)) (machineOf (r .list) (now (records .entry)) (now (protections .exit)) (now (memory .entry)) (now (words .entry)) (now (tags .entry))) (outcome (r .answer)) (shownWord (r .shown)) ⌝ }
 {
     let got = machine::unmap(list, records, protections, memory, words, tags, f.s, f.p);
     let answer = got.answer;

@@ -2,10 +2,11 @@
 // A program has no exit status: where reading or writing fails, a line on standard error says why.
 use libc::STDIN_FILENO;
 use libc::STDOUT_FILENO;
+use run_sheet::SHEET_BYTES;
 use run_sheet::TEXT_BYTES;
 
-// The largest sheet, 2 + 5 * 256 + 2 + 9 * 4096 bytes, and one byte more, which only a broken one has.
-const INPUT_BYTES: usize = 38149;
+// The bytes of the largest sheet and one more, which only a broken sheet has.
+const INPUT_BYTES: usize = SHEET_BYTES + 1;
 
 fn main() {
     let mut sheet = [0u8; INPUT_BYTES];

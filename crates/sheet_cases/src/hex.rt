@@ -3,7 +3,7 @@ ghost use Prim.Native.Nat.{_*_, _≤_};
 ghost use lib.ListN.{length};
 ghost use Rattle.io.specs.Counts.{Counts};
 
-// Puts the bytes that a text stands for at the start of out, and answers how many there are. Only the digits 0 to 9 and a to f
+// Puts the bytes that a text stands for at the start of out, and answers how many there are. Only hexadecimal digits
 // count, two to a byte, and none from a `#` to the end of its line.
 pub fn bytes(text: &[u8], out: &mut [u8]) -> usize
     ensures { λ r. ⌜ Counts r (now (out .exit)) ⌝ }
@@ -58,6 +58,12 @@ fn digit(c: u8) -> u64 {
     }
     if c <= b'9' {
         return wide(c - b'0');
+    }
+    if c < b'A' {
+        return 16;
+    }
+    if c <= b'F' {
+        return wide(c - b'A') + 10;
     }
     if c < b'a' {
         return 16;

@@ -4,10 +4,11 @@ mod hex;
 mod large;
 
 use libc::STDOUT_FILENO;
+use run_sheet::SHEET_BYTES;
 use run_sheet::TEXT_BYTES;
 
-// The bytes of the largest sheet.
-const SHEET_BYTES: usize = 38148;
+// The bytes of the largest sheet and one more.
+const INPUT_BYTES: usize = SHEET_BYTES + 1;
 
 // The last line of the largest sheet's text, with its line end.
 const LAST_BYTES: usize = 14;
@@ -54,7 +55,7 @@ fn file(name: &[u8]) {
 
 // The sheet that a text of hexadecimal digits has.
 fn written(text: &[u8]) {
-    let mut sheet = [0u8; SHEET_BYTES];
+    let mut sheet = [0u8; INPUT_BYTES];
     let n = hex::bytes(text, &mut sheet);
     run(&sheet[..n]);
 }
@@ -83,7 +84,7 @@ fn steps_4097() {
 
 fn longer() {
     io::write_all(STDOUT_FILENO, b"256 mappings, 4096 steps and one byte\n");
-    let mut sheet = [0u8; 38149];
+    let mut sheet = [0u8; INPUT_BYTES];
     large::fill(256, 4096, &mut sheet);
     run(&sheet);
 }

@@ -1,8 +1,8 @@
 // The run of a sheet for programs in C or Rust: `rt staticlib sheet_ffi` makes the library that they link.
 ghost use lib.ListN.{length};
 ghost use Rattle.io.specs.Counts.{Counts};
-ghost use Rattle.run_sheet.specs.Put.{Put};
-ghost use Rattle.run_sheet.specs.Ran.{textBytes, printed};
+ghost use Rattle.sheet_codec.specs.Put.{Put};
+ghost use Rattle.run_sheet.specs.Run.{textBytes, printed};
 
 // `run_sheet::run_sheet` under a name to link. In C a slice is a pointer and a length.
 #[no_mangle]

@@ -1,9 +1,9 @@
 -- `run_sheet::run_calls` meets its contract.
 use mathlib.Core.Path.{_∙_}
 use native.Mathlib.Omega.{arith}
-use Rattle.run_sheet.specs.Text.{stepLine}
+use Rattle.sheet_codec.specs.Text.{stepLineOf}
 use Rattle.run_sheet.proofs.Running.{ran-all}
-use Rattle.run_sheet.proofs.Sheet.{first-place}
+use Rattle.sheet_codec.proofs.Sheet.{first-place}
 use borrow.Author.Needs.{needs}
 use Rattle.run_sheet.proofs.run.run_calls.Statement.{statement}
 use Rattle.run_sheet.proofs.run.run_calls.Tie as tie
@@ -45,7 +45,7 @@ same-length-6 : tie.Need-same-length-6
 same-length-6 c = search (needs, c .before .before .before .before .before .before .before .before .before .before .before .before .before .before .before .before .before .run-steps .kept, c .before .before .before .before .before .before .before .before .before .before .before .before .before .before .before .before .before .before .before .before .before .before .before .before .before .before .before .before .before .before .run-mappings .kept)
 
 returns : tie.Need-returns
-returns c = ran-all stepLine _ (omega arith) (c .before .before .before .before .before .before .before .before .before .before .before .before .before .before .before .before .before .before .before .before .before .before .before .before .before .before .before .before .before .before .run-mappings .ensures) (c .before .before .before .before .before .before .before .before .before .before .before .before .before .before .before .before .before .run-steps .ensures)
+returns c = ran-all stepLineOf _ (c .before .before .before .before .before .before .before .before .before .before .before .before .before .before .before .before .before .before .before .before .before .before .before .before .before .before .before .before .before .before .run-mappings .ensures) (c .before .before .before .before .before .before .before .before .before .before .before .before .before .before .before .before .before .run-steps .ensures)
 
 pub run-calls-spec : {M : Type 1} → statement M
 run-calls-spec =

@@ -7,8 +7,8 @@ use Rattle.board.specs.Board.{board01}
 use Rattle.manager.specs.Tables.{tables}
 use Rattle.cache.specs.Store.{store}
 use Rattle.machine.specs.State.{state}
-use Rattle.run_sheet.specs.Format.{mappingCall}
-use Rattle.run_sheet.specs.Text.{mappingLine}
+use Rattle.sheet_codec.specs.Format.{mappingCall}
+use Rattle.sheet_codec.specs.Text.{mappingLineOf}
 use Rattle.run_sheet.specs.Ran.{Ran}
 use Rattle.run_sheet.specs.Run.{runFrom, advanceAll}
 use Rattle.run_sheet.proofs.Running.{ran-none, ran-next, ran-counted}
@@ -21,13 +21,13 @@ Inv-loop records protections₀ memory words tags sheet count text₀ from list�
     (i ≤ count)
     × (length protections ≡ length protections₀)
     × (length text ≡ length text₀)
-    × Ran (advanceAll board01 mappingLine (mappingCall sheet) i (runFrom (state (tables list₀ records protections₀) (store memory words tags)))) i text₀ from (state (tables list records protections) (store memory words tags)) text at flushes purges
+    × Ran (advanceAll board01 mappingLineOf (mappingCall sheet) i (runFrom (state (tables list₀ records protections₀) (store memory words tags)))) i text₀ from (state (tables list records protections) (store memory words tags)) text at flushes purges
 
 abbrev μ-loop : tie.MeasureT-loop
 μ-loop records protections₀ memory words tags sheet count text₀ from list₀ at₀ flushes₀ purges₀ i₀ protections text list at flushes purges i = count - i
 
 loop-holds : tie.Need-loop-holds Inv-loop μ-loop
-loop-holds c = (search needs, search needs, search needs, ran-none mappingLine _ _ _ _)
+loop-holds c = (search needs, search needs, search needs, ran-none mappingLineOf _ _ _ _)
 
 map-one-requires : tie.Need-map-one-requires Inv-loop μ-loop
 map-one-requires c κs = search needs
@@ -45,7 +45,7 @@ loop-less : tie.Need-loop-less Inv-loop μ-loop
 loop-less c = search needs
 
 loop-again : tie.Need-loop-again Inv-loop μ-loop
-loop-again c = (search needs, search needs, search needs, ran-next mappingLine _ _ (omega arith) (c .before .before .before .before .before .before .before .before .before .before .before .loop .inv .3) (c .before .before .before .before .before .before .before .map-one .ensures))
+loop-again c = (search needs, search needs, search needs, ran-next mappingLineOf _ _ (c .before .before .before .before .before .before .before .before .before .before .before .loop .inv .3) (c .before .before .before .before .before .before .before .map-one .ensures))
 
 same-length : tie.Need-same-length Inv-loop μ-loop
 same-length c = search needs
@@ -54,7 +54,7 @@ same-length-2 : tie.Need-same-length-2 Inv-loop μ-loop
 same-length-2 c = search needs
 
 returns : tie.Need-returns Inv-loop μ-loop
-returns c = ran-counted mappingLine _ _ (omega arith) (c .before .loop .inv .3)
+returns c = ran-counted mappingLineOf _ _ (omega arith) (c .before .loop .inv .3)
 
 pub run-mappings-spec : {M : Type 1} → statement M
 run-mappings-spec =

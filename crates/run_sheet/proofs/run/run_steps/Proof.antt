@@ -7,8 +7,8 @@ use Rattle.board.specs.Board.{board01}
 use Rattle.manager.specs.Tables.{tables}
 use Rattle.cache.specs.Store.{store}
 use Rattle.machine.specs.State.{state}
-use Rattle.run_sheet.specs.Format.{stepCall}
-use Rattle.run_sheet.specs.Text.{stepLine}
+use Rattle.sheet_codec.specs.Format.{stepCall}
+use Rattle.sheet_codec.specs.Text.{stepLineOf}
 use Rattle.run_sheet.specs.Ran.{Ran}
 use Rattle.run_sheet.specs.Run.{runFrom, advanceAll}
 use Rattle.run_sheet.proofs.Running.{ran-none, ran-next, ran-counted}
@@ -25,13 +25,13 @@ Inv-loop records₀ protections₀ memory₀ words₀ tags₀ sheet first count 
     × (length words ≡ length words₀)
     × (length tags ≡ length tags₀)
     × (length text ≡ length text₀)
-    × Ran (advanceAll board01 stepLine (stepCall board01 sheet) i (runFrom (state (tables list₀ records₀ protections₀) (store memory₀ words₀ tags₀)))) i text₀ from (state (tables list records protections) (store memory words tags)) text at flushes purges
+    × Ran (advanceAll board01 stepLineOf (stepCall board01 sheet) i (runFrom (state (tables list₀ records₀ protections₀) (store memory₀ words₀ tags₀)))) i text₀ from (state (tables list records protections) (store memory words tags)) text at flushes purges
 
 abbrev μ-loop : tie.MeasureT-loop
 μ-loop records₀ protections₀ memory₀ words₀ tags₀ sheet first count text₀ from list₀ at₀ flushes₀ purges₀ i₀ records protections memory words tags text list at flushes purges i = count - i
 
 loop-holds : tie.Need-loop-holds Inv-loop μ-loop
-loop-holds c = (search needs, search needs, search needs, search needs, search needs, search needs, search needs, ran-none stepLine _ _ _ _)
+loop-holds c = (search needs, search needs, search needs, search needs, search needs, search needs, search needs, ran-none stepLineOf _ _ _ _)
 
 step-one-requires : tie.Need-step-one-requires Inv-loop μ-loop
 step-one-requires c κs = search needs
@@ -49,7 +49,7 @@ loop-less : tie.Need-loop-less Inv-loop μ-loop
 loop-less c = search needs
 
 loop-again : tie.Need-loop-again Inv-loop μ-loop
-loop-again c = (search needs, search needs, search needs, search needs, search needs, search needs, search needs, ran-next stepLine _ _ (omega (arith, c .before .before .before .before .before .before .before .before .before .before .before .before .before .before .before .before .before .before .before .before .before .before .before .before .before .before .before .before .before .before .before .pre .3)) (c .before .before .before .before .before .before .before .before .before .before .before .before .before .before .before .before .before .before .before .before .before .before .before .loop .inv .7) (c .before .before .before .before .before .before .before .before .before .before .before .before .before .before .before .step-one .ensures))
+loop-again c = (search needs, search needs, search needs, search needs, search needs, search needs, search needs, ran-next stepLineOf _ _ (c .before .before .before .before .before .before .before .before .before .before .before .before .before .before .before .before .before .before .before .before .before .before .before .loop .inv .7) (c .before .before .before .before .before .before .before .before .before .before .before .before .before .before .before .step-one .ensures))
 
 same-length : tie.Need-same-length Inv-loop μ-loop
 same-length c = search needs
@@ -70,7 +70,7 @@ same-length-6 : tie.Need-same-length-6 Inv-loop μ-loop
 same-length-6 c = search needs
 
 returns : tie.Need-returns Inv-loop μ-loop
-returns c = ran-counted stepLine _ _ (omega arith) (c .before .loop .inv .7)
+returns c = ran-counted stepLineOf _ _ (omega arith) (c .before .loop .inv .7)
 
 pub run-steps-spec : {M : Type 1} → statement M
 run-steps-spec =

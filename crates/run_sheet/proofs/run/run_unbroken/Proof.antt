@@ -1,7 +1,7 @@
 -- `run_sheet::run_unbroken` meets its contract.
 use native.Mathlib.Omega.{arith}
 use Rattle.run_sheet.proofs.Running.{ran-as, ran-closed, run-is}
-use Rattle.run_sheet.proofs.Sheet.{counts-fit}
+use Rattle.sheet_codec.proofs.Sheet.{counts-fit}
 use borrow.Author.Needs.{needs}
 use Rattle.run_sheet.proofs.run.run_unbroken.Statement.{statement}
 use Rattle.run_sheet.proofs.run.run_unbroken.Tie as tie

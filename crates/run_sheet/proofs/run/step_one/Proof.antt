@@ -1,7 +1,7 @@
 -- `run_sheet::step_one` meets its contract.
 use Rattle.run_sheet.proofs.Making.{did-as}
 use Rattle.run_sheet.proofs.Running.{ran-step}
-use Rattle.run_sheet.proofs.Sheet.{call-at}
+use Rattle.sheet_codec.proofs.Sheet.{call-at}
 use borrow.Author.Needs.{needs}
 use Rattle.run_sheet.proofs.run.step_one.Statement.{statement}
 use Rattle.run_sheet.proofs.run.step_one.Tie as tie

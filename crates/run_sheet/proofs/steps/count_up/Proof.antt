@@ -7,7 +7,7 @@ use borrow.Author.Count.{below-none, below-more}
 use lib.ListN.{length, getD}
 use lib.Seq.{getD-set-same, getD-set-other, ext-getD}
 use Rattle.manager.proofs.Laws.{length-tabulate, getD-tabulate}
-use Rattle.run_sheet.specs.Format.{sentWord}
+use Rattle.sheet_codec.specs.Format.{sentWord}
 use Rattle.run_sheet.proofs.steps.count_up.Statement.{statement}
 use Rattle.run_sheet.proofs.steps.count_up.Tie as tie
 

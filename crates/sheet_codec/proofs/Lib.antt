@@ -1,0 +1,5 @@
+-- The laws of a sheet's bytes and of its text.
+pub mod Sheet
+pub mod Written
+pub mod Digits
+pub mod Theorems

@@ -1,0 +1,18 @@
+-- The theorems of a sheet's bytes.
+use mathlib.Core.Bool.{Bool, true, false}
+use mathlib.Core.List.{List}
+use mathlib.Core.Path.{_≡_, refl}
+use Prim.Native.Nat.{ℕ, _<_}
+use native.Mathlib.Omega.{arith}
+use lib.ListN.{length}
+use Rattle.sheet_codec.specs.Format.{mostBytes, mappingCount, mappingPlace, stepCount, stepPlace, sheetLength, isBroken}
+use Rattle.sheet_codec.specs.Theorems.{LongSheetBroken}
+use Rattle.sheet_codec.proofs.Sheet.{counts-fit, length-is}
+
+pub long-sheet-broken : LongSheetBroken
+unfolding sheetLength stepPlace mappingPlace
+long-sheet-broken s h = go (isBroken s) refl
+  where
+    go : (b : Bool) → isBroken s ≡ b → isBroken s ≡ true
+    go true e = e
+    go false e = absurd (omega (arith, h, length-is s e, counts-fit s e))

@@ -1,0 +1,20 @@
+-- `sheet_codec::operations_of` meets its contract.
+use mathlib.Core.Path.{refl}
+use borrow.Author.Needs.{needs}
+use Rattle.sheet_codec.proofs.answers.operations_of.Statement.{statement}
+use Rattle.sheet_codec.proofs.answers.operations_of.Tie as tie
+
+enum-told : tie.Need-enum-told
+enum-told c = search needs
+
+enum-known-answer : tie.Need-enum-known-answer
+enum-known-answer c = search needs
+
+returns : tie.Need-returns
+returns c = search needs
+
+returns-2 : tie.Need-returns-2
+returns-2 c = rw (c .before .answer .given .1) (refl, refl)
+
+pub operations-of-spec : {M : Type 1} → statement M
+operations-of-spec = tie.close (tie.spec enum-told enum-known-answer returns returns-2)

@@ -1,0 +1,30 @@
+-- `sheet_codec::kind_of` meets its contract.
+use borrow.Author.Tests.{ne-eqb}
+use mathlib.Core.Path.{_≡_}
+use Rattle.sheet_codec.proofs.format.kind_of.Statement.{statement}
+use Rattle.sheet_codec.proofs.format.kind_of.Tie as tie
+
+returns : tie.Need-returns
+returns c = let e : c .before .args .n ≡ 1 = c .match .keys1 in rw e
+
+returns-2 : tie.Need-returns-2
+returns-2 c = let e : c .before .args .n ≡ 2 = c .match .keys2 in rw e
+
+returns-3 : tie.Need-returns-3
+returns-3 c = let e : c .before .args .n ≡ 3 = c .match .keys3 in rw e
+
+returns-4 : tie.Need-returns-4
+returns-4 c = let e : c .before .args .n ≡ 4 = c .match .keys4 in rw e
+
+returns-5 : tie.Need-returns-5
+returns-5 c = let e : c .before .args .n ≡ 5 = c .match .keys5 in rw e
+
+returns-6 : tie.Need-returns-6
+returns-6 c = let e : c .before .args .n ≡ 6 = c .match .keys6 in rw e
+
+returns-7 : tie.Need-returns-7
+returns-7 c = simp (ne-eqb (c .before .args .n) 1 (c .match .rest .0 .0 .0 .0 .0 .1), ne-eqb (c .before .args .n) 2 (c .match .rest .0 .0 .0 .0 .1), ne-eqb (c .before .args .n) 3 (c .match .rest .0 .0 .0 .1), ne-eqb (c .before .args .n) 4 (c .match .rest .0 .0 .1), ne-eqb (c .before .args .n) 5 (c .match .rest .0 .1), ne-eqb (c .before .args .n) 6 (c .match .rest .1))
+
+pub kind-of-spec : {M : Type 1} → statement M
+kind-of-spec =
+    tie.close (tie.spec returns returns-2 returns-3 returns-4 returns-5 returns-6 returns-7)

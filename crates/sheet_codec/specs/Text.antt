@@ -1,0 +1,108 @@
+-- Document 01, "The run sheet": the lines that are printed, as ASCII codes.
+use mathlib.Core.Bool.{cond}
+use mathlib.Core.List.{List, [], _∷_, _++_}
+use mathlib.Core.Option.{Option, none, some}
+use Prim.Native.Nat.{ℕ, zero, suc, _/_}
+use lib.Dec.{ltb}
+use lib.ListN.{getD}
+use Rattle.io.specs.Digits.{digits}
+use Rattle.manager.specs.Answers as order
+use Rattle.manager.specs.Answers.{FrameOperation, Outcome, refused, accepted, numberOf, firstOf, secondOf}
+use Rattle.machine.specs.State.{Call, map, unmap, read, write, deviceRead, deviceWrite, evict, Answer}
+use Rattle.sheet_codec.specs.declared.Shown.{Shown}
+use Rattle.sheet_codec.specs.declared.Shown.the-variants.{Absent, Word}
+
+-- ---- characters
+
+abbrev pub newline : ℕ
+newline = 10
+
+abbrev pub space : ℕ
+space = 32
+
+abbrev pub dash : ℕ
+dash = 45
+
+abbrev pub dot : ℕ
+dot = 46
+
+-- ---- numbers
+
+-- how many decimal digits n has, if it has no more than 1 + limit
+unfoldable pub places : ℕ → ℕ → ℕ
+places zero n = 1
+places (suc limit) n = cond (ltb n 10) 1 (suc (places limit (n / 10)))
+
+-- a number below 10 ^ 20
+unfoldable pub decimal : ℕ → List ℕ
+unfolding places
+decimal n = digits 10 (places 19 n) n
+
+-- ---- what is told of an answer
+
+-- F or P, then frame, a dot, colour; or a dash
+unfoldable pub operationText : FrameOperation → List ℕ
+unfolding decimal
+operationText order.none = dash ∷ []
+operationText (order.flush f c) = 70 ∷ (decimal f ++ (dot ∷ decimal c))
+operationText (order.purge f c) = 80 ∷ (decimal f ++ (dot ∷ decimal c))
+
+unfoldable pub wordText : Option ℕ → List ℕ
+unfolding decimal
+wordText none = dash ∷ []
+wordText (some word) = decimal word
+
+-- the first word of what an accepted device read gave, else none
+abbrev pub firstWord : Outcome → List ℕ → Option ℕ
+firstWord (refused n) buffer = none
+firstWord (accepted f ops) buffer = some (getD buffer 0 0)
+
+-- the word read, for a device read its first
+abbrev pub wordOf : Call → Answer → Option ℕ
+wordOf (map space page frame rights) a = none
+wordOf (unmap space page) a = none
+wordOf (read space page offset) a = a .word
+wordOf (write space page offset word) a = none
+wordOf (deviceRead frame buffer) a = firstWord (a .outcome) (a .buffer)
+wordOf (deviceWrite frame buffer) a = none
+wordOf (evict line) a = none
+
+-- ---- the lines
+
+-- no line has more bytes
+abbrev pub lineBytes : ℕ
+lineBytes = 160
+
+-- `mk R`
+unfoldable pub mappingLine : ℕ → ℕ → List ℕ
+unfolding decimal
+mappingLine k number = 109 ∷ (decimal k ++ (space ∷ (decimal number ++ (newline ∷ []))))
+
+abbrev pub mappingLineOf : ℕ → Call → Answer → List ℕ
+mappingLineOf k call a = mappingLine k (numberOf (a .outcome))
+
+-- `R A B`
+unfoldable pub answerText : Outcome → List ℕ
+answerText o = decimal (numberOf o) ++ (space ∷ (operationText (firstOf o) ++ (space ∷ operationText (secondOf o))))
+
+-- `k R A B V`
+unfoldable pub stepLine : ℕ → Outcome → Option ℕ → List ℕ
+stepLine k o word = decimal k ++ (space ∷ (answerText o ++ (space ∷ (wordText word ++ (newline ∷ [])))))
+
+abbrev pub stepLineOf : ℕ → Call → Answer → List ℕ
+stepLineOf k call a = stepLine k (a .outcome) (wordOf call a)
+
+-- `end F P`
+unfoldable pub endLine : ℕ → ℕ → List ℕ
+unfolding decimal
+endLine flushes purges = 101 ∷ 110 ∷ 100 ∷ space ∷ (decimal flushes ++ (space ∷ (decimal purges ++ (newline ∷ []))))
+
+-- `refused 11`
+abbrev pub refusedLine : List ℕ
+refusedLine = 114 ∷ 101 ∷ 102 ∷ 117 ∷ 115 ∷ 101 ∷ 100 ∷ space ∷ 49 ∷ 49 ∷ newline ∷ []
+
+-- ---- what the code holds of an answer
+
+abbrev pub shownWord : Shown → Option ℕ
+shownWord Absent = none
+shownWord (Word word) = some word
