@@ -1,16 +1,17 @@
 -- The laws of masks, for any width: what each operation does to bit k, and what the bits tell of the mask. Passes on those of `Places`.
 use mathlib.Core.Path.{_≡_, refl, sym, ap, ap₂, _∙_, subst}
 use mathlib.Core.Bool.{Bool, true, false, not, _&&_, _||_, cond}
-use Prim.Native.Nat.{ℕ, zero, suc, _+_, _-_, _*_, _/_, _%_, _^_, _<_}
+use Prim.Native.Nat.{ℕ, zero, suc, _+_, _-_, _*_, _/_, _%_, _^_, _≤_, _<_}
 use native.Mathlib.Omega.{arith}
-use native.Mathlib.Nat.{pow-suc, div-one, zero-div, mod-eq-of-lt, add-zero, one-mul}
+use native.Mathlib.Decide.{decLt}
+use native.Mathlib.Nat.{pow-suc, div-one, div-eq-of-lt, div-add-mod', mod-lt, zero-div, mod-eq-of-lt, add-zero, one-mul}
 use native.Mathlib.Numerals.{add-one, one-add}
-use borrow.Author.Tests.{eqb-true, eq-eqb, not-true}
+use borrow.Author.Tests.{eqb-true, eq-eqb, ne-eqb, lt-ltb, le-ltb, not-true}
 use lib.Arith.{lt-one}
 use lib.Bits.{bitAnd, bitOr, and-shr, or-shr, and-mod, or-mod, or-lt, and-le-l}
 use lib.Count.{ones, trailingZeros, under, ones-step, ones-cat}
-use lib.Dec.{eqb, lit<, eqb·zero-suc, eqb·suc-zero, eqb·suc-suc}
-use lib.Pow.{pow-pos, pow-lt, shr-shr, shr-lt}
+use lib.Dec.{eqb, ltb, lit<, eqb·zero-suc, eqb·suc-zero, eqb·suc-suc}
+use lib.Pow.{pow-pos, pow-lt, pow-mono, shr-shr, shr-lt}
 use Rattle.bits.proofs.Tautology.{iff}
 pub use Rattle.bits.proofs.Places.{at-place, all-at, all-of, any-cong, any-none, any-of, any-at, any-one, countOf-cong, places-at, places-none, places-one, places-few}
 use Rattle.bits.specs.Mask.{bit, withBit, withoutBit, digit, maskOf, countOf, all}
@@ -167,9 +168,17 @@ pub with-lt : (n m j : ℕ) → m < 2 ^ n → j < n → withBit m j < 2 ^ n
 unfolding withBit
 with-lt n m j l lj = or-lt n m (2 ^ j) l (pow-lt lj)
 
-pub without-lt : (n m j : ℕ) → m < 2 ^ n → withoutBit n m j < 2 ^ n
+pub without-lt : (n w m j : ℕ) → m < 2 ^ n → withoutBit w m j < 2 ^ n
 unfolding withoutBit
-without-lt n m j l = omega (arith, and-le-l m (2 ^ n - 1 - 2 ^ j))
+without-lt n w m j l = omega (arith, and-le-l m (2 ^ w - 1 - 2 ^ j))
+
+-- no bit stands past the first k places exactly if the mask is below 2 ^ k
+pub shr-none : (m k : ℕ) → eqb (m / 2 ^ k) 0 ≡ ltb m (2 ^ k)
+shr-none m k = go (decLt m (2 ^ k))
+  where
+    go : Dec (m < 2 ^ k) → eqb (m / 2 ^ k) 0 ≡ ltb m (2 ^ k)
+    go (yes h) = eq-eqb _ 0 (div-eq-of-lt h) ∙ sym (lt-ltb m (2 ^ k) h)
+    go (no h) = ne-eqb (m / 2 ^ k) 0 (λ e. h (omega (arith, div-add-mod' m (2 ^ k), mod-lt m (pow-pos k), ap (λ (x : ℕ). x * 2 ^ k) e))) ∙ sym (le-ltb m (2 ^ k) (omega arith))
 
 -- no bit, or those of m
 pub bit-cond : (b : Bool) (m k : ℕ) → bit (cond b 0 m) k ≡ (not b && bit m k)
@@ -221,3 +230,10 @@ ones-pow d = ap ones (sym (add-zero (2 ^ d)) ∙ ap (λ (x : ℕ). x + 0) (sym (
 pub one-countOf : (n d : ℕ) (p : ℕ → Bool) → d < n → ((k : ℕ) → k < n → p k ≡ eqb d k) → countOf n p ≡ 1
 one-countOf n d p l h =
     sym (ones-bits n (2 ^ d) (pow-lt l) ∙ countOf-cong n (bit (2 ^ d)) p (λ k j. bit-one d k ∙ sym (h k j))) ∙ ones-pow d
+
+-- and the trailing zeros are the same at any greater width
+pub only-bit-wide : (n w m : ℕ) → n ≤ w → m < 2 ^ n → ones m ≡ 1 → trailingZeros w m ≡ trailingZeros n m
+only-bit-wide n w m few h e =
+    let a = only-bit w m (omega (arith, pow-mono few)) e in
+    let b = only-bit n m h e in
+    eqb-true _ _ (sym (bit-one _ _) ∙ ap (λ (x : ℕ). bit x (trailingZeros n m)) (sym (a .1) ∙ b .1) ∙ bit-one _ _ ∙ eq-eqb (trailingZeros n m) _ refl)

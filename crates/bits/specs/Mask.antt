@@ -5,9 +5,9 @@ use Prim.Native.Nat.{ℕ, zero, suc, _+_, _-_, _*_, _/_, _%_, _^_}
 use lib.Bits.{bitAnd, bitOr}
 use lib.Dec.{eqb}
 
--- the bits of a byte, the mask of the code
+-- the bits of a u32, the mask of the code
 abbrev pub width : ℕ
-width = 8
+width = 32
 
 -- whether bit k of m is set
 unfoldable pub bit : ℕ → ℕ → Bool

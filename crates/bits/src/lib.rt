@@ -1,10 +1,11 @@
-// Masks of eight bits: whether a bit is set, a mask with a bit set, a mask with a bit cleared.
+// Masks of 32 bits: whether a bit is set, a mask with a bit set, a mask with a bit cleared.
 ghost use mathlib.Core.Path.{_≡_};
-ghost use Prim.Native.Nat.{_<_};
+ghost use Prim.Native.Nat.{_≤_, _<_, _^_};
+ghost use lib.Dec.{ltb};
 ghost use Rattle.bits.specs.Mask.{width, bit, withBit, withoutBit};
 
 // Whether the bit at a place is set.
-pub fn bit(mask: u8, place: usize) -> bool
+pub fn bit(mask: u32, place: usize) -> bool
     requires { ⌜ place < width ⌝ }
     ensures { λ r. ⌜ r ≡ bit mask place ⌝ }
 {
@@ -12,7 +13,7 @@ pub fn bit(mask: u8, place: usize) -> bool
 }
 
 // The mask with the bit at a place set.
-pub fn with_bit(mask: u8, place: usize) -> u8
+pub fn with_bit(mask: u32, place: usize) -> u32
     requires { ⌜ place < width ⌝ }
     ensures { λ r. ⌜ r ≡ withBit mask place ⌝ }
 {
@@ -20,9 +21,23 @@ pub fn with_bit(mask: u8, place: usize) -> u8
 }
 
 // The mask with the bit at a place cleared.
-pub fn without_bit(mask: u8, place: usize) -> u8
+pub fn without_bit(mask: u32, place: usize) -> u32
     requires { ⌜ place < width ⌝ }
     ensures { λ r. ⌜ r ≡ withoutBit width mask place ⌝ }
 {
     mask & !(1 << place)
+}
+
+// Whether every bit of the mask stands at one of the first places.
+pub fn within(mask: u32, places: usize) -> bool
+    requires { ⌜ places ≤ width ⌝ }
+    ensures { λ r. ⌜ r ≡ ltb mask (2 ^ places) ⌝ }
+{
+    wide(mask) >> places == 0
+}
+
+fn wide(mask: u32) -> u64
+    ensures { λ r. ⌜ r ≡ mask ⌝ }
+{
+    mask as u64
 }

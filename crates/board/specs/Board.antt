@@ -1,18 +1,12 @@
 -- Document 01, "The board as modelled": the four numbers, and which line, word and colour belong to which page and offset.
-use Prim.Native.Nat.{ℕ, _+_, _*_, _/_, _%_, _<_}
-use mathlib.Core.List.{List, [], _∷_}
+use Prim.Native.Nat.{ℕ, _+_, _*_, _/_, _%_, _≤_, _<_}
 use mathlib.Core.Path.{_≡_}
-
--- a board by its four numbers
-pub record Board : Type 0 where
-  pub pageWords : ℕ
-  pub lineWords : ℕ
-  pub colours : ℕ
-  pub frames : ℕ
+-- a board by its four numbers: words in a page and in a line, colours, frames. It is the code's struct
+pub use Rattle.board.specs.declared.Board.{Board}
 
 -- document 01's board
 abbrev pub board01 : Board
-board01 = record { pageWords = 64; lineWords = 8; colours = 8; frames = 64 }
+board01 = record { page = 64; line = 8; colours = 8; frames = 64 }
 
 -- the address spaces, and the virtual pages of each; the same on every board
 abbrev pub spaces : ℕ
@@ -25,22 +19,17 @@ pages = 1024
 
 -- the lines of one page, and of the whole cache
 unfoldable pub pageLines : Board → ℕ
-pageLines b = b .pageWords / b .lineWords
+pageLines b = b .page / b .line
 
 unfoldable pub lines : Board → ℕ
 unfolding pageLines
 lines b = b .colours * pageLines b
 
 unfoldable pub cacheWords : Board → ℕ
-cacheWords b = b .colours * b .pageWords
+cacheWords b = b .colours * b .page
 
 unfoldable pub memoryWords : Board → ℕ
-memoryWords b = b .frames * b .pageWords
-
--- every number of a board, in the order of the code's constants
-unfoldable pub sizes : Board → List ℕ
-sizes b =
-    b .pageWords ∷ b .lineWords ∷ b .colours ∷ b .frames ∷ pageLines b ∷ lines b ∷ cacheWords b ∷ memoryWords b ∷ spaces ∷ pages ∷ []
+memoryWords b = b .frames * b .page
 
 -- ---- places
 
@@ -51,7 +40,7 @@ colourOf b page = page % b .colours
 -- the line in which offset o lies in colour c
 unfoldable pub lineOf : Board → ℕ → ℕ → ℕ
 unfolding pageLines
-lineOf b c o = c * pageLines b + o / b .lineWords
+lineOf b c o = c * pageLines b + o / b .line
 
 -- line i of the lines of colour c, in rising order
 unfoldable pub colourLine : Board → ℕ → ℕ → ℕ
@@ -60,12 +49,12 @@ colourLine b c i = c * pageLines b + i
 
 -- the first word of line n in the cache
 unfoldable pub lineAt : Board → ℕ → ℕ
-lineAt b n = n * b .lineWords
+lineAt b n = n * b .line
 
 -- the word of the cache that holds offset o in colour c
 unfoldable pub cacheAt : Board → ℕ → ℕ → ℕ
 unfolding lineOf lineAt
-cacheAt b c o = lineAt b (lineOf b c o) + o % b .lineWords
+cacheAt b c o = lineAt b (lineOf b c o) + o % b .line
 
 -- the colour that line n belongs to, and the first offset of a page that lies in it
 unfoldable pub lineColour : Board → ℕ → ℕ
@@ -74,11 +63,11 @@ lineColour b n = n / pageLines b
 
 unfoldable pub lineOffset : Board → ℕ → ℕ
 unfolding pageLines
-lineOffset b n = n % pageLines b * b .lineWords
+lineOffset b n = n % pageLines b * b .line
 
 -- the first word of frame f in memory, and its word at offset o
 unfoldable pub frameAt : Board → ℕ → ℕ
-frameAt b f = f * b .pageWords
+frameAt b f = f * b .page
 
 unfoldable pub memoryAt : Board → ℕ → ℕ → ℕ
 unfolding frameAt
@@ -86,10 +75,12 @@ memoryAt b f o = frameAt b f + o
 
 -- ---- the boards of which the laws hold
 
--- a board has words and colours, its line divides its page, and a tag byte has room for its frames, clean and dirty
+-- a board has words and colours, its line divides its page, and no number passes its limit
 pub record Regular (b : Board) : Type 0 where
-  pub line-words : 0 < b .lineWords
-  pub page-words : 0 < b .pageWords
+  pub has-line-words : 0 < b .line
+  pub has-page-words : 0 < b .page
   pub has-colours : 0 < b .colours
-  pub divides : pageLines b * b .lineWords ≡ b .pageWords
-  pub few-frames : b .frames < 128
+  pub divides : pageLines b * b .line ≡ b .page
+  pub few-words : b .page ≤ 1024
+  pub few-colours : b .colours ≤ 32
+  pub few-frames : b .frames ≤ 64

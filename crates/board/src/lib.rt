@@ -1,90 +1,121 @@
 // The board: its four numbers, the sizes that follow from them, and which word, line and colour belong together.
 ghost use mathlib.Core.Path.{_≡_};
-ghost use Prim.Native.Nat.{_<_};
-ghost use Rattle.board.specs.Board.{board01, sizes, colourOf, lines, lineOf, lineAt, cacheAt, lineOffset, memoryAt};
+ghost use Prim.Native.Nat.{_+_, _≤_, _<_};
+ghost use Rattle.board.specs.Board.{Regular, colourOf, pageLines, lines, cacheWords, memoryWords, lineOf, colourLine, lineAt, cacheAt, lineOffset, memoryAt};
 
-// Words in a page, words in a line, colours (cache pages), frames (physical pages).
-pub const PAGE_WORDS: usize = 64;
+// A board: words in a page, words in a line, colours (cache pages), frames (physical pages).
+pub struct Board {
+    pub page: usize,
+    pub line: usize,
+    pub colours: usize,
+    pub frames: usize,
+}
 
-pub const LINE_WORDS: usize = 8;
-
-pub const COLOURS: usize = 8;
-
-pub const FRAMES: usize = 64;
-
-pub const PAGE_LINES: usize = PAGE_WORDS / LINE_WORDS;
-
-pub const LINES: usize = COLOURS * PAGE_LINES;
-
-pub const CACHE_WORDS: usize = COLOURS * PAGE_WORDS;
-
-pub const MEMORY_WORDS: usize = FRAMES * PAGE_WORDS;
+// Document 01's board, which every call passes on. Nothing below the calls knows it.
+pub const BOARD01: Board = Board {
+    page: 64,
+    line: 8,
+    colours: 8,
+    frames: 64,
+};
 
 // The address spaces, and the virtual pages of each.
 pub const SPACES: usize = 16;
 
 pub const PAGES: usize = 1024;
 
-// Every constant above, in order. A constant carries no contract, so this function ties them to the definitions.
-pub fn sizes() -> [usize; 10]
-    ensures { λ r. ⌜ r ≡ sizes board01 ⌝ }
+// The lines of a page.
+pub fn page_lines(board: Board) -> usize
+    requires { ⌜ Regular board ⌝ }
+    ensures { λ r. ⌜ r ≡ pageLines board ⌝ }
+    ensures within { λ r. ⌜ r ≤ 1024 ⌝ }
 {
-    [
-        PAGE_WORDS,
-        LINE_WORDS,
-        COLOURS,
-        FRAMES,
-        PAGE_LINES,
-        LINES,
-        CACHE_WORDS,
-        MEMORY_WORDS,
-        SPACES,
-        PAGES,
-    ]
+    board.page / board.line
+}
+
+// The lines of the cache.
+pub fn lines(board: Board) -> usize
+    requires { ⌜ Regular board ⌝ }
+    ensures { λ r. ⌜ r ≡ lines board ⌝ }
+{
+    board.colours * page_lines(board)
+}
+
+// The words of the cache.
+pub fn cache_words(board: Board) -> usize
+    requires { ⌜ Regular board ⌝ }
+    ensures { λ r. ⌜ r ≡ cacheWords board ⌝ }
+{
+    board.colours * board.page
+}
+
+// The words of memory.
+pub fn memory_words(board: Board) -> usize
+    requires { ⌜ Regular board ⌝ }
+    ensures { λ r. ⌜ r ≡ memoryWords board ⌝ }
+{
+    board.frames * board.page
 }
 
 // The colour of a virtual page.
-pub fn colour_of(page: usize) -> usize
-    ensures { λ r. ⌜ r ≡ colourOf board01 page ⌝ }
+pub fn colour_of(board: Board, page: usize) -> usize
+    requires { ⌜ Regular board ⌝ }
+    ensures { λ r. ⌜ r ≡ colourOf board page ⌝ }
+    ensures within { λ r. ⌜ r < board .colours ⌝ }
 {
-    page % COLOURS
+    page % board.colours
 }
 
 // The cache line in which an offset of a page lies that goes through a colour.
-pub fn line_of(colour: usize, offset: usize) -> usize
-    requires { ⌜ colour < board01 .colours ⌝ }
-    ensures { λ r. ⌜ r ≡ lineOf board01 colour offset ⌝ }
+pub fn line_of(board: Board, colour: usize, offset: usize) -> usize
+    requires { ⌜ Regular board × (colour < board .colours) × (offset < board .page) ⌝ }
+    ensures { λ r. ⌜ r ≡ lineOf board colour offset ⌝ }
+    ensures within { λ r. ⌜ r < lines board ⌝ }
 {
-    colour * PAGE_LINES + offset / LINE_WORDS
+    colour * page_lines(board) + offset / board.line
+}
+
+// A line of a colour, by its number among them.
+pub fn colour_line(board: Board, colour: usize, i: usize) -> usize
+    requires { ⌜ Regular board × (colour < board .colours) × (i < pageLines board) ⌝ }
+    ensures { λ r. ⌜ r ≡ colourLine board colour i ⌝ }
+    ensures within { λ r. ⌜ r < lines board ⌝ }
+{
+    colour * page_lines(board) + i
 }
 
 // The first word of a line in the cache.
-pub fn line_at(line: usize) -> usize
-    requires { ⌜ line < lines board01 ⌝ }
-    ensures { λ r. ⌜ r ≡ lineAt board01 line ⌝ }
+pub fn line_at(board: Board, line: usize) -> usize
+    requires { ⌜ Regular board × (line < lines board) ⌝ }
+    ensures { λ r. ⌜ r ≡ lineAt board line ⌝ }
+    ensures within { λ r. ⌜ (r + board .line ≤ cacheWords board) × (cacheWords board ≤ 32768) ⌝ }
 {
-    line * LINE_WORDS
+    line * board.line
 }
 
 // The word of the cache that holds an offset in a colour.
-pub fn cache_at(colour: usize, offset: usize) -> usize
-    requires { ⌜ (colour < board01 .colours) × (offset < board01 .pageWords) ⌝ }
-    ensures { λ r. ⌜ r ≡ cacheAt board01 colour offset ⌝ }
+pub fn cache_at(board: Board, colour: usize, offset: usize) -> usize
+    requires { ⌜ Regular board × (colour < board .colours) × (offset < board .page) ⌝ }
+    ensures { λ r. ⌜ r ≡ cacheAt board colour offset ⌝ }
+    ensures within { λ r. ⌜ (r < cacheWords board) × (cacheWords board ≤ 32768) ⌝ }
 {
-    colour * PAGE_WORDS + offset
+    colour * board.page + offset
 }
 
 // The first offset of a page that lies in a line.
-pub fn line_offset(line: usize) -> usize
-    ensures { λ r. ⌜ r ≡ lineOffset board01 line ⌝ }
+pub fn line_offset(board: Board, line: usize) -> usize
+    requires { ⌜ Regular board ⌝ }
+    ensures { λ r. ⌜ r ≡ lineOffset board line ⌝ }
+    ensures within { λ r. ⌜ r + board .line ≤ board .page ⌝ }
 {
-    line % PAGE_LINES * LINE_WORDS
+    line % page_lines(board) * board.line
 }
 
 // The word of memory at an offset of a frame.
-pub fn memory_at(frame: usize, offset: usize) -> usize
-    requires { ⌜ (frame < board01 .frames) × (offset < board01 .pageWords) ⌝ }
-    ensures { λ r. ⌜ r ≡ memoryAt board01 frame offset ⌝ }
+pub fn memory_at(board: Board, frame: usize, offset: usize) -> usize
+    requires { ⌜ Regular board × (frame < board .frames) × (offset < board .page) ⌝ }
+    ensures { λ r. ⌜ r ≡ memoryAt board frame offset ⌝ }
+    ensures within { λ r. ⌜ (r + board .page ≤ memoryWords board + offset) × (memoryWords board ≤ 65536) ⌝ }
 {
-    frame * PAGE_WORDS + offset
+    frame * board.page + offset
 }

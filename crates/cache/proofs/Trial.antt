@@ -1,6 +1,7 @@
 -- The two trial claims, from the laws alone.
 use mathlib.Core.Path.{_∙_}
-use Rattle.board.specs.Board.{Board, Regular}
+use Rattle.board.specs.declared.Board.{Board}
+use Rattle.board.specs.Board.{Regular}
 use Rattle.cache.specs.Cache.{writeWord}
 use Rattle.cache.specs.Trial.{WrittenAndFlushed, PurgedNamesNone}
 use Rattle.cache.proofs.Laws.Access.{writeWord-kept, writeWord-tag-same, writeWord-word-same}

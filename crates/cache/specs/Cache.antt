@@ -3,7 +3,8 @@ use mathlib.Core.Bool.{not}
 use mathlib.Core.List.{List}
 use Prim.Native.Nat.{ℕ, zero, suc}
 use lib.ListN.{set}
-use Rattle.board.specs.Board.{Board, pageLines, lineOf, colourLine, lineAt, cacheAt, lineOffset, frameAt, memoryAt}
+use Rattle.board.specs.declared.Board.{Board}
+use Rattle.board.specs.Board.{pageLines, lineOf, colourLine, lineAt, cacheAt, lineOffset, frameAt, memoryAt}
 use Rattle.cache.specs.Part.{part, overlay}
 use Rattle.cache.specs.Store.{Store, tagAt, wordAt, withMemory, withWords, withTag, when}
 use Rattle.cache.specs.Tag.{emptyTag, cleanTag, dirtyTag, isDirty, names, frameOf}
@@ -13,7 +14,7 @@ use Rattle.cache.specs.Tag.{emptyTag, cleanTag, dirtyTag, isDirty, names
 -- the words of line n
 unfoldable pub lineWordsOf : Board → ℕ → Store → List ℕ
 unfolding part lineAt
-lineWordsOf b n s = part (s .words) (lineAt b n) (b .lineWords)
+lineWordsOf b n s = part (s .words) (lineAt b n) (b .line)
 
 -- line n's words go to memory of frame f, at the line's offset
 unfoldable pub copyOut : Board → ℕ → ℕ → Store → Store
@@ -39,7 +40,7 @@ unfoldable pub fill : Board → ℕ → ℕ → Store → Store
 unfolding part overlay memoryAt lineOffset lineAt
 fill b f n s =
     withTag n (cleanTag f)
-    (withWords (overlay (s .words) (lineAt b n) (part (s .memory) (memoryAt b f (lineOffset b n)) (b .lineWords))) s)
+    (withWords (overlay (s .words) (lineAt b n) (part (s .memory) (memoryAt b f (lineOffset b n)) (b .line))) s)
 
 -- ---- the lines of a colour
 
@@ -99,7 +100,7 @@ writeWord b f c o v s = putWord b f c o v (access b f c o s)
 -- the frame's words in memory, in order of offset
 unfoldable pub deviceRead : Board → ℕ → Store → List ℕ
 unfolding part frameAt
-deviceRead b f s = part (s .memory) (frameAt b f) (b .pageWords)
+deviceRead b f s = part (s .memory) (frameAt b f) (b .page)
 
 -- memory with the buffer's words as the frame's
 unfoldable pub deviceWrite : Board → ℕ → List ℕ → Store → Store

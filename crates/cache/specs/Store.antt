@@ -4,7 +4,8 @@ use mathlib.Core.Path.{_≡_}
 use mathlib.Core.List.{List}
 use Prim.Native.Nat.{ℕ}
 use lib.ListN.{length, getD, set}
-use Rattle.board.specs.Board.{Board, memoryWords, cacheWords, lines, memoryAt, cacheAt}
+use Rattle.board.specs.declared.Board.{Board}
+use Rattle.board.specs.Board.{memoryWords, cacheWords, lines, memoryAt, cacheAt}
 use Rattle.cache.specs.Tag.{tagsKeepRules}
 
 pub record Store : Type 0 where

@@ -2,7 +2,8 @@
 use mathlib.Core.Bool.{false}
 use mathlib.Core.Path.{_≡_}
 use Prim.Native.Nat.{ℕ, _<_}
-use Rattle.board.specs.Board.{Board, lines, lineColour}
+use Rattle.board.specs.declared.Board.{Board}
+use Rattle.board.specs.Board.{lines, lineColour}
 use Rattle.cache.specs.Store.{Store, WellFormed, tagAt, memoryWord}
 use Rattle.cache.specs.Tag.{names}
 use Rattle.cache.specs.Cache.{flush, purge, writeWord}
@@ -10,7 +11,7 @@ use Rattle.cache.specs.Cache.{flush, purge, writeWord}
 -- a word written through colour c is in memory after a flush
 abbrev pub WrittenAndFlushed : Board → Type 0
 WrittenAndFlushed b =
-    (f c o v : ℕ) (s : Store) → f < b .frames → c < b .colours → o < b .pageWords → WellFormed b s
+    (f c o v : ℕ) (s : Store) → f < b .frames → c < b .colours → o < b .page → WellFormed b s
     → memoryWord b (flush b f c (writeWord b f c o v s)) f o ≡ v
 
 -- after a purge no line of colour c names f

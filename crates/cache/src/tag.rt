@@ -1,8 +1,8 @@
 // What a line's tag byte says.
-use board::FRAMES;
+use board::Board;
 ghost use mathlib.Core.Path.{_≡_};
 ghost use Prim.Native.Nat.{_<_};
-ghost use Rattle.board.specs.Board.{board01};
+ghost use Rattle.board.specs.Board.{Regular};
 ghost use Rattle.cache.specs.Tag.{cleanTag, dirtyTag, names, tagKeepsRules, tagsKeepRules};
 
 // The tag of an empty line, and those of a clean and of a dirty line of frame 0.
@@ -13,12 +13,13 @@ pub const CLEAN: usize = 1;
 pub const DIRTY: usize = 129;
 
 // Whether every tag keeps the rules.
-pub fn tags_keep_rules(tags: &[u8]) -> bool
-    ensures { λ r. ⌜ r ≡ tagsKeepRules board01 (now (tags .entry)) ⌝ }
+pub fn tags_keep_rules(board: Board, tags: &[u8]) -> bool
+    requires { ⌜ Regular board ⌝ }
+    ensures { λ r. ⌜ r ≡ tagsKeepRules board (now (tags .entry)) ⌝ }
 {
     let mut i = 0;
     while i < tags.len() {
-        if !tag_keeps_rules(tags[i]) {
+        if !tag_keeps_rules(board, tags[i]) {
             return false;
         }
         i += 1;
@@ -27,19 +28,20 @@ pub fn tags_keep_rules(tags: &[u8]) -> bool
 }
 
 // Whether a tag is empty or names a frame of the board.
-pub fn tag_keeps_rules(tag: u8) -> bool
-    ensures { λ r. ⌜ r ≡ tagKeepsRules board01 tag ⌝ }
+pub fn tag_keeps_rules(board: Board, tag: u8) -> bool
+    requires { ⌜ Regular board ⌝ }
+    ensures { λ r. ⌜ r ≡ tagKeepsRules board tag ⌝ }
 {
     let t = tag as usize;
     if t < DIRTY {
-        return t < CLEAN + FRAMES;
+        return t < CLEAN + board.frames;
     }
-    t < DIRTY + FRAMES
+    t < DIRTY + board.frames
 }
 
 // Whether a tag names a frame.
 pub fn names(tag: u8, frame: usize) -> bool
-    requires { ⌜ frame < board01 .frames ⌝ }
+    requires { ⌜ frame < 127 ⌝ }
     ensures { λ r. ⌜ r ≡ names tag frame ⌝ }
 {
     let t = tag as usize;
@@ -48,7 +50,7 @@ pub fn names(tag: u8, frame: usize) -> bool
 
 // The tag of a clean line of a frame.
 pub fn clean_tag(frame: usize) -> u8
-    requires { ⌜ frame < board01 .frames ⌝ }
+    requires { ⌜ frame < 127 ⌝ }
     ensures { λ r. ⌜ r ≡ cleanTag frame ⌝ }
 {
     (CLEAN + frame) as u8
@@ -56,7 +58,7 @@ pub fn clean_tag(frame: usize) -> u8
 
 // The tag of a dirty line of a frame.
 pub fn dirty_tag(frame: usize) -> u8
-    requires { ⌜ frame < board01 .frames ⌝ }
+    requires { ⌜ frame < 127 ⌝ }
     ensures { λ r. ⌜ r ≡ dirtyTag frame ⌝ }
 {
     (DIRTY + frame) as u8

@@ -1,5 +1,5 @@
 // One step of the cache each, and a line of text on what it left. A step whose tags break the rules is left out.
-use board::LINE_WORDS;
+use board::BOARD01;
 use libc::STDOUT_FILENO;
 ghost use Prim.Native.Nat.{_<_};
 ghost use Rattle.board.specs.Board.{board01};
@@ -13,11 +13,11 @@ pub fn read(
     colour: usize,
     offset: usize,
 )
-    requires { ⌜ (frame < board01 .frames) × (colour < board01 .colours) × (offset < board01 .pageWords) ⌝ }
+    requires { ⌜ (frame < board01 .frames) × (colour < board01 .colours) × (offset < board01 .page) ⌝ }
 {
-    if cache::tag::tags_keep_rules(tags) {
-        let word = cache::access::read_word(memory, words, tags, frame, colour, offset);
-        let at = board::line_of(colour, offset);
+    if cache::tag::tags_keep_rules(BOARD01, tags) {
+        let word = cache::access::read_word(BOARD01, memory, words, tags, frame, colour, offset);
+        let at = board::line_of(BOARD01, colour, offset);
         io::write_all(STDOUT_FILENO, b"read ");
         two(wide(word), tag_number(tags[at]));
     }
@@ -33,12 +33,12 @@ pub fn write(
     offset: usize,
     word: u32,
 )
-    requires { ⌜ (frame < board01 .frames) × (colour < board01 .colours) × (offset < board01 .pageWords) ⌝ }
+    requires { ⌜ (frame < board01 .frames) × (colour < board01 .colours) × (offset < board01 .page) ⌝ }
 {
-    if cache::tag::tags_keep_rules(tags) {
-        cache::access::write_word(memory, words, tags, frame, colour, offset, word);
-        let at = board::line_of(colour, offset);
-        let home = board::memory_at(frame, offset);
+    if cache::tag::tags_keep_rules(BOARD01, tags) {
+        cache::access::write_word(BOARD01, memory, words, tags, frame, colour, offset, word);
+        let at = board::line_of(BOARD01, colour, offset);
+        let home = board::memory_at(BOARD01, frame, offset);
         io::write_all(STDOUT_FILENO, b"write ");
         two(tag_number(tags[at]), wide(memory[home]));
     }
@@ -54,8 +54,8 @@ pub fn flush(
 )
     requires { ⌜ (frame < board01 .frames) × (colour < board01 .colours) ⌝ }
 {
-    if cache::tag::tags_keep_rules(tags) {
-        cache::order::flush(memory, words, tags, frame, colour);
+    if cache::tag::tags_keep_rules(BOARD01, tags) {
+        cache::order::flush(BOARD01, memory, words, tags, frame, colour);
         io::write_all(STDOUT_FILENO, b"flush ");
         two(frame as u64, colour as u64);
     }
@@ -65,7 +65,7 @@ pub fn flush(
 pub fn purge(tags: &mut [u8; 64], frame: usize, colour: usize)
     requires { ⌜ (frame < board01 .frames) × (colour < board01 .colours) ⌝ }
 {
-    cache::order::purge(tags, frame, colour);
+    cache::order::purge(BOARD01, tags, frame, colour);
     io::write_all(STDOUT_FILENO, b"purge ");
     two(frame as u64, colour as u64);
 }
@@ -74,8 +74,8 @@ pub fn purge(tags: &mut [u8; 64], frame: usize, colour: usize)
 pub fn evict(memory: &mut [u32; 4096], words: &[u32; 512], tags: &mut [u8; 64], line: usize)
     requires { ⌜ line < 64 ⌝ }
 {
-    if cache::tag::tags_keep_rules(tags) {
-        cache::line::evict(memory, words, tags, line);
+    if cache::tag::tags_keep_rules(BOARD01, tags) {
+        cache::line::evict(BOARD01, memory, words, tags, line);
         io::write_all(STDOUT_FILENO, b"evict ");
         one(line as u64);
     }
@@ -85,7 +85,7 @@ pub fn evict(memory: &mut [u32; 4096], words: &[u32; 512], tags: &mut [u8; 64], 
 pub fn device_write(memory: &mut [u32; 4096], buffer: &[u32; 64], frame: usize)
     requires { ⌜ frame < board01 .frames ⌝ }
 {
-    cache::device::device_write(memory, buffer, frame);
+    cache::device::device_write(BOARD01, memory, buffer, frame);
     io::write_all(STDOUT_FILENO, b"device write ");
     one(frame as u64);
 }
@@ -94,32 +94,32 @@ pub fn device_write(memory: &mut [u32; 4096], buffer: &[u32; 64], frame: usize)
 pub fn device_read(memory: &[u32; 4096], buffer: &mut [u32; 64], frame: usize)
     requires { ⌜ frame < board01 .frames ⌝ }
 {
-    cache::device::device_read(memory, buffer, frame);
+    cache::device::device_read(BOARD01, memory, buffer, frame);
     io::write_all(STDOUT_FILENO, b"device read ");
     one(frame as u64);
 }
 
 // Writes a line's tag and one of its words.
 pub fn line(words: &[u32; 512], tags: &[u8; 64], line: usize, place: usize)
-    requires { ⌜ (line < 64) × (place < board01 .lineWords) ⌝ }
+    requires { ⌜ (line < 64) × (place < board01 .line) ⌝ }
 {
-    let at = line * LINE_WORDS + place;
+    let at = board::line_at(BOARD01, line) + place;
     io::write_all(STDOUT_FILENO, b"line ");
     two(tag_number(tags[line]), wide(words[at]));
 }
 
 // Writes memory's word at an offset of a frame.
 pub fn memory_word(memory: &[u32; 4096], frame: usize, offset: usize)
-    requires { ⌜ (frame < board01 .frames) × (offset < board01 .pageWords) ⌝ }
+    requires { ⌜ (frame < board01 .frames) × (offset < board01 .page) ⌝ }
 {
-    let at = board::memory_at(frame, offset);
+    let at = board::memory_at(BOARD01, frame, offset);
     io::write_all(STDOUT_FILENO, b"memory ");
     one(wide(memory[at]));
 }
 
 // Writes a word of a device's buffer.
 pub fn buffer_word(buffer: &[u32; 64], offset: usize)
-    requires { ⌜ offset < board01 .pageWords ⌝ }
+    requires { ⌜ offset < board01 .page ⌝ }
 {
     io::write_all(STDOUT_FILENO, b"buffer ");
     one(wide(buffer[offset]));
@@ -128,7 +128,7 @@ pub fn buffer_word(buffer: &[u32; 64], offset: usize)
 // Puts a tag in the first place, and writes whether all tags keep the rules.
 pub fn rule(tags: &mut [u8; 64], tag: u8) {
     tags[0] = tag;
-    if cache::tag::tags_keep_rules(tags) {
+    if cache::tag::tags_keep_rules(BOARD01, tags) {
         io::write_all(STDOUT_FILENO, b"kept\n");
     } else {
         io::write_all(STDOUT_FILENO, b"broken\n");

@@ -7,7 +7,7 @@ use Prim.Native.Nat.{ℕ, _<_}
 use native.Mathlib.Omega.{arith}
 use native.Mathlib.Decide.{ℕ-discrete}
 use Rattle.bits.proofs.Mask.{all-at, all-of}
-use Rattle.board.specs.Board.{Board}
+use Rattle.board.specs.declared.Board.{Board}
 use Rattle.page_model.specs.declared.FrameRecord.{FrameRecord}
 use Rattle.page_model.specs.Record.{stateOf, keepsRules}
 use Rattle.page_model.specs.Step.{cellOf, recordAfter}

@@ -7,7 +7,8 @@ use Prim.Native.Nat.{ℕ, _<_}
 use lib.Dec.{eqb}
 use lib.ListN.{length, getD}
 use borrow.Author.Tests.{eq-eqb, ne-eqb}
-use Rattle.board.specs.Board.{Board, Regular, lineOf}
+use Rattle.board.specs.declared.Board.{Board}
+use Rattle.board.specs.Board.{Regular, lineOf}
 use Rattle.page_model.specs.declared.FrameRecord.{FrameRecord}
 use Rattle.page_model.specs.Record.{stateOf, isHeld}
 use Rattle.page_model.specs.Table as table
@@ -55,9 +56,9 @@ module _ (b : Board) (reg : Regular b) (st : State) (m : Cacheless) (inv : Invar
       (stateOf (recordAt (st .tables .records) g)) (m .word g) ne (inv .agrees g hg)
 
   -- no line of the frame is dirty, so memory has its words
-  read-words : hardware.deviceRead b f cleaned ≡ tabulate (b .pageWords) (m .word f)
+  read-words : hardware.deviceRead b f cleaned ≡ tabulate (b .page) (m .word f)
   read-words =
-      is-tabulate (hardware.deviceRead b f cleaned) (b .pageWords) (m .word f) (deviceRead-length b reg f hf cleaned cleaned-kept)
+      is-tabulate (hardware.deviceRead b f cleaned) (b .page) (m .word f) (deviceRead-length b reg f hf cleaned cleaned-kept)
       (λ o ho.
       deviceRead-word b reg f hf cleaned cleaned-kept o ho
       ∙ cleaned-own .current .in-memory o ho (λ c hc d. device-read-clean r c (cleaned-own .tagged .dirty-colour c o hc ho d)))
@@ -85,10 +86,10 @@ module _ (b : Board) (reg : Regular b) (st : State) (m : Cacheless) (inv : Invar
       ordered-other b reg f hf (st .store) (inv .kept) table.deviceWrite (recordAt (st .tables .records) f) (inv .sound .record-rules f hf) g
       (stateOf (recordAt (st .tables .records) g)) (m .word g) ne (inv .agrees g hg)
 
-  purged-clean : (c o : ℕ) → c < b .colours → o < b .pageWords → tagAt purged (lineOf b c o) ≡ dirtyTag f → ⊥
+  purged-clean : (c o : ℕ) → c < b .colours → o < b .page → tagAt purged (lineOf b c o) ≡ dirtyTag f → ⊥
   purged-clean c o hc ho d = device-write-clean r c (ap isHeld (purged-tagged .dirty-colour c o hc ho d))
 
-  module _ (buffer : List ℕ) (full : length buffer ≡ b .pageWords) where
+  module _ (buffer : List ℕ) (full : length buffer ≡ b .page) where
     put : Store
     put = hardware.deviceWrite b f buffer purged
 

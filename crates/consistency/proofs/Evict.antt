@@ -1,7 +1,8 @@
 -- An accepted eviction loses no word and leaves no line that was not there.
 use mathlib.Core.Path.{_≡_}
 use Prim.Native.Nat.{ℕ, _<_}
-use Rattle.board.specs.Board.{Board, Regular, lines}
+use Rattle.board.specs.declared.Board.{Board}
+use Rattle.board.specs.Board.{Regular, lines}
 use Rattle.page_model.specs.Record.{stateOf}
 use Rattle.manager.specs.Refusals.{firstRefusal}
 use Rattle.manager.specs.Tables.{recordAt, refill}

@@ -8,7 +8,8 @@ use native.Mathlib.Omega.{arith}
 use native.Mathlib.Decide.{ℕ-discrete}
 use borrow.Author.Tests.{lt-leb}
 use Rattle.bits.proofs.Mask.{all-of}
-use Rattle.board.specs.Board.{Board, Regular, lines, lineOf}
+use Rattle.board.specs.declared.Board.{Board}
+use Rattle.board.specs.Board.{Regular, lines, lineOf}
 use Rattle.board.proofs.Geometry.{lineOf-lt}
 use Rattle.mapping.proofs.Laws.{rules-keepsRules}
 use Rattle.manager.specs.Refusals.{firstRefusal}

@@ -4,13 +4,13 @@ use mathlib.Core.Bool.{true}
 use mathlib.Core.Option.{Option, none, some}
 use Prim.Native.Nat.{ℕ, _*_, _<_}
 use lib.ListN.{length}
-use Rattle.board.specs.Board.{Board}
+use Rattle.board.specs.declared.Board.{Board}
 use Rattle.page_model.specs.Record.{stateOf, keepsRules}
 use Rattle.mapping.specs.declared.Mapping.{Mapping}
 use Rattle.mapping.specs.Entry.{capacity}
 use Rattle.mapping.specs.Facts.{Rules}
 use Rattle.mapping.specs.Lookup.{mappingOf}
-use Rattle.manager.specs.Tables.{Tables, recordBytes, recordAt}
+use Rattle.manager.specs.Tables.{Tables, recordWords, recordAt}
 use Rattle.cache.specs.Store.{WellFormed}
 use Rattle.machine.specs.State.{State, Call}
 use Rattle.machine.specs.Step.{accept}
@@ -21,7 +21,7 @@ use Rattle.consistency.proofs.Agrees.{Agrees}
 -- the tables have their lengths and keep their rules
 pub record Sound (b : Board) (t : Tables) : Type 0 where
   pub items-length : length (t .list .items) ≡ capacity
-  pub records-length : length (t .records) ≡ b .frames * recordBytes
+  pub records-length : length (t .records) ≡ b .frames * recordWords
   pub protections-length : length (t .protections) ≡ capacity
   pub list-rules : Rules b (t .list)
   pub record-rules : (f : ℕ) → f < b .frames → keepsRules (b .colours) (recordAt (t .records) f) ≡ true

@@ -3,7 +3,8 @@ use mathlib.Core.Path.{_≡_, refl}
 use mathlib.Core.Bool.{false}
 use mathlib.Core.Logic.{_≢_}
 use Prim.Native.Nat.{ℕ, _<_}
-use Rattle.board.specs.Board.{Board, Regular, lineOf}
+use Rattle.board.specs.declared.Board.{Board}
+use Rattle.board.specs.Board.{Regular, lineOf}
 use Rattle.board.proofs.Geometry.{lineOf-lt, lineOf-colour}
 use Rattle.page_model.specs.declared.Op.{Op}
 use Rattle.page_model.specs.declared.Op.the-variants.{None, Flush, Purge}
@@ -62,10 +63,10 @@ module _ (b : Board) (reg : Regular b) (f : ℕ) (hf : f < b .frames) (s : Store
 
   -- ---- its own frame: no line of the operation's colour names it
 
-  flushed : (c : ℕ) → c < b .colours → (o : ℕ) → o < b .pageWords → names (tagAt (hardware.flush b f c s) (lineOf b c o)) f ≡ false
+  flushed : (c : ℕ) → c < b .colours → (o : ℕ) → o < b .page → names (tagAt (hardware.flush b f c s) (lineOf b c o)) f ≡ false
   flushed c h o ho = flush-names b reg f c hf h s wf (lineOf b c o) (lineOf-lt b reg c o h ho) (lineOf-colour b reg c o ho)
 
-  purged : (c : ℕ) → c < b .colours → (o : ℕ) → o < b .pageWords → names (tagAt (hardware.purge b f c s) (lineOf b c o)) f ≡ false
+  purged : (c : ℕ) → c < b .colours → (o : ℕ) → o < b .page → names (tagAt (hardware.purge b f c s) (lineOf b c o)) f ≡ false
   purged c h o ho = purge-names b reg f c h s wf (lineOf b c o) (lineOf-lt b reg c o h ho) (lineOf-colour b reg c o ho)
 
   pub operate-tagged : (op : Op) → OpBelow (b .colours) op → (states : ℕ → ColourState) → Tagged b f states s

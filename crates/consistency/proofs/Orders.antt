@@ -3,7 +3,8 @@ use mathlib.Core.Path.{_≡_, refl}
 use mathlib.Core.Bool.{true}
 use mathlib.Core.Logic.{_≢_}
 use Prim.Native.Nat.{ℕ, _<_}
-use Rattle.board.specs.Board.{Board, Regular}
+use Rattle.board.specs.declared.Board.{Board}
+use Rattle.board.specs.Board.{Regular}
 use Rattle.page_model.specs.declared.FrameRecord.{FrameRecord}
 use Rattle.page_model.specs.Record.{stateOf, keepsRules}
 use Rattle.page_model.specs.Step.{OpBelow, cellOf, stepped}

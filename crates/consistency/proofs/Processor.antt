@@ -7,7 +7,8 @@ use Prim.Native.Nat.{ℕ, _<_}
 use native.Mathlib.Decide.{ℕ-discrete}
 use lib.Dec.{eqb}
 use borrow.Author.Tests.{eq-eqb, ne-eqb, not-false}
-use Rattle.board.specs.Board.{Board, Regular, colourOf}
+use Rattle.board.specs.declared.Board.{Board}
+use Rattle.board.specs.Board.{Regular, colourOf}
 use Rattle.board.proofs.Geometry.{colourOf-lt}
 use Rattle.page_model.specs.declared.FrameRecord.{FrameRecord}
 use Rattle.page_model.specs.Record.{stateOf}
@@ -45,7 +46,7 @@ eqb-sym i j = go (ℕ-discrete i j)
 -- ---- an access to offset o of frame f through colour c
 
 module _ (b : Board) (reg : Regular b) (st : State) (m : Cacheless) (inv : Invariant b st m) (f c o : ℕ) (hf : f < b .frames) (hc : c < b .colours)
-    (ho : o < b .pageWords) where
+    (ho : o < b .page) where
   r : FrameRecord
   r = recordAt (st .tables .records) f
 

@@ -4,7 +4,7 @@ use mathlib.Core.Bool.{Bool, false, cond}
 use mathlib.Core.List.{List, [], _∷_}
 use mathlib.Core.Option.{none}
 use Prim.Native.Nat.{ℕ, zero, suc}
-use Rattle.board.specs.Board.{Board}
+use Rattle.board.specs.declared.Board.{Board}
 use Rattle.manager.specs.Answers.{refused}
 use Rattle.manager.specs.Refusals.{Cause, firstRefusal}
 use Rattle.manager.proofs.CauseLaws.{NoneApplies}

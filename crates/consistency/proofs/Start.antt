@@ -5,13 +5,14 @@ use mathlib.Core.List.{List}
 use Prim.Native.Nat.{ℕ, _*_, _<_}
 use native.Mathlib.Omega.{arith}
 use lib.ListN.{length, getD, replicate, length-replicate, getD-replicate}
-use Rattle.board.specs.Board.{Board, Regular, memoryWords, cacheWords, lines, lineOf}
+use Rattle.board.specs.declared.Board.{Board}
+use Rattle.board.specs.Board.{Regular, memoryWords, cacheWords, lines, lineOf}
 use Rattle.board.proofs.Geometry.{lineOf-lt}
 use Rattle.page_model.specs.Record.{keepsRules}
 use Rattle.page_model.proofs.Theorems.{start-record}
 use Rattle.mapping.specs.Entry.{capacity}
 use Rattle.mapping.proofs.Laws.{empty-length, empty-rules, mappingOf-empty}
-use Rattle.manager.specs.Tables.{recordBytes}
+use Rattle.manager.specs.Tables.{recordWords}
 use Rattle.manager.proofs.RecordLaws.{recordAt-start}
 use Rattle.cache.specs.Store.{store, WellFormed}
 use Rattle.cache.specs.Tag.{emptyTag, names}
@@ -36,7 +37,7 @@ module _ (b : Board) (reg : Regular b) (memory words protections : List ℕ) (fu
       }
 
   -- so no line names a frame
-  unnamed : (f c o : ℕ) → c < b .colours → o < b .pageWords → names (getD (replicate (lines b) 0) (lineOf b c o) 0) f ≡ true → ⊥
+  unnamed : (f c o : ℕ) → c < b .colours → o < b .page → names (getD (replicate (lines b) 0) (lineOf b c o) 0) f ≡ true → ⊥
   unnamed f c o hc ho n = names-not-empty f (tag-zero (lineOf b c o) (lineOf-lt b reg c o hc ho)) n
 
   pub start-invariant : Invariant b (startState b memory words protections) (start b memory)
@@ -45,7 +46,7 @@ module _ (b : Board) (reg : Regular b) (memory words protections : List ℕ) (fu
       record {
         sound = record {
           items-length = empty-length;
-          records-length = length-replicate (b .frames * recordBytes) 0;
+          records-length = length-replicate (b .frames * recordWords) 0;
           protections-length = long;
           list-rules = empty-rules b;
           record-rules = λ f hf. ap (keepsRules (b .colours)) (recordAt-start (b .frames) f hf) ∙ start-record (b .colours) .0;

@@ -2,7 +2,8 @@
 use mathlib.Core.Path.{_≡_, subst⁻¹}
 use mathlib.Core.Bool.{Bool, false, true≢false}
 use mathlib.Core.List.{List, [], _∷_}
-use Rattle.board.specs.Board.{Board, Regular}
+use Rattle.board.specs.declared.Board.{Board}
+use Rattle.board.specs.Board.{Regular}
 use Rattle.manager.specs.Refusals.{firstRefusal}
 use Rattle.machine.specs.Refusals.{causes}
 use Rattle.machine.specs.State.{State, Call, map, unmap, read, write, deviceRead, deviceWrite, evict, Result}

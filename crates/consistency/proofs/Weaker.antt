@@ -5,7 +5,8 @@ use mathlib.Core.Logic.{_≢_}
 use Prim.Native.Nat.{ℕ, _<_}
 use lib.Dec.{eqb}
 use borrow.Author.Tests.{eqb-true}
-use Rattle.board.specs.Board.{Board, lineOf}
+use Rattle.board.specs.declared.Board.{Board}
+use Rattle.board.specs.Board.{lineOf}
 use Rattle.page_model.specs.Record.{isHeld, isDirty, isStale}
 use Rattle.page_model.specs.Table.{ColourState, empty, present, dirty, stale}
 use Rattle.cache.specs.Store.{Store, tagAt}
@@ -74,9 +75,9 @@ module _ (b : Board) (f : ℕ) (states after : ℕ → ColourState) (says : (k :
 abbrev pub emptyAt : ℕ → (ℕ → ColourState) → ℕ → ColourState
 emptyAt k states c = cond (eqb k c) empty (states c)
 
-module _ (b : Board) (f k : ℕ) (states : ℕ → ColourState) (s : Store) (none : (o : ℕ) → o < b .pageWords → names (tagAt s (lineOf b k o)) f ≡ false) where
+module _ (b : Board) (f k : ℕ) (states : ℕ → ColourState) (s : Store) (none : (o : ℕ) → o < b .page → names (tagAt s (lineOf b k o)) f ≡ false) where
   -- a line that names f is in another colour, where the states are as they were
-  elsewhere : (c o : ℕ) → o < b .pageWords → names (tagAt s (lineOf b c o)) f ≡ true → emptyAt k states c ≡ states c
+  elsewhere : (c o : ℕ) → o < b .page → names (tagAt s (lineOf b c o)) f ≡ true → emptyAt k states c ≡ states c
   elsewhere c o ho n = go (eqb k c) refl
     where
       go : (t : Bool) → eqb k c ≡ t → emptyAt k states c ≡ states c

@@ -5,7 +5,8 @@ use mathlib.Core.Option.{Option, none, some}
 use Prim.Native.Nat.{ℕ}
 use lib.Dec.{eqb}
 use lib.ListN.{getD}
-use Rattle.board.specs.Board.{Board, memoryAt}
+use Rattle.board.specs.declared.Board.{Board}
+use Rattle.board.specs.Board.{memoryAt}
 use Rattle.machine.specs.State.{Call, map, unmap, read, write, deviceRead, deviceWrite, evict}
 
 -- a word for each frame and offset, and for each space and page a frame or none

@@ -7,11 +7,12 @@ use mathlib.Core.Option.{Option, none, some}
 use mathlib.Core.Path.{_≡_}
 use Prim.Native.Nat.{ℕ, _*_, _<_}
 use lib.ListN.{length, replicate}
-use Rattle.board.specs.Board.{Board, Regular, memoryWords, cacheWords, lines}
+use Rattle.board.specs.declared.Board.{Board}
+use Rattle.board.specs.Board.{Regular, memoryWords, cacheWords, lines}
 use Rattle.mapping.specs.Change.{empty}
 use Rattle.mapping.specs.Entry.{capacity}
 use Rattle.manager.specs.Answers.{isRefusal}
-use Rattle.manager.specs.Tables.{tables, tabulate, recordBytes}
+use Rattle.manager.specs.Tables.{tables, tabulate, recordWords}
 use Rattle.cache.specs.Store.{store, memoryWord}
 use Rattle.machine.specs.State.{State, state, Call, map, unmap, read, write, deviceRead, deviceWrite, evict, Answer}
 use Rattle.machine.specs.Step.{step}
@@ -21,7 +22,7 @@ use Rattle.consistency.specs.Cacheless.{Cacheless, start, after}
 
 abbrev pub startState : Board → List ℕ → List ℕ → List ℕ → State
 startState b memory words protections =
-    state (tables empty (replicate (b .frames * recordBytes) 0) protections) (store memory words (replicate (lines b) 0))
+    state (tables empty (replicate (b .frames * recordWords) 0) protections) (store memory words (replicate (lines b) 0))
 
 -- ---- what an accepted read must find, and an accepted write: a frame to write to
 
@@ -42,7 +43,7 @@ Finds b m (map space page frame rights) a = Unit {0}
 Finds b m (unmap space page) a = Unit {0}
 Finds b m (read space page offset) a = a .word ≡ wordOf m (m .frame space page) offset
 Finds b m (write space page offset word) a = HasFrame (m .frame space page)
-Finds b m (deviceRead frame buffer) a = a .buffer ≡ tabulate (b .pageWords) (m .word frame)
+Finds b m (deviceRead frame buffer) a = a .buffer ≡ tabulate (b .page) (m .word frame)
 Finds b m (deviceWrite frame buffer) a = Unit {0}
 Finds b m (evict line) a = Unit {0}
 
@@ -82,7 +83,7 @@ NoneRefused b st (call ∷ calls) = (isRefused (step b st call .answer) ≡ fals
 -- memory holds the cacheless memory's words, frame after frame
 pub record MemoryIs (b : Board) (m : Cacheless) (st : State) : Type 0 where
   pub memory-length : length (st .store .memory) ≡ memoryWords b
-  pub memory-words : (f o : ℕ) → f < b .frames → o < b .pageWords → memoryWord b (st .store) f o ≡ m .word f o
+  pub memory-words : (f o : ℕ) → f < b .frames → o < b .page → memoryWord b (st .store) f o ≡ m .word f o
 
 -- ---- the demand
 

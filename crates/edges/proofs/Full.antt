@@ -8,7 +8,8 @@ use Rattle.mapping.proofs.Tests.{lt-or-le}
 use native.Mathlib.Omega.{arith}
 use borrow.Author.Tests.{lt-ltb, le-ltb}
 use lib.ListN.{getD}
-use Rattle.board.specs.Board.{Board, board01}
+use Rattle.board.specs.declared.Board.{Board}
+use Rattle.board.specs.Board.{board01}
 use Rattle.mapping.specs.declared.Mapping.{Mapping}
 use Rattle.mapping.specs.Entry.{capacity, zeroMapping, mappingAt}
 use Rattle.mapping.specs.Facts.{InRange, Rules}

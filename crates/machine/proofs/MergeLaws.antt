@@ -9,7 +9,8 @@ use borrow.Author.Tests.{eqb-true}
 use lib.Dec.{eqb, leb}
 use lib.ListN.{length}
 use Rattle.bits.proofs.Tautology.{and-left, and-right}
-use Rattle.board.specs.Board.{Board, lines}
+use Rattle.board.specs.declared.Board.{Board}
+use Rattle.board.specs.Board.{lines}
 use Rattle.manager.specs.declared.Change.{Change}
 use Rattle.manager.specs.declared.Plan.the-variants as step-plan
 use Rattle.manager.specs.declared.ListPlan.the-variants as list-plan
@@ -123,7 +124,7 @@ module _ (b : Board) (st : State) where
 
   pub read-merge : (space page offset : ℕ)
       → firstRefusal (causes b st (read space page offset))
-      ≡ earlier (firstRefusal (accessCauses b (st .store) (b .pageWords) offset)) (firstRefusal (pageCauses b (st .tables) space page))
+      ≡ earlier (firstRefusal (accessCauses b (st .store) (b .page) offset)) (firstRefusal (pageCauses b (st .tables) space page))
   unfolding firstRefusal causes accessCauses pageCauses earlier
   read-merge space page offset =
       eqb-true _ _
@@ -132,11 +133,11 @@ module _ (b : Board) (st : State) where
       eqb (cond (not (l && k && true)) 1 (cond (not (r && t)) 2 (cond o 3 (cond f 6 (cond (not m) 8 0)))))
       (earlier (cond (not (k && true)) 1 (cond (not t) 2 (cond f 6 0))) (cond (not l) 1 (cond (not r) 2 (cond o 3 (cond (not m) 8 0))))))
       refl (lengthsRight b (st .tables)) (storeLengths b (st .store)) (rulesKept b (st .tables)) (tagsKeepRules b (st .store .tags)) (outOfSpace space page)
-      (leb (b .pageWords) offset) (isMapped (st .tables .list) space page))
+      (leb (b .page) offset) (isMapped (st .tables .list) space page))
 
   pub write-merge : (space page offset word : ℕ)
       → firstRefusal (causes b st (write space page offset word))
-      ≡ earlier (firstRefusal (accessCauses b (st .store) (b .pageWords) offset)) (firstRefusal (writeCauses b (st .tables) space page))
+      ≡ earlier (firstRefusal (accessCauses b (st .store) (b .page) offset)) (firstRefusal (writeCauses b (st .tables) space page))
   unfolding firstRefusal causes accessCauses writeCauses earlier
   write-merge space page offset word =
       eqb-true _ _
@@ -145,7 +146,7 @@ module _ (b : Board) (st : State) where
       eqb (cond (not (l && k && true)) 1 (cond (not (r && t)) 2 (cond o 3 (cond f 6 (cond (not m) 8 (cond w 10 0))))))
       (earlier (cond (not (k && true)) 1 (cond (not t) 2 (cond f 6 0))) (cond (not l) 1 (cond (not r) 2 (cond o 3 (cond (not m) 8 (cond w 10 0)))))))
       refl (lengthsRight b (st .tables)) (storeLengths b (st .store)) (rulesKept b (st .tables)) (tagsKeepRules b (st .store .tags)) (outOfSpace space page)
-      (leb (b .pageWords) offset) (isMapped (st .tables .list) space page) (eqb (mappingOf (st .tables .list) space page .rights) readOnly))
+      (leb (b .page) offset) (isMapped (st .tables .list) space page) (eqb (mappingOf (st .tables .list) space page .rights) readOnly))
 
   -- a transfer, either way
   transfer-law : (buffer : Bool) (frame : ℕ)
@@ -163,15 +164,15 @@ module _ (b : Board) (st : State) where
 
   pub deviceRead-merge : (frame : ℕ) (buffer : List ℕ)
       → firstRefusal (causes b st (deviceRead frame buffer))
-      ≡ earlier (firstRefusal (storeCauses b (st .store) (eqb (length buffer) (b .pageWords)))) (firstRefusal (transferCauses b (st .tables) frame))
+      ≡ earlier (firstRefusal (storeCauses b (st .store) (eqb (length buffer) (b .page)))) (firstRefusal (transferCauses b (st .tables) frame))
   unfolding firstRefusal causes earlier
-  deviceRead-merge frame buffer = transfer-law (eqb (length buffer) (b .pageWords)) frame
+  deviceRead-merge frame buffer = transfer-law (eqb (length buffer) (b .page)) frame
 
   pub deviceWrite-merge : (frame : ℕ) (buffer : List ℕ)
       → firstRefusal (causes b st (deviceWrite frame buffer))
-      ≡ earlier (firstRefusal (storeCauses b (st .store) (eqb (length buffer) (b .pageWords)))) (firstRefusal (transferCauses b (st .tables) frame))
+      ≡ earlier (firstRefusal (storeCauses b (st .store) (eqb (length buffer) (b .page)))) (firstRefusal (transferCauses b (st .tables) frame))
   unfolding firstRefusal causes earlier
-  deviceWrite-merge frame buffer = transfer-law (eqb (length buffer) (b .pageWords)) frame
+  deviceWrite-merge frame buffer = transfer-law (eqb (length buffer) (b .page)) frame
 
   pub evict-merge : (line : ℕ)
       → firstRefusal (causes b st (evict line))

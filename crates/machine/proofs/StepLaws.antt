@@ -8,7 +8,8 @@ use native.Mathlib.Omega.{arith}
 use borrow.Author.Tests.{not-false, leb-false, eqb-true}
 use lib.ListN.{length}
 use Rattle.bits.proofs.Tautology.{and-left, and-right}
-use Rattle.board.specs.Board.{Board, lines, colourOf}
+use Rattle.board.specs.declared.Board.{Board}
+use Rattle.board.specs.Board.{lines, colourOf}
 use Rattle.page_model.specs.Step.{OpBelow}
 use Rattle.page_model.specs.Table as table
 use Rattle.page_model.proofs.Theorems.{operations-below}
@@ -115,39 +116,39 @@ ready b st f s wf hf =
 
 module _ (b : Board) (st : State) where
   pub read-ready : (space page offset : ℕ) → firstRefusal (causes b st (read space page offset)) ≡ 0
-      → Ready b st (changeOf b (st .tables) (frameOf st space page) (table.read (colourOf b page))) × (offset < b .pageWords)
+      → Ready b st (changeOf b (st .tables) (frameOf st space page) (table.read (colourOf b page))) × (offset < b .page)
   unfolding lentCauses ownCauses
   read-ready space page offset e =
       let n = clear b st (read space page offset) e in
       let wf = store-clear b st (read space page offset) e in
       let m = mapped-range b (st .tables) (tables-clear b st (read space page offset) e) space page (not-false _ (n .1 .1 .1 .1 .0)) in
-      (ready b st (frameOf st space page) (table.read (colourOf b page)) wf (m .frame-lt), leb-false (b .pageWords) offset (n .1 .1 .1 .0))
+      (ready b st (frameOf st space page) (table.read (colourOf b page)) wf (m .frame-lt), leb-false (b .page) offset (n .1 .1 .1 .0))
 
   pub write-ready : (space page offset word : ℕ) → firstRefusal (causes b st (write space page offset word)) ≡ 0
-      → Ready b st (changeOf b (st .tables) (frameOf st space page) (table.write (colourOf b page))) × (offset < b .pageWords)
+      → Ready b st (changeOf b (st .tables) (frameOf st space page) (table.write (colourOf b page))) × (offset < b .page)
   unfolding lentCauses ownCauses
   write-ready space page offset word e =
       let n = clear b st (write space page offset word) e in
       let wf = store-clear b st (write space page offset word) e in
       let m = mapped-range b (st .tables) (tables-clear b st (write space page offset word) e) space page (not-false _ (n .1 .1 .1 .1 .0)) in
-      (ready b st (frameOf st space page) (table.write (colourOf b page)) wf (m .frame-lt), leb-false (b .pageWords) offset (n .1 .1 .1 .0))
+      (ready b st (frameOf st space page) (table.write (colourOf b page)) wf (m .frame-lt), leb-false (b .page) offset (n .1 .1 .1 .0))
 
   pub deviceRead-ready : (frame : ℕ) (buffer : List ℕ) → firstRefusal (causes b st (deviceRead frame buffer)) ≡ 0
-      → Ready b st (changeOf b (st .tables) frame table.deviceRead) × (length buffer ≡ b .pageWords)
+      → Ready b st (changeOf b (st .tables) frame table.deviceRead) × (length buffer ≡ b .page)
   unfolding lentCauses ownCauses
   deviceRead-ready frame buffer e =
       let n = clear b st (deviceRead frame buffer) e in (
         ready b st frame table.deviceRead (store-clear b st (deviceRead frame buffer) e) (leb-false (b .frames) frame (n .1 .1 .0)),
-        eqb-true (length buffer) (b .pageWords) (and-right (lengthsRight b (st .tables) && storeLengths b (st .store)) _ (lengths-clear b st (deviceRead frame buffer) e)),
+        eqb-true (length buffer) (b .page) (and-right (lengthsRight b (st .tables) && storeLengths b (st .store)) _ (lengths-clear b st (deviceRead frame buffer) e)),
       )
 
   pub deviceWrite-ready : (frame : ℕ) (buffer : List ℕ) → firstRefusal (causes b st (deviceWrite frame buffer)) ≡ 0
-      → Ready b st (changeOf b (st .tables) frame table.deviceWrite) × (length buffer ≡ b .pageWords)
+      → Ready b st (changeOf b (st .tables) frame table.deviceWrite) × (length buffer ≡ b .page)
   unfolding lentCauses ownCauses
   deviceWrite-ready frame buffer e =
       let n = clear b st (deviceWrite frame buffer) e in (
         ready b st frame table.deviceWrite (store-clear b st (deviceWrite frame buffer) e) (leb-false (b .frames) frame (n .1 .1 .0)),
-        eqb-true (length buffer) (b .pageWords) (and-right (lengthsRight b (st .tables) && storeLengths b (st .store)) _ (lengths-clear b st (deviceWrite frame buffer) e)),
+        eqb-true (length buffer) (b .page) (and-right (lengthsRight b (st .tables) && storeLengths b (st .store)) _ (lengths-clear b st (deviceWrite frame buffer) e)),
       )
 
   pub evict-ready : (line : ℕ) → firstRefusal (causes b st (evict line)) ≡ 0 → WellFormed b (st .store) × (line < lines b)

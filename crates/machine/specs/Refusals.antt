@@ -4,7 +4,8 @@ use mathlib.Core.List.{List, [], _∷_, _++_}
 use Prim.Native.Nat.{ℕ}
 use lib.Dec.{eqb, leb}
 use lib.ListN.{length}
-use Rattle.board.specs.Board.{Board, memoryWords, cacheWords, lines}
+use Rattle.board.specs.declared.Board.{Board}
+use Rattle.board.specs.Board.{memoryWords, cacheWords, lines}
 use Rattle.manager.specs.Refusals.{Cause, _if_, spaceCause, frameCause, rightsCause, mappedCause, unmappedCause, fullCause, readOnlyCause}
 use Rattle.manager.specs.Tables.{lengthsRight, rulesKept}
 use Rattle.cache.specs.Store.{Store}
@@ -21,8 +22,8 @@ bufferRight b (map space page frame rights) = true
 bufferRight b (unmap space page) = true
 bufferRight b (read space page offset) = true
 bufferRight b (write space page offset word) = true
-bufferRight b (deviceRead frame buffer) = eqb (length buffer) (b .pageWords)
-bufferRight b (deviceWrite frame buffer) = eqb (length buffer) (b .pageWords)
+bufferRight b (deviceRead frame buffer) = eqb (length buffer) (b .page)
+bufferRight b (deviceWrite frame buffer) = eqb (length buffer) (b .page)
 bufferRight b (evict line) = true
 
 -- what each call tests of all that it is lent
@@ -49,12 +50,12 @@ ownCauses b st (map space page frame rights) =
 ownCauses b st (unmap space page) = spaceCause space page ∷ unmappedCause (st .tables .list) space page ∷ []
 ownCauses b st (read space page offset) =
     spaceCause space page
-    ∷ offsetCause (b .pageWords) offset
+    ∷ offsetCause (b .page) offset
     ∷ unmappedCause (st .tables .list) space page
     ∷ []
 ownCauses b st (write space page offset word) =
     spaceCause space page
-    ∷ offsetCause (b .pageWords) offset
+    ∷ offsetCause (b .page) offset
     ∷ unmappedCause (st .tables .list) space page
     ∷ readOnlyCause (st .tables .list) space page
     ∷ []

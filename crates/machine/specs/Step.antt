@@ -3,7 +3,8 @@
 use mathlib.Core.List.{List, []}
 use mathlib.Core.Option.{Option, none, some}
 use Prim.Native.Nat.{ℕ, zero, suc}
-use Rattle.board.specs.Board.{Board, colourOf}
+use Rattle.board.specs.declared.Board.{Board}
+use Rattle.board.specs.Board.{colourOf}
 use Rattle.page_model.specs.Table as table
 use Rattle.mapping.specs.Lookup.{lookup}
 use Rattle.manager.specs.declared.Change.{Change}

@@ -13,6 +13,7 @@ ghost use Rattle.machine.specs.State as call;
 ghost use Rattle.machine.specs.State.{state};
 ghost use Rattle.machine.specs.Step.{answer, result, step};
 ghost use Rattle.machine.specs.Plans.{loaded};
+use board::BOARD01;
 use manager::Answer;
 use manager::FrameOps;
 use manager::ListPlan;
@@ -30,7 +31,7 @@ pub enum Loaded {
 // Gives a page of a space its frame.
 pub fn map(
     list: MappingList,
-    records: &[u8],
+    records: &[u32],
     protections: &mut [u8],
     memory: &[u32],
     words: &[u32],
@@ -40,10 +41,11 @@ pub fn map(
     ensures { λ r. ⌜ result (answer (outcome (r .answer)) none []) (state (tables (r .list) (now (records .entry)) (now (protections .exit))) (store (now (memory .entry)) (now (words .entry)) (now (tags .entry))))
         ≡ step board01 (state (tables list (now (records .entry)) (now (protections .entry))) (store (now (memory .entry)) (now (words .entry)) (now (tags .entry)))) (call.map (m .space) (m .page) (m .frame) (m .rights)) ⌝ }
 {
-    let plan = plans::plan_map(list, records, protections, memory, words, tags, m);
+    let plan = plans::plan_map(BOARD01, list, records, protections, memory, words, tags, m);
     match plan {
         ListPlan::Refused(number) => manager::refused_as(list, number),
         ListPlan::Place(_) => manager::listed_as(manager::commit_map(
+            BOARD01,
             list,
             records,
             protections,
@@ -55,7 +57,7 @@ pub fn map(
 // Takes the mapping of a page of a space off the list.
 pub fn unmap(
     list: MappingList,
-    records: &[u8],
+    records: &[u32],
     protections: &mut [u8],
     memory: &[u32],
     words: &[u32],
@@ -66,10 +68,21 @@ pub fn unmap(
     ensures { λ r. ⌜ result (answer (outcome (r .answer)) none []) (state (tables (r .list) (now (records .entry)) (now (protections .exit))) (store (now (memory .entry)) (now (words .entry)) (now (tags .entry))))
         ≡ step board01 (state (tables list (now (records .entry)) (now (protections .entry))) (store (now (memory .entry)) (now (words .entry)) (now (tags .entry)))) (call.unmap space page) ⌝ }
 {
-    let plan = plans::plan_unmap(list, records, protections, memory, words, tags, space, page);
+    let plan = plans::plan_unmap(
+        BOARD01,
+        list,
+        records,
+        protections,
+        memory,
+        words,
+        tags,
+        space,
+        page,
+    );
     match plan {
         ListPlan::Refused(number) => manager::refused_as(list, number),
         ListPlan::Place(place) => manager::listed_as(manager::commit_unmap(
+            BOARD01,
             list,
             records,
             protections,
@@ -81,7 +94,7 @@ pub fn unmap(
 // The processor reads a word.
 pub fn read(
     list: MappingList,
-    records: &mut [u8],
+    records: &mut [u32],
     protections: &mut [u8],
     memory: &mut [u32],
     words: &mut [u32],
@@ -94,6 +107,7 @@ pub fn read(
         ≡ step board01 (state (tables list (now (records .entry)) (now (protections .entry))) (store (now (memory .entry)) (now (words .entry)) (now (tags .entry)))) (call.read space page offset) ⌝ }
 {
     let plan = plans::plan_read(
+        BOARD01,
         list,
         records,
         protections,
@@ -110,9 +124,18 @@ pub fn read(
             let frame = change.frame;
             let next = change.next;
             let ops = change.ops;
-            manager::commit_change(list, records, protections, frame, next);
-            let colour = board::colour_of(page as usize);
-            let word = orders::load(memory, words, tags, frame as usize, ops, colour, offset);
+            manager::commit_change(BOARD01, list, records, protections, frame, next);
+            let colour = board::colour_of(BOARD01, page as usize);
+            let word = orders::load(
+                BOARD01,
+                memory,
+                words,
+                tags,
+                frame as usize,
+                ops,
+                colour,
+                offset,
+            );
             Loaded::Word(FrameOps { frame, ops }, word)
         }
     }
@@ -121,7 +144,7 @@ pub fn read(
 // The processor writes a word.
 pub fn write(
     list: MappingList,
-    records: &mut [u8],
+    records: &mut [u32],
     protections: &mut [u8],
     memory: &mut [u32],
     words: &mut [u32],
@@ -135,6 +158,7 @@ pub fn write(
         ≡ step board01 (state (tables list (now (records .entry)) (now (protections .entry))) (store (now (memory .entry)) (now (words .entry)) (now (tags .entry)))) (call.write space page offset word) ⌝ }
 {
     let plan = plans::plan_write(
+        BOARD01,
         list,
         records,
         protections,
@@ -151,9 +175,10 @@ pub fn write(
             let frame = change.frame;
             let next = change.next;
             let ops = change.ops;
-            manager::commit_change(list, records, protections, frame, next);
-            let colour = board::colour_of(page as usize);
+            manager::commit_change(BOARD01, list, records, protections, frame, next);
+            let colour = board::colour_of(BOARD01, page as usize);
             orders::put(
+                BOARD01,
                 memory,
                 words,
                 tags,
@@ -171,7 +196,7 @@ pub fn write(
 // A device reads a frame: its buffer is filled.
 pub fn device_read(
     list: MappingList,
-    records: &mut [u8],
+    records: &mut [u32],
     protections: &mut [u8],
     memory: &mut [u32],
     words: &[u32],
@@ -183,6 +208,7 @@ pub fn device_read(
         ≡ step board01 (state (tables list (now (records .entry)) (now (protections .entry))) (store (now (memory .entry)) (now (words .entry)) (now (tags .entry)))) (call.deviceRead frame (now (buffer .entry))) ⌝ }
 {
     let plan = plans::plan_device_read(
+        BOARD01,
         list,
         records,
         protections,
@@ -198,8 +224,8 @@ pub fn device_read(
             let frame = change.frame;
             let next = change.next;
             let ops = change.ops;
-            manager::commit_change(list, records, protections, frame, next);
-            orders::send(memory, words, tags, frame as usize, ops, buffer);
+            manager::commit_change(BOARD01, list, records, protections, frame, next);
+            orders::send(BOARD01, memory, words, tags, frame as usize, ops, buffer);
             Answer::Accepted(FrameOps { frame, ops })
         }
     }
@@ -208,7 +234,7 @@ pub fn device_read(
 // A device writes a frame: its buffer is only read.
 pub fn device_write(
     list: MappingList,
-    records: &mut [u8],
+    records: &mut [u32],
     protections: &mut [u8],
     memory: &mut [u32],
     words: &[u32],
@@ -220,6 +246,7 @@ pub fn device_write(
         ≡ step board01 (state (tables list (now (records .entry)) (now (protections .entry))) (store (now (memory .entry)) (now (words .entry)) (now (tags .entry)))) (call.deviceWrite frame (now (buffer .entry))) ⌝ }
 {
     let plan = plans::plan_device_write(
+        BOARD01,
         list,
         records,
         protections,
@@ -235,8 +262,8 @@ pub fn device_write(
             let frame = change.frame;
             let next = change.next;
             let ops = change.ops;
-            manager::commit_change(list, records, protections, frame, next);
-            orders::receive(memory, words, tags, frame as usize, ops, buffer);
+            manager::commit_change(BOARD01, list, records, protections, frame, next);
+            orders::receive(BOARD01, memory, words, tags, frame as usize, ops, buffer);
             Answer::Accepted(FrameOps { frame, ops })
         }
     }
@@ -245,7 +272,7 @@ pub fn device_write(
 // A line is written back if it is dirty, and emptied: document 01's turning out.
 pub fn evict(
     list: MappingList,
-    records: &[u8],
+    records: &[u32],
     protections: &mut [u8],
     memory: &mut [u32],
     words: &[u32],
@@ -255,11 +282,20 @@ pub fn evict(
     ensures { λ r. ⌜ result (answer (outcome r) none []) (state (tables list (now (records .entry)) (now (protections .exit))) (store (now (memory .exit)) (now (words .entry)) (now (tags .exit))))
         ≡ step board01 (state (tables list (now (records .entry)) (now (protections .entry))) (store (now (memory .entry)) (now (words .entry)) (now (tags .entry)))) (call.evict line) ⌝ }
 {
-    let refusal = plans::evict_refusal(list, records, protections, memory, words, tags, line);
+    let refusal = plans::evict_refusal(
+        BOARD01,
+        list,
+        records,
+        protections,
+        memory,
+        words,
+        tags,
+        line,
+    );
     if refusal != 0 {
         return Answer::Refused(refusal);
     }
-    manager::records::refill(list, records, protections);
-    cache::line::evict(memory, words, tags, line);
+    manager::records::refill(BOARD01, list, records, protections);
+    cache::line::evict(BOARD01, memory, words, tags, line);
     manager::no_orders()
 }

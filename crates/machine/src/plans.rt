@@ -3,7 +3,7 @@ ghost use mathlib.Core.Path.{_≡_};
 ghost use mathlib.Core.Bool.{true};
 ghost use lib.Dec.{eqb};
 ghost use lib.ListN.{length};
-ghost use Rattle.board.specs.Board.{board01, colourOf};
+ghost use Rattle.board.specs.Board.{Regular, colourOf};
 ghost use Rattle.page_model.specs.Table as step;
 ghost use Rattle.mapping.specs.Lookup.{lookup};
 ghost use Rattle.manager.specs.Calls.{changeOf};
@@ -14,6 +14,7 @@ ghost use Rattle.machine.specs.Refusals.{causes};
 ghost use Rattle.machine.specs.State as call;
 ghost use Rattle.machine.specs.State.{state};
 ghost use Rattle.machine.specs.Plans.{planStep, planPlace, storeCauses, accessCauses, earlier, withStep, withPlace};
+use board::Board;
 use manager::ListPlan;
 use manager::Plan;
 use mapping::Mapping;
@@ -21,25 +22,28 @@ use mapping::MappingList;
 
 // What `map` would do.
 pub fn plan_map(
+    board: Board,
     list: MappingList,
-    records: &[u8],
+    records: &[u32],
     protections: &[u8],
     memory: &[u32],
     words: &[u32],
     tags: &[u8],
     m: Mapping,
 ) -> ListPlan
-    ensures { λ r. ⌜ r ≡ planPlace board01 (state (tables list (now (records .entry)) (now (protections .entry))) (store (now (memory .entry)) (now (words .entry)) (now (tags .entry)))) (call.map (m .space) (m .page) (m .frame) (m .rights)) (list .count) ⌝ }
+    requires { ⌜ Regular board ⌝ }
+    ensures { λ r. ⌜ r ≡ planPlace board (state (tables list (now (records .entry)) (now (protections .entry))) (store (now (memory .entry)) (now (words .entry)) (now (tags .entry)))) (call.map (m .space) (m .page) (m .frame) (m .rights)) (list .count) ⌝ }
 {
-    let own = store_refusal(memory, words, tags);
-    let plan = manager::plan_map(list, records, protections, m);
+    let own = store_refusal(board, memory, words, tags);
+    let plan = manager::plan_map(board, list, records, protections, m);
     with_place(own, plan)
 }
 
 // What `unmap` would do.
 pub fn plan_unmap(
+    board: Board,
     list: MappingList,
-    records: &[u8],
+    records: &[u32],
     protections: &[u8],
     memory: &[u32],
     words: &[u32],
@@ -47,17 +51,19 @@ pub fn plan_unmap(
     space: u8,
     page: u16,
 ) -> ListPlan
-    ensures { λ r. ⌜ r ≡ planPlace board01 (state (tables list (now (records .entry)) (now (protections .entry))) (store (now (memory .entry)) (now (words .entry)) (now (tags .entry)))) (call.unmap space page) (placeOf (lookup list space page)) ⌝ }
+    requires { ⌜ Regular board ⌝ }
+    ensures { λ r. ⌜ r ≡ planPlace board (state (tables list (now (records .entry)) (now (protections .entry))) (store (now (memory .entry)) (now (words .entry)) (now (tags .entry)))) (call.unmap space page) (placeOf (lookup list space page)) ⌝ }
 {
-    let own = store_refusal(memory, words, tags);
-    let plan = manager::plan_unmap(list, records, protections, space, page);
+    let own = store_refusal(board, memory, words, tags);
+    let plan = manager::plan_unmap(board, list, records, protections, space, page);
     with_place(own, plan)
 }
 
 // What `read` would do.
 pub fn plan_read(
+    board: Board,
     list: MappingList,
-    records: &[u8],
+    records: &[u32],
     protections: &[u8],
     memory: &[u32],
     words: &[u32],
@@ -66,17 +72,19 @@ pub fn plan_read(
     page: u16,
     offset: usize,
 ) -> Plan
-    ensures { λ r. ⌜ r ≡ planStep board01 (state (tables list (now (records .entry)) (now (protections .entry))) (store (now (memory .entry)) (now (words .entry)) (now (tags .entry)))) (call.read space page offset) (changeOf board01 (tables list (now (records .entry)) (now (protections .entry))) (mappingOf list space page .frame) (step.read (colourOf board01 page))) ⌝ }
+    requires { ⌜ Regular board ⌝ }
+    ensures { λ r. ⌜ r ≡ planStep board (state (tables list (now (records .entry)) (now (protections .entry))) (store (now (memory .entry)) (now (words .entry)) (now (tags .entry)))) (call.read space page offset) (changeOf board (tables list (now (records .entry)) (now (protections .entry))) (mappingOf list space page .frame) (step.read (colourOf board page))) ⌝ }
 {
-    let own = access_refusal(memory, words, tags, board::PAGE_WORDS, offset);
-    let plan = manager::plan_read(list, records, protections, space, page);
+    let own = access_refusal(board, memory, words, tags, board.page, offset);
+    let plan = manager::plan_read(board, list, records, protections, space, page);
     with_step(own, plan)
 }
 
 // What `write` would do, whatever the word.
 pub fn plan_write(
+    board: Board,
     list: MappingList,
-    records: &[u8],
+    records: &[u32],
     protections: &[u8],
     memory: &[u32],
     words: &[u32],
@@ -85,17 +93,19 @@ pub fn plan_write(
     page: u16,
     offset: usize,
 ) -> Plan
-    ensures { λ r. ⌜ r ≡ planStep board01 (state (tables list (now (records .entry)) (now (protections .entry))) (store (now (memory .entry)) (now (words .entry)) (now (tags .entry)))) (call.write space page offset 0) (changeOf board01 (tables list (now (records .entry)) (now (protections .entry))) (mappingOf list space page .frame) (step.write (colourOf board01 page))) ⌝ }
+    requires { ⌜ Regular board ⌝ }
+    ensures { λ r. ⌜ r ≡ planStep board (state (tables list (now (records .entry)) (now (protections .entry))) (store (now (memory .entry)) (now (words .entry)) (now (tags .entry)))) (call.write space page offset 0) (changeOf board (tables list (now (records .entry)) (now (protections .entry))) (mappingOf list space page .frame) (step.write (colourOf board page))) ⌝ }
 {
-    let own = access_refusal(memory, words, tags, board::PAGE_WORDS, offset);
-    let plan = manager::plan_write(list, records, protections, space, page);
+    let own = access_refusal(board, memory, words, tags, board.page, offset);
+    let plan = manager::plan_write(board, list, records, protections, space, page);
     with_step(own, plan)
 }
 
 // What `device_read` would do.
 pub fn plan_device_read(
+    board: Board,
     list: MappingList,
-    records: &[u8],
+    records: &[u32],
     protections: &[u8],
     memory: &[u32],
     words: &[u32],
@@ -103,17 +113,19 @@ pub fn plan_device_read(
     buffer: &[u32],
     frame: u8,
 ) -> Plan
-    ensures { λ r. ⌜ r ≡ planStep board01 (state (tables list (now (records .entry)) (now (protections .entry))) (store (now (memory .entry)) (now (words .entry)) (now (tags .entry)))) (call.deviceRead frame (now (buffer .entry))) (changeOf board01 (tables list (now (records .entry)) (now (protections .entry))) frame step.deviceRead) ⌝ }
+    requires { ⌜ Regular board ⌝ }
+    ensures { λ r. ⌜ r ≡ planStep board (state (tables list (now (records .entry)) (now (protections .entry))) (store (now (memory .entry)) (now (words .entry)) (now (tags .entry)))) (call.deviceRead frame (now (buffer .entry))) (changeOf board (tables list (now (records .entry)) (now (protections .entry))) frame step.deviceRead) ⌝ }
 {
-    let own = transfer_refusal(memory, words, tags, buffer);
-    let plan = manager::plan_device_read(list, records, protections, frame);
+    let own = transfer_refusal(board, memory, words, tags, buffer);
+    let plan = manager::plan_device_read(board, list, records, protections, frame);
     with_step(own, plan)
 }
 
 // What `device_write` would do.
 pub fn plan_device_write(
+    board: Board,
     list: MappingList,
-    records: &[u8],
+    records: &[u32],
     protections: &[u8],
     memory: &[u32],
     words: &[u32],
@@ -121,64 +133,77 @@ pub fn plan_device_write(
     buffer: &[u32],
     frame: u8,
 ) -> Plan
-    ensures { λ r. ⌜ r ≡ planStep board01 (state (tables list (now (records .entry)) (now (protections .entry))) (store (now (memory .entry)) (now (words .entry)) (now (tags .entry)))) (call.deviceWrite frame (now (buffer .entry))) (changeOf board01 (tables list (now (records .entry)) (now (protections .entry))) frame step.deviceWrite) ⌝ }
+    requires { ⌜ Regular board ⌝ }
+    ensures { λ r. ⌜ r ≡ planStep board (state (tables list (now (records .entry)) (now (protections .entry))) (store (now (memory .entry)) (now (words .entry)) (now (tags .entry)))) (call.deviceWrite frame (now (buffer .entry))) (changeOf board (tables list (now (records .entry)) (now (protections .entry))) frame step.deviceWrite) ⌝ }
 {
-    let own = transfer_refusal(memory, words, tags, buffer);
-    let plan = manager::plan_device_write(list, records, protections, frame);
+    let own = transfer_refusal(board, memory, words, tags, buffer);
+    let plan = manager::plan_device_write(board, list, records, protections, frame);
     with_step(own, plan)
 }
 
 // The refusal of `evict`, or 0.
 pub fn evict_refusal(
+    board: Board,
     list: MappingList,
-    records: &[u8],
+    records: &[u32],
     protections: &[u8],
     memory: &[u32],
     words: &[u32],
     tags: &[u8],
     line: usize,
 ) -> u8
-    ensures { λ r. ⌜ r ≡ firstRefusal (causes board01 (state (tables list (now (records .entry)) (now (protections .entry))) (store (now (memory .entry)) (now (words .entry)) (now (tags .entry)))) (call.evict line)) ⌝ }
+    requires { ⌜ Regular board ⌝ }
+    ensures { λ r. ⌜ r ≡ firstRefusal (causes board (state (tables list (now (records .entry)) (now (protections .entry))) (store (now (memory .entry)) (now (words .entry)) (now (tags .entry)))) (call.evict line)) ⌝ }
 {
-    let own = access_refusal(memory, words, tags, board::LINES, line);
-    let managers = manager::refusals::tables_refusal(list, records, protections);
+    let own = access_refusal(board, memory, words, tags, board::lines(board), line);
+    let managers = manager::refusals::tables_refusal(board, list, records, protections);
     earlier(own, managers)
 }
 
 // The refusal in memory, cache words and tags, or 0.
-fn store_refusal(memory: &[u32], words: &[u32], tags: &[u8]) -> u8
-    ensures { λ r. ⌜ r ≡ firstRefusal (storeCauses board01 (store (now (memory .entry)) (now (words .entry)) (now (tags .entry))) true) ⌝ }
+fn store_refusal(board: Board, memory: &[u32], words: &[u32], tags: &[u8]) -> u8
+    requires { ⌜ Regular board ⌝ }
+    ensures { λ r. ⌜ r ≡ firstRefusal (storeCauses board (store (now (memory .entry)) (now (words .entry)) (now (tags .entry))) true) ⌝ }
 {
-    if memory.len() != board::MEMORY_WORDS {
+    if memory.len() != board::memory_words(board) {
         return 1;
     }
-    if words.len() != board::CACHE_WORDS {
+    if words.len() != board::cache_words(board) {
         return 1;
     }
-    if tags.len() != board::LINES {
+    if tags.len() != board::lines(board) {
         return 1;
     }
-    if !cache::tag::tags_keep_rules(tags) {
+    if !cache::tag::tags_keep_rules(board, tags) {
         return 2;
     }
     0
 }
 
 // The same with a device's buffer.
-fn transfer_refusal(memory: &[u32], words: &[u32], tags: &[u8], buffer: &[u32]) -> u8
-    ensures { λ r. ⌜ r ≡ firstRefusal (storeCauses board01 (store (now (memory .entry)) (now (words .entry)) (now (tags .entry))) (eqb (length (now (buffer .entry))) (board01 .pageWords))) ⌝ }
+fn transfer_refusal(board: Board, memory: &[u32], words: &[u32], tags: &[u8], buffer: &[u32]) -> u8
+    requires { ⌜ Regular board ⌝ }
+    ensures { λ r. ⌜ r ≡ firstRefusal (storeCauses board (store (now (memory .entry)) (now (words .entry)) (now (tags .entry))) (eqb (length (now (buffer .entry))) (board .page))) ⌝ }
 {
-    if buffer.len() != board::PAGE_WORDS {
+    if buffer.len() != board.page {
         return 1;
     }
-    store_refusal(memory, words, tags)
+    store_refusal(board, memory, words, tags)
 }
 
 // The same with an offset, or a line, and its limit.
-fn access_refusal(memory: &[u32], words: &[u32], tags: &[u8], limit: usize, offset: usize) -> u8
-    ensures { λ r. ⌜ r ≡ firstRefusal (accessCauses board01 (store (now (memory .entry)) (now (words .entry)) (now (tags .entry))) limit offset) ⌝ }
+fn access_refusal(
+    board: Board,
+    memory: &[u32],
+    words: &[u32],
+    tags: &[u8],
+    limit: usize,
+    offset: usize,
+) -> u8
+    requires { ⌜ Regular board ⌝ }
+    ensures { λ r. ⌜ r ≡ firstRefusal (accessCauses board (store (now (memory .entry)) (now (words .entry)) (now (tags .entry))) limit offset) ⌝ }
 {
-    let refusal = store_refusal(memory, words, tags);
+    let refusal = store_refusal(board, memory, words, tags);
     if refusal != 0 {
         return refusal;
     }

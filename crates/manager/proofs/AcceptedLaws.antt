@@ -8,7 +8,8 @@ use borrow.Author.Tests.{eqb-true, eqb-false, leb-false, not-false}
 use lib.Dec.{eqb, leb}
 use lib.ListN.{length}
 use Rattle.bits.proofs.Tautology.{and-left, and-right}
-use Rattle.board.specs.Board.{Board, spaces, pages}
+use Rattle.board.specs.declared.Board.{Board}
+use Rattle.board.specs.Board.{spaces, pages}
 use Rattle.mapping.specs.declared.Found.{Found}
 use Rattle.mapping.specs.declared.Found.the-variants.{At, Nothing}
 use Rattle.mapping.specs.declared.Mapping.{Mapping}
@@ -18,20 +19,20 @@ use Rattle.mapping.specs.Lookup.{lookup}
 use Rattle.mapping.specs.Rules as list-of
 use Rattle.mapping.proofs.Tests.{or-either}
 use Rattle.manager.specs.Refusals.{firstRefusal, mapCauses, pageCauses, writeCauses, transferCauses, found, isMapped}
-use Rattle.manager.specs.Tables.{Tables, recordBytes, recordsKeepRules, lengthsRight, rulesKept}
+use Rattle.manager.specs.Tables.{Tables, recordWords, recordsKeepRules, lengthsRight, rulesKept}
 use Rattle.manager.specs.Theorems.{WellFormed}
 use Rattle.manager.proofs.CauseLaws.{list-rules, none-applies}
 
 -- ---- the tables' lengths and rules, part by part
 
 pub lengths-known : (b : Board) (t : Tables) → lengthsRight b t ≡ true
-    → (length (t .list .items) ≡ capacity) × (length (t .records) ≡ b .frames * recordBytes) × (length (t .protections) ≡ capacity)
+    → (length (t .list .items) ≡ capacity) × (length (t .records) ≡ b .frames * recordWords) × (length (t .protections) ≡ capacity)
 unfolding lengthsRight
 lengths-known b t e =
     let s = and-left _ (eqb (length (t .protections)) capacity) e in (
-      eqb-true _ _ (and-left _ (eqb (length (t .records)) (b .frames * recordBytes)) s),
+      eqb-true _ _ (and-left _ (eqb (length (t .records)) (b .frames * recordWords)) s),
       eqb-true _ _ (and-right (eqb (length (t .list .items)) capacity) _ s),
-      eqb-true _ _ (and-right (eqb (length (t .list .items)) capacity && eqb (length (t .records)) (b .frames * recordBytes)) _ e),
+      eqb-true _ _ (and-right (eqb (length (t .list .items)) capacity && eqb (length (t .records)) (b .frames * recordWords)) _ e),
     )
 
 pub records-rules : (b : Board) (t : Tables) → rulesKept b t ≡ true → recordsKeepRules b (t .records) ≡ true

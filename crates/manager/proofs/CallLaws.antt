@@ -1,7 +1,8 @@
 -- Every call is its refusal, which leaves the tables as they were, or what it answers and leaves where no cause applies.
 use mathlib.Core.Path.{_≡_, refl}
 use Prim.Native.Nat.{ℕ, zero, suc}
-use Rattle.board.specs.Board.{Board, colourOf}
+use Rattle.board.specs.declared.Board.{Board}
+use Rattle.board.specs.Board.{colourOf}
 use Rattle.page_model.specs.Table as step
 use Rattle.mapping.specs.declared.Mapping.{Mapping}
 use Rattle.mapping.specs.Lookup.{lookup}

@@ -9,7 +9,7 @@ use lib.Dec.{eqb, leb, ltb}
 use lib.ListN.{length}
 use Rattle.bits.proofs.Mask.{all-at}
 use Rattle.bits.proofs.Tautology.{and-left, and-right}
-use Rattle.board.specs.Board.{Board}
+use Rattle.board.specs.declared.Board.{Board}
 use Rattle.page_model.specs.Record as record-of
 use Rattle.mapping.specs.Entry.{capacity}
 use Rattle.mapping.specs.declared.Found.{Found}
@@ -19,7 +19,7 @@ use Rattle.mapping.specs.Lookup.{lookup}
 use Rattle.mapping.specs.Rules as list-of
 use Rattle.mapping.proofs.Laws.{keepsRules-true, lookup-at}
 use Rattle.manager.specs.Refusals.{Cause, firstRefusal, tableCauses, mapCauses, pageCauses, writeCauses, transferCauses, outOfSpace, isRight, found, isMapped, placeOf, mappingOf}
-use Rattle.manager.specs.Tables.{Tables, recordBytes, recordAt, recordsKeepRules, lengthsRight, rulesKept}
+use Rattle.manager.specs.Tables.{Tables, recordWords, recordAt, recordsKeepRules, lengthsRight, rulesKept}
 
 -- ---- the lent tables
 
@@ -28,7 +28,7 @@ abbrev refusal2 : Bool → Bool → ℕ → ℕ
 refusal2 lengths rules rest = cond (not lengths) 1 (cond (not rules) 2 rest)
 
 module _ (b : Board) (t : Tables) where
-  pub lengths-records : eqb (length (t .records)) (b .frames * recordBytes) ≡ false → lengthsRight b t ≡ false
+  pub lengths-records : eqb (length (t .records)) (b .frames * recordWords) ≡ false → lengthsRight b t ≡ false
   unfolding lengthsRight
   lengths-records e = rw (e, and-false)
 
@@ -36,7 +36,7 @@ module _ (b : Board) (t : Tables) where
   unfolding lengthsRight
   lengths-protections e = rw (e, and-false)
 
-  pub lengths-right : length (t .list .items) ≡ capacity → length (t .records) ≡ b .frames * recordBytes → length (t .protections) ≡ capacity
+  pub lengths-right : length (t .list .items) ≡ capacity → length (t .records) ≡ b .frames * recordWords → length (t .protections) ≡ capacity
       → lengthsRight b t ≡ true
   unfolding lengthsRight
   lengths-right l r p = ap₂ _&&_ (ap₂ _&&_ (eq-eqb _ _ l) (eq-eqb _ _ r)) (eq-eqb _ _ p)

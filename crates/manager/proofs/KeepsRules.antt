@@ -3,7 +3,8 @@ use mathlib.Core.Path.{_≡_, refl, subst⁻¹, _∙_}
 use mathlib.Core.Bool.{true}
 use Prim.Native.Nat.{ℕ, zero, suc, _*_, _<_}
 use lib.ListN.{length}
-use Rattle.board.specs.Board.{Board, colourOf}
+use Rattle.board.specs.declared.Board.{Board}
+use Rattle.board.specs.Board.{colourOf}
 use Rattle.page_model.specs.Step.{stepped}
 use Rattle.page_model.specs.Table as step
 use Rattle.page_model.proofs.Theorems.{step-keeps-rules}
@@ -15,7 +16,7 @@ use Rattle.mapping.specs.Lookup.{lookup}
 use Rattle.mapping.proofs.Laws.{rules-keepsRules, append-length, append-rules, remove-length, remove-rules}
 use Rattle.manager.specs.Calls.{Result, commitChange}
 use Rattle.manager.specs.Refusals.{firstRefusal, isMapped, placeOf, mappingOf}
-use Rattle.manager.specs.Tables.{Tables, tables, recordBytes, recordAt, putRecord, recordsKeepRules, refill}
+use Rattle.manager.specs.Tables.{Tables, tables, recordWords, recordAt, putRecord, recordsKeepRules, refill}
 use Rattle.manager.specs.Theorems.{PageCall, map, unmap, read, write, deviceRead, deviceWrite, causesOf, WellFormed, CallKeepsRules}
 use Rattle.manager.proofs.CallLaws.{settled, acceptedOf, call-settled}
 use Rattle.manager.proofs.CauseLaws.{lengths-right, rules-kept, list-rules, record-rules, mapped-found, mapped-range}
@@ -24,7 +25,7 @@ use Rattle.manager.proofs.RecordLaws.{length-putRecord, putRecord-rules
 use Rattle.manager.proofs.AcceptedLaws.{lengths-known, records-rules, transfer-accepted, page-accepted, write-accepted, map-accepted}
 
 -- tables with their protections filled
-pub refill-keeps : (b : Board) (t : Tables) → length (t .list .items) ≡ capacity → length (t .records) ≡ b .frames * recordBytes
+pub refill-keeps : (b : Board) (t : Tables) → length (t .list .items) ≡ capacity → length (t .records) ≡ b .frames * recordWords
     → length (t .protections) ≡ capacity → Rules b (t .list) → recordsKeepRules b (t .records) ≡ true → WellFormed b (refill b t)
 unfolding refill
 refill-keeps b t l r p rules kept =

@@ -10,7 +10,8 @@ use lib.Dec.{eqb}
 use lib.ListN.{length, getD, set}
 use lib.Seq.{ext-getD, getD-set-same, getD-set-other}
 use Rattle.bits.specs.Mask.{digit}
-use Rattle.board.specs.Board.{Board, colourOf}
+use Rattle.board.specs.declared.Board.{Board}
+use Rattle.board.specs.Board.{colourOf}
 use Rattle.page_model.specs.declared.FrameRecord.{FrameRecord}
 use Rattle.page_model.specs.Record.{stateOf, isHeld, isDirty}
 use Rattle.page_model.specs.Table.{ColourState, empty, present, dirty, stale}

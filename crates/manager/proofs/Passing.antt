@@ -6,7 +6,8 @@ use Prim.Native.Nat.{ℕ, _≤_, _<_}
 use native.Mathlib.Omega.{arith}
 use borrow.Author.Tests.{lt-ltb, eq-eqb, eqb-true}
 use lib.Dec.{eqb}
-use Rattle.board.specs.Board.{Board, Regular, colourOf}
+use Rattle.board.specs.declared.Board.{Board}
+use Rattle.board.specs.Board.{Regular, colourOf}
 use Rattle.board.proofs.Geometry.{colourOf-lt}
 use Rattle.page_model.specs.Record.{stateOf, keepsRules}
 use Rattle.page_model.specs.Table.{ColourState, empty, present, dirty, stale}

@@ -6,7 +6,7 @@ use Prim.Native.Nat.{ℕ, zero, suc, _≤_}
 use native.Mathlib.Omega.{arith}
 use borrow.Author.Tests.{le-ltb}
 use lib.ListN.{length, getD, List·getD-eq-default}
-use Rattle.board.specs.Board.{Board}
+use Rattle.board.specs.declared.Board.{Board}
 use Rattle.mapping.specs.declared.MappingList.{MappingList}
 use Rattle.mapping.specs.Entry.{capacity}
 use Rattle.mapping.proofs.Tests.{lt-or-le}

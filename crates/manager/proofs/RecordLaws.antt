@@ -1,4 +1,4 @@
--- The laws of the frame records in their bytes: a record stored is read back, the others stay, and so does the number of bytes.
+-- The laws of the frame records in their words: a record stored is read back, the others stay, and so does the number of words.
 use mathlib.Core.Path.{_≡_, refl, ap, _∙_}
 use mathlib.Core.Bool.{Bool, true, false}
 use mathlib.Core.List.{List}
@@ -10,20 +10,20 @@ use lib.Dec.{eqb}
 use lib.ListN.{length, getD, set, replicate, length-set, getD-replicate}
 use lib.Seq.{getD-set-same, getD-set-other}
 use Rattle.bits.proofs.Mask.{all-at, all-of}
-use Rattle.board.specs.Board.{Board}
+use Rattle.board.specs.declared.Board.{Board}
 use Rattle.page_model.specs.declared.FrameRecord.{FrameRecord}
 use Rattle.page_model.specs.Record.{keepsRules, startRecord}
-use Rattle.manager.specs.Tables.{recordBytes, recordAt, putRecord, recordsKeepRules}
+use Rattle.manager.specs.Tables.{recordWords, recordAt, putRecord, recordsKeepRules}
 
 module _ (rs : List ℕ) (f : ℕ) (r : FrameRecord) where
   pub length-putRecord : length (putRecord rs f r) ≡ length rs
   unfolding putRecord
   length-putRecord = simp length-set
 
-  pub recordAt-putRecord-same : f * recordBytes + 2 < length rs → recordAt (putRecord rs f r) f ≡ r
+  pub recordAt-putRecord-same : f * recordWords + 2 < length rs → recordAt (putRecord rs f r) f ≡ r
   unfolding recordAt putRecord
   recordAt-putRecord-same h =
-      let a = f * recordBytes in
+      let a = f * recordWords in
       let one = set rs a (r .held) in
       let two = set one (a + 1) (r .stale) in
       let held = getD-set-other two (a + 2) a (r .dirty) 0 (omega arith) ∙ getD-set-other one (a + 1) a (r .stale) 0 (omega arith) ∙ getD-set-same rs a (r .held) 0 (omega arith) in
@@ -31,21 +31,21 @@ module _ (rs : List ℕ) (f : ℕ) (r : FrameRecord) where
       let dirty = getD-set-same two (a + 2) (r .dirty) 0 (simp length-set (omega arith)) in
       rw (held, stale, dirty)
 
-  -- a byte that is none of the record's
-  byte-other : (i : ℕ) → i ≢ f * recordBytes → i ≢ f * recordBytes + 1 → i ≢ f * recordBytes + 2 → getD (putRecord rs f r) i 0 ≡ getD rs i 0
+  -- a word that is none of the record's
+  word-other : (i : ℕ) → i ≢ f * recordWords → i ≢ f * recordWords + 1 → i ≢ f * recordWords + 2 → getD (putRecord rs f r) i 0 ≡ getD rs i 0
   unfolding putRecord
-  byte-other i h k l = rw (getD-set-other, getD-set-other, getD-set-other)
+  word-other i h k l = rw (getD-set-other, getD-set-other, getD-set-other)
 
   pub recordAt-putRecord-other : (g : ℕ) → g ≢ f → recordAt (putRecord rs f r) g ≡ recordAt rs g
   unfolding recordAt
   recordAt-putRecord-other g h =
-      let held = byte-other (g * recordBytes) (omega arith) (omega arith) (omega arith) in
-      let stale = byte-other (g * recordBytes + 1) (omega arith) (omega arith) (omega arith) in
-      let dirty = byte-other (g * recordBytes + 2) (omega arith) (omega arith) (omega arith) in
+      let held = word-other (g * recordWords) (omega arith) (omega arith) (omega arith) in
+      let stale = word-other (g * recordWords + 1) (omega arith) (omega arith) (omega arith) in
+      let dirty = word-other (g * recordWords + 2) (omega arith) (omega arith) (omega arith) in
       rw (held, stale, dirty)
 
 -- records that keep the rules still do with one that keeps them in the place of another
-pub putRecord-rules : (b : Board) (rs : List ℕ) (f : ℕ) (r : FrameRecord) → length rs ≡ b .frames * recordBytes → f < b .frames
+pub putRecord-rules : (b : Board) (rs : List ℕ) (f : ℕ) (r : FrameRecord) → length rs ≡ b .frames * recordWords → f < b .frames
     → recordsKeepRules b rs ≡ true → keepsRules (b .colours) r ≡ true → recordsKeepRules b (putRecord rs f r) ≡ true
 unfolding recordsKeepRules
 putRecord-rules b rs f r n lf h k = all-of (b .frames) _ (λ g lg. go g (eqb g f) refl (all-at (b .frames) _ h g lg))
@@ -55,10 +55,10 @@ putRecord-rules b rs f r n lf h k = all-of (b .frames) _ (λ g lg. go g (eqb g f
     go g false z kept = ap (keepsRules (b .colours)) (recordAt-putRecord-other rs f r g (eqb-false g f z)) ∙ kept
 
 -- every record at the start
-pub recordAt-start : (frames f : ℕ) → f < frames → recordAt (replicate (frames * recordBytes) 0) f ≡ startRecord
+pub recordAt-start : (frames f : ℕ) → f < frames → recordAt (replicate (frames * recordWords) 0) f ≡ startRecord
 unfolding recordAt
 recordAt-start frames f h =
-    let held = getD-replicate {A = ℕ} (frames * recordBytes) (f * recordBytes) 0 0 (omega arith) in
-    let stale = getD-replicate {A = ℕ} (frames * recordBytes) (f * recordBytes + 1) 0 0 (omega arith) in
-    let dirty = getD-replicate {A = ℕ} (frames * recordBytes) (f * recordBytes + 2) 0 0 (omega arith) in
+    let held = getD-replicate {A = ℕ} (frames * recordWords) (f * recordWords) 0 0 (omega arith) in
+    let stale = getD-replicate {A = ℕ} (frames * recordWords) (f * recordWords + 1) 0 0 (omega arith) in
+    let dirty = getD-replicate {A = ℕ} (frames * recordWords) (f * recordWords + 2) 0 0 (omega arith) in
     rw (held, stale, dirty)

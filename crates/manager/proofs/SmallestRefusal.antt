@@ -8,7 +8,7 @@ use native.Mathlib.Omega.{arith}
 use borrow.Author.Tests.{ltb-true}
 use lib.Dec.{ltb}
 use Rattle.bits.proofs.Tautology.{and-left, and-right}
-use Rattle.board.specs.Board.{Board}
+use Rattle.board.specs.declared.Board.{Board}
 use Rattle.manager.specs.Answers.{refused, isRefusal, numberOf}
 use Rattle.manager.specs.Calls.{Result, result}
 use Rattle.manager.specs.Refusals.{Cause, _if_, firstRefusal, mapCauses, writeCauses, transferCauses}

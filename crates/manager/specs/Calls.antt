@@ -1,7 +1,8 @@
 -- What each call plans, answers and leaves in the tables. A plan changes nothing; where it is no refusal, a commit carries it out.
 use mathlib.Core.List.{List}
 use Prim.Native.Nat.{ℕ, zero, suc}
-use Rattle.board.specs.Board.{Board, colourOf}
+use Rattle.board.specs.declared.Board.{Board}
+use Rattle.board.specs.Board.{colourOf}
 use Rattle.page_model.specs.declared.FrameRecord.{FrameRecord}
 use Rattle.page_model.specs.declared.Op.the-variants.{None}
 use Rattle.page_model.specs.declared.Ops.{Ops}

@@ -1,4 +1,4 @@
--- The manager: frame records and protections in lent bytes, the causes of refusal in their order, and what each call answers and leaves.
+-- The manager: frame records and protections in lent buffers, the causes of refusal in their order, and what each call answers and leaves.
 pub mod Tables
 pub mod Refusals
 pub mod Answers

@@ -3,7 +3,8 @@ use mathlib.Core.Bool.{Bool, true, false, not, cond, _||_}
 use mathlib.Core.List.{List, [], _∷_, _++_}
 use Prim.Native.Nat.{ℕ}
 use lib.Dec.{eqb, leb}
-use Rattle.board.specs.Board.{Board, spaces, pages}
+use Rattle.board.specs.declared.Board.{Board}
+use Rattle.board.specs.Board.{spaces, pages}
 use Rattle.mapping.specs.declared.Found.{Found}
 use Rattle.mapping.specs.declared.Found.the-variants.{At, Nothing}
 use Rattle.mapping.specs.declared.Mapping.{Mapping}

@@ -5,7 +5,8 @@ use Prim.Native.Nat.{ℕ, zero, suc, _+_, _*_}
 use lib.Dec.{eqb, ltb}
 use lib.ListN.{length, getD, set}
 use Rattle.bits.specs.Mask.{digit, all}
-use Rattle.board.specs.Board.{Board, colourOf}
+use Rattle.board.specs.declared.Board.{Board}
+use Rattle.board.specs.Board.{colourOf}
 use Rattle.page_model.specs.declared.FrameRecord.{FrameRecord}
 use Rattle.page_model.specs.Record as record-of
 use Rattle.page_model.specs.Table.{ColourState}
@@ -14,7 +15,7 @@ use Rattle.mapping.specs.declared.MappingList.{MappingList}
 use Rattle.mapping.specs.Entry.{capacity, readWrite, mappingAt}
 use Rattle.mapping.specs.Rules as list-of
 
--- the mapping list, the frame records as bytes, and the protections
+-- the mapping list, the frame records as words, and the protections
 pub record Tables : Type 0 where
   pub list : MappingList
   pub records : List ℕ
@@ -25,16 +26,16 @@ tables l rs ps = record { list = l; records = rs; protections = ps }
 
 -- ---- frame records, one after the other
 
--- the bytes of a record: held, stale, dirty
-abbrev pub recordBytes : ℕ
-recordBytes = 3
+-- the words of a record: held, stale, dirty
+abbrev pub recordWords : ℕ
+recordWords = 3
 
 unfoldable pub recordAt : List ℕ → ℕ → FrameRecord
 recordAt rs f =
-    record { held = getD rs (f * recordBytes) 0; stale = getD rs (f * recordBytes + 1) 0; dirty = getD rs (f * recordBytes + 2) 0 }
+    record { held = getD rs (f * recordWords) 0; stale = getD rs (f * recordWords + 1) 0; dirty = getD rs (f * recordWords + 2) 0 }
 
 unfoldable pub putRecord : List ℕ → ℕ → FrameRecord → List ℕ
-putRecord rs f r = set (set (set rs (f * recordBytes) (r .held)) (f * recordBytes + 1) (r .stale)) (f * recordBytes + 2) (r .dirty)
+putRecord rs f r = set (set (set rs (f * recordWords) (r .held)) (f * recordWords + 1) (r .stale)) (f * recordWords + 2) (r .dirty)
 
 unfoldable pub recordsKeepRules : Board → List ℕ → Bool
 recordsKeepRules b rs = all (b .frames) (λ f. record-of.keepsRules (b .colours) (recordAt rs f))
@@ -43,7 +44,7 @@ recordsKeepRules b rs = all (b .frames) (λ f. record-of.keepsRules (b .colours)
 
 unfoldable pub lengthsRight : Board → Tables → Bool
 lengthsRight b t =
-    eqb (length (t .list .items)) capacity && eqb (length (t .records)) (b .frames * recordBytes) && eqb (length (t .protections)) capacity
+    eqb (length (t .list .items)) capacity && eqb (length (t .records)) (b .frames * recordWords) && eqb (length (t .protections)) capacity
 
 unfoldable pub rulesKept : Board → Tables → Bool
 rulesKept b t = list-of.keepsRules b (t .list) && recordsKeepRules b (t .records)

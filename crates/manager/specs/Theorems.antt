@@ -6,7 +6,8 @@ use mathlib.Core.Path.{_≡_}
 use Prim.Native.Nat.{ℕ, _≤_, _<_}
 use lib.Dec.{ltb}
 use lib.ListN.{length, getD}
-use Rattle.board.specs.Board.{Board, Regular, colourOf}
+use Rattle.board.specs.declared.Board.{Board}
+use Rattle.board.specs.Board.{Regular, colourOf}
 use Rattle.page_model.specs.Table as step
 use Rattle.page_model.specs.Theorems.{Idle}
 use Rattle.mapping.specs.Entry.{capacity, readWrite, mappingAt}

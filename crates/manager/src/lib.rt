@@ -3,10 +3,12 @@ pub mod records;
 pub mod refusals;
 
 ghost use mathlib.Core.Path.{_≡_};
-ghost use Rattle.board.specs.Board.{board01};
+ghost use Rattle.board.specs.Board.{Regular, board01};
 ghost use Rattle.manager.specs.Answers.{outcome, refused, accepted};
 ghost use Rattle.manager.specs.Tables.{tables};
 ghost use Rattle.manager.specs.Calls.{result, noOps, stepResult, planMap, planUnmap, planRead, planWrite, planDeviceRead, planDeviceWrite, commitMap, commitUnmap, commitChange, mapCall, unmapCall, readCall, writeCall, deviceReadCall, deviceWriteCall};
+use board::BOARD01;
+use board::Board;
 use mapping::Mapping;
 use mapping::MappingList;
 use page_model::FrameRecord;
@@ -63,21 +65,21 @@ pub struct Listed {
 // ---- the calls
 
 // Gives a page of a space its frame.
-pub fn map(list: MappingList, records: &[u8], protections: &mut [u8], m: Mapping) -> Listed
+pub fn map(list: MappingList, records: &[u32], protections: &mut [u8], m: Mapping) -> Listed
     ensures { λ r. ⌜ result (outcome (r .answer)) (tables (r .list) (now (records .entry)) (now (protections .exit)))
         ≡ mapCall board01 (tables list (now (records .entry)) (now (protections .entry))) (m .space) (m .page) (m .frame) (m .rights) ⌝ }
 {
-    let plan = plan_map(list, records, protections, m);
+    let plan = plan_map(BOARD01, list, records, protections, m);
     match plan {
         ListPlan::Refused(number) => refused_as(list, number),
-        ListPlan::Place(_) => listed_as(commit_map(list, records, protections, m)),
+        ListPlan::Place(_) => listed_as(commit_map(BOARD01, list, records, protections, m)),
     }
 }
 
 // Takes the mapping of a page of a space off the list. The frame's record stays: words may lie in the cache.
 pub fn unmap(
     list: MappingList,
-    records: &[u8],
+    records: &[u32],
     protections: &mut [u8],
     space: u8,
     page: u16,
@@ -85,17 +87,23 @@ pub fn unmap(
     ensures { λ r. ⌜ result (outcome (r .answer)) (tables (r .list) (now (records .entry)) (now (protections .exit)))
         ≡ unmapCall board01 (tables list (now (records .entry)) (now (protections .entry))) space page ⌝ }
 {
-    let plan = plan_unmap(list, records, protections, space, page);
+    let plan = plan_unmap(BOARD01, list, records, protections, space, page);
     match plan {
         ListPlan::Refused(number) => refused_as(list, number),
-        ListPlan::Place(place) => listed_as(commit_unmap(list, records, protections, place)),
+        ListPlan::Place(place) => listed_as(commit_unmap(
+            BOARD01,
+            list,
+            records,
+            protections,
+            place,
+        )),
     }
 }
 
 // The processor reads a page of a space.
 pub fn read(
     list: MappingList,
-    records: &mut [u8],
+    records: &mut [u32],
     protections: &mut [u8],
     space: u8,
     page: u16,
@@ -103,14 +111,14 @@ pub fn read(
     ensures { λ r. ⌜ result (outcome r) (tables list (now (records .exit)) (now (protections .exit)))
         ≡ readCall board01 (tables list (now (records .entry)) (now (protections .entry))) space page ⌝ }
 {
-    let plan = plan_read(list, records, protections, space, page);
-    carry_out(list, records, protections, plan)
+    let plan = plan_read(BOARD01, list, records, protections, space, page);
+    carry_out(BOARD01, list, records, protections, plan)
 }
 
 // The processor writes a page of a space.
 pub fn write(
     list: MappingList,
-    records: &mut [u8],
+    records: &mut [u32],
     protections: &mut [u8],
     space: u8,
     page: u16,
@@ -118,45 +126,52 @@ pub fn write(
     ensures { λ r. ⌜ result (outcome r) (tables list (now (records .exit)) (now (protections .exit)))
         ≡ writeCall board01 (tables list (now (records .entry)) (now (protections .entry))) space page ⌝ }
 {
-    let plan = plan_write(list, records, protections, space, page);
-    carry_out(list, records, protections, plan)
+    let plan = plan_write(BOARD01, list, records, protections, space, page);
+    carry_out(BOARD01, list, records, protections, plan)
 }
 
 // A device reads a frame from memory.
 pub fn device_read(
     list: MappingList,
-    records: &mut [u8],
+    records: &mut [u32],
     protections: &mut [u8],
     frame: u8,
 ) -> Answer
     ensures { λ r. ⌜ result (outcome r) (tables list (now (records .exit)) (now (protections .exit)))
         ≡ deviceReadCall board01 (tables list (now (records .entry)) (now (protections .entry))) frame ⌝ }
 {
-    let plan = plan_device_read(list, records, protections, frame);
-    carry_out(list, records, protections, plan)
+    let plan = plan_device_read(BOARD01, list, records, protections, frame);
+    carry_out(BOARD01, list, records, protections, plan)
 }
 
 // A device writes a frame in memory.
 pub fn device_write(
     list: MappingList,
-    records: &mut [u8],
+    records: &mut [u32],
     protections: &mut [u8],
     frame: u8,
 ) -> Answer
     ensures { λ r. ⌜ result (outcome r) (tables list (now (records .exit)) (now (protections .exit)))
         ≡ deviceWriteCall board01 (tables list (now (records .entry)) (now (protections .entry))) frame ⌝ }
 {
-    let plan = plan_device_write(list, records, protections, frame);
-    carry_out(list, records, protections, plan)
+    let plan = plan_device_write(BOARD01, list, records, protections, frame);
+    carry_out(BOARD01, list, records, protections, plan)
 }
 
 // ---- plans
 
 // Whether a mapping can be listed, and where.
-pub fn plan_map(list: MappingList, records: &[u8], protections: &[u8], m: Mapping) -> ListPlan
-    ensures { λ r. ⌜ r ≡ planMap board01 (tables list (now (records .entry)) (now (protections .entry))) (m .space) (m .page) (m .frame) (m .rights) ⌝ }
+pub fn plan_map(
+    board: Board,
+    list: MappingList,
+    records: &[u32],
+    protections: &[u8],
+    m: Mapping,
+) -> ListPlan
+    requires { ⌜ Regular board ⌝ }
+    ensures { λ r. ⌜ r ≡ planMap board (tables list (now (records .entry)) (now (protections .entry))) (m .space) (m .page) (m .frame) (m .rights) ⌝ }
 {
-    let refusal = map_refusal(list, records, protections, m);
+    let refusal = map_refusal(board, list, records, protections, m);
     if refusal != 0 {
         return ListPlan::Refused(refusal);
     }
@@ -165,15 +180,17 @@ pub fn plan_map(list: MappingList, records: &[u8], protections: &[u8], m: Mappin
 
 // Whether a page of a space is mapped, and at which place.
 pub fn plan_unmap(
+    board: Board,
     list: MappingList,
-    records: &[u8],
+    records: &[u32],
     protections: &[u8],
     space: u8,
     page: u16,
 ) -> ListPlan
-    ensures { λ r. ⌜ r ≡ planUnmap board01 (tables list (now (records .entry)) (now (protections .entry))) space page ⌝ }
+    requires { ⌜ Regular board ⌝ }
+    ensures { λ r. ⌜ r ≡ planUnmap board (tables list (now (records .entry)) (now (protections .entry))) space page ⌝ }
 {
-    let refusal = page_refusal(list, records, protections, space, page);
+    let refusal = page_refusal(board, list, records, protections, space, page);
     if refusal != 0 {
         return ListPlan::Refused(refusal);
     }
@@ -182,47 +199,58 @@ pub fn plan_unmap(
 
 // What a read makes of the page's frame.
 pub fn plan_read(
+    board: Board,
     list: MappingList,
-    records: &[u8],
+    records: &[u32],
     protections: &[u8],
     space: u8,
     page: u16,
 ) -> Plan
-    ensures { λ r. ⌜ r ≡ planRead board01 (tables list (now (records .entry)) (now (protections .entry))) space page ⌝ }
+    requires { ⌜ Regular board ⌝ }
+    ensures { λ r. ⌜ r ≡ planRead board (tables list (now (records .entry)) (now (protections .entry))) space page ⌝ }
 {
-    let refusal = page_refusal(list, records, protections, space, page);
+    let refusal = page_refusal(board, list, records, protections, space, page);
     if refusal != 0 {
         return Plan::Refused(refusal);
     }
     let m = mapping_of(list, space, page);
-    let colour = board::colour_of(page as usize);
+    let colour = board::colour_of(board, page as usize);
     step_of(m.frame, record_at(records, m.frame).read(colour))
 }
 
 // What a write makes of the page's frame.
 pub fn plan_write(
+    board: Board,
     list: MappingList,
-    records: &[u8],
+    records: &[u32],
     protections: &[u8],
     space: u8,
     page: u16,
 ) -> Plan
-    ensures { λ r. ⌜ r ≡ planWrite board01 (tables list (now (records .entry)) (now (protections .entry))) space page ⌝ }
+    requires { ⌜ Regular board ⌝ }
+    ensures { λ r. ⌜ r ≡ planWrite board (tables list (now (records .entry)) (now (protections .entry))) space page ⌝ }
 {
-    let refusal = write_refusal(list, records, protections, space, page);
+    let refusal = write_refusal(board, list, records, protections, space, page);
     if refusal != 0 {
         return Plan::Refused(refusal);
     }
     let m = mapping_of(list, space, page);
-    let colour = board::colour_of(page as usize);
+    let colour = board::colour_of(board, page as usize);
     step_of(m.frame, record_at(records, m.frame).write(colour))
 }
 
 // What a device read makes of a frame.
-pub fn plan_device_read(list: MappingList, records: &[u8], protections: &[u8], frame: u8) -> Plan
-    ensures { λ r. ⌜ r ≡ planDeviceRead board01 (tables list (now (records .entry)) (now (protections .entry))) frame ⌝ }
+pub fn plan_device_read(
+    board: Board,
+    list: MappingList,
+    records: &[u32],
+    protections: &[u8],
+    frame: u8,
+) -> Plan
+    requires { ⌜ Regular board ⌝ }
+    ensures { λ r. ⌜ r ≡ planDeviceRead board (tables list (now (records .entry)) (now (protections .entry))) frame ⌝ }
 {
-    let refusal = transfer_refusal(list, records, protections, frame);
+    let refusal = transfer_refusal(board, list, records, protections, frame);
     if refusal != 0 {
         return Plan::Refused(refusal);
     }
@@ -230,10 +258,17 @@ pub fn plan_device_read(list: MappingList, records: &[u8], protections: &[u8], f
 }
 
 // What a device write makes of a frame.
-pub fn plan_device_write(list: MappingList, records: &[u8], protections: &[u8], frame: u8) -> Plan
-    ensures { λ r. ⌜ r ≡ planDeviceWrite board01 (tables list (now (records .entry)) (now (protections .entry))) frame ⌝ }
+pub fn plan_device_write(
+    board: Board,
+    list: MappingList,
+    records: &[u32],
+    protections: &[u8],
+    frame: u8,
+) -> Plan
+    requires { ⌜ Regular board ⌝ }
+    ensures { λ r. ⌜ r ≡ planDeviceWrite board (tables list (now (records .entry)) (now (protections .entry))) frame ⌝ }
 {
-    let refusal = transfer_refusal(list, records, protections, frame);
+    let refusal = transfer_refusal(board, list, records, protections, frame);
     if refusal != 0 {
         return Plan::Refused(refusal);
     }
@@ -244,57 +279,70 @@ pub fn plan_device_write(list: MappingList, records: &[u8], protections: &[u8], 
 
 // Lists a mapping, and hands back the list.
 pub fn commit_map(
+    board: Board,
     list: MappingList,
-    records: &[u8],
+    records: &[u32],
     protections: &mut [u8],
     m: Mapping,
 ) -> MappingList
-    ensures { λ r. ⌜ tables r (now (records .entry)) (now (protections .exit)) ≡ commitMap board01 (tables list (now (records .entry)) (now (protections .entry))) m ⌝ }
+    requires { ⌜ Regular board ⌝ }
+    ensures { λ r. ⌜ tables r (now (records .entry)) (now (protections .exit)) ≡ commitMap board (tables list (now (records .entry)) (now (protections .entry))) m ⌝ }
 {
     let next = mapping::append(list, m);
-    refill(next, records, protections);
+    refill(board, next, records, protections);
     next
 }
 
 // Takes the mapping at a place off the list, and hands back the list.
 pub fn commit_unmap(
+    board: Board,
     list: MappingList,
-    records: &[u8],
+    records: &[u32],
     protections: &mut [u8],
     place: usize,
 ) -> MappingList
-    ensures { λ r. ⌜ tables r (now (records .entry)) (now (protections .exit)) ≡ commitUnmap board01 (tables list (now (records .entry)) (now (protections .entry))) place ⌝ }
+    requires { ⌜ Regular board ⌝ }
+    ensures { λ r. ⌜ tables r (now (records .entry)) (now (protections .exit)) ≡ commitUnmap board (tables list (now (records .entry)) (now (protections .entry))) place ⌝ }
 {
     let next = mapping::remove(list, place);
-    refill(next, records, protections);
+    refill(board, next, records, protections);
     next
 }
 
 // Stores a frame's next record, and brings the protections up to it.
 pub fn commit_change(
+    board: Board,
     list: MappingList,
-    records: &mut [u8],
+    records: &mut [u32],
     protections: &mut [u8],
     frame: u8,
     next: FrameRecord,
 )
-    ensures { λ _. ⌜ tables list (now (records .exit)) (now (protections .exit)) ≡ commitChange board01 (tables list (now (records .entry)) (now (protections .entry))) frame next ⌝ }
+    requires { ⌜ Regular board ⌝ }
+    ensures { λ _. ⌜ tables list (now (records .exit)) (now (protections .exit)) ≡ commitChange board (tables list (now (records .entry)) (now (protections .entry))) frame next ⌝ }
 {
     put_record(records, frame, next);
-    refill(list, records, protections);
+    refill(board, list, records, protections);
 }
 
 // Answers a plan, and commits it if it is no refusal.
-fn carry_out(list: MappingList, records: &mut [u8], protections: &mut [u8], plan: Plan) -> Answer
+fn carry_out(
+    board: Board,
+    list: MappingList,
+    records: &mut [u32],
+    protections: &mut [u8],
+    plan: Plan,
+) -> Answer
+    requires { ⌜ Regular board ⌝ }
     ensures { λ r. ⌜ result (outcome r) (tables list (now (records .exit)) (now (protections .exit)))
-        ≡ stepResult board01 (tables list (now (records .entry)) (now (protections .entry))) plan ⌝ }
+        ≡ stepResult board (tables list (now (records .entry)) (now (protections .entry))) plan ⌝ }
 {
     match plan {
         Plan::Refused(number) => Answer::Refused(number),
         Plan::Step(change) => {
             let next = change.next;
             let ops = change.ops;
-            commit_change(list, records, protections, change.frame, next);
+            commit_change(board, list, records, protections, change.frame, next);
             Answer::Accepted(FrameOps {
                 frame: change.frame,
                 ops,

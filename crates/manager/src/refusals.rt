@@ -1,46 +1,55 @@
 // The causes of refusal of each call: the first that applies, or 0.
 ghost use mathlib.Core.Path.{_≡_};
-ghost use Rattle.board.specs.Board.{board01};
+ghost use Rattle.board.specs.Board.{Regular};
 ghost use Rattle.manager.specs.Tables.{tables};
 ghost use Rattle.manager.specs.Refusals.{firstRefusal, tableCauses, mapCauses, pageCauses, writeCauses, transferCauses, outOfSpace, isRight, isMapped, placeOf, mappingOf};
 ghost use Rattle.mapping.specs.Lookup.{lookup};
-use super::records::RECORD_BYTES;
+use super::records::RECORD_WORDS;
 use super::records::records_keep_rules;
+use board::Board;
 use mapping::Found;
 use mapping::Mapping;
 use mapping::MappingList;
 
 // Of what every call is lent.
-pub fn tables_refusal(list: MappingList, records: &[u8], protections: &[u8]) -> u8
-    ensures { λ r. ⌜ r ≡ firstRefusal (tableCauses board01 (tables list (now (records .entry)) (now (protections .entry)))) ⌝ }
+pub fn tables_refusal(board: Board, list: MappingList, records: &[u32], protections: &[u8]) -> u8
+    requires { ⌜ Regular board ⌝ }
+    ensures { λ r. ⌜ r ≡ firstRefusal (tableCauses board (tables list (now (records .entry)) (now (protections .entry)))) ⌝ }
 {
-    if records.len() != board::FRAMES * RECORD_BYTES {
+    if records.len() != board.frames * RECORD_WORDS {
         return 1;
     }
     if protections.len() != mapping::CAPACITY {
         return 1;
     }
-    if !mapping::keeps_rules(list) {
+    if !mapping::keeps_rules(board, list) {
         return 2;
     }
-    if !records_keep_rules(records) {
+    if !records_keep_rules(board, records) {
         return 2;
     }
     0
 }
 
 // Of `map`.
-pub fn map_refusal(list: MappingList, records: &[u8], protections: &[u8], m: Mapping) -> u8
-    ensures { λ r. ⌜ r ≡ firstRefusal (mapCauses board01 (tables list (now (records .entry)) (now (protections .entry))) (m .space) (m .page) (m .frame) (m .rights)) ⌝ }
+pub fn map_refusal(
+    board: Board,
+    list: MappingList,
+    records: &[u32],
+    protections: &[u8],
+    m: Mapping,
+) -> u8
+    requires { ⌜ Regular board ⌝ }
+    ensures { λ r. ⌜ r ≡ firstRefusal (mapCauses board (tables list (now (records .entry)) (now (protections .entry))) (m .space) (m .page) (m .frame) (m .rights)) ⌝ }
 {
-    let refusal = tables_refusal(list, records, protections);
+    let refusal = tables_refusal(board, list, records, protections);
     if refusal != 0 {
         return refusal;
     }
     if out_of_space(m.space, m.page) {
         return 3;
     }
-    if m.frame as usize >= board::FRAMES {
+    if m.frame as usize >= board.frames {
         return 4;
     }
     if !is_right(m.rights) {
@@ -57,15 +66,17 @@ pub fn map_refusal(list: MappingList, records: &[u8], protections: &[u8], m: Map
 
 // Of `unmap` and `read`.
 pub fn page_refusal(
+    board: Board,
     list: MappingList,
-    records: &[u8],
+    records: &[u32],
     protections: &[u8],
     space: u8,
     page: u16,
 ) -> u8
-    ensures { λ r. ⌜ r ≡ firstRefusal (pageCauses board01 (tables list (now (records .entry)) (now (protections .entry))) space page) ⌝ }
+    requires { ⌜ Regular board ⌝ }
+    ensures { λ r. ⌜ r ≡ firstRefusal (pageCauses board (tables list (now (records .entry)) (now (protections .entry))) space page) ⌝ }
 {
-    let refusal = tables_refusal(list, records, protections);
+    let refusal = tables_refusal(board, list, records, protections);
     if refusal != 0 {
         return refusal;
     }
@@ -80,15 +91,17 @@ pub fn page_refusal(
 
 // Of `write`.
 pub fn write_refusal(
+    board: Board,
     list: MappingList,
-    records: &[u8],
+    records: &[u32],
     protections: &[u8],
     space: u8,
     page: u16,
 ) -> u8
-    ensures { λ r. ⌜ r ≡ firstRefusal (writeCauses board01 (tables list (now (records .entry)) (now (protections .entry))) space page) ⌝ }
+    requires { ⌜ Regular board ⌝ }
+    ensures { λ r. ⌜ r ≡ firstRefusal (writeCauses board (tables list (now (records .entry)) (now (protections .entry))) space page) ⌝ }
 {
-    let refusal = page_refusal(list, records, protections, space, page);
+    let refusal = page_refusal(board, list, records, protections, space, page);
     if refusal != 0 {
         return refusal;
     }
@@ -100,14 +113,21 @@ pub fn write_refusal(
 }
 
 // Of both transfers.
-pub fn transfer_refusal(list: MappingList, records: &[u8], protections: &[u8], frame: u8) -> u8
-    ensures { λ r. ⌜ r ≡ firstRefusal (transferCauses board01 (tables list (now (records .entry)) (now (protections .entry))) frame) ⌝ }
+pub fn transfer_refusal(
+    board: Board,
+    list: MappingList,
+    records: &[u32],
+    protections: &[u8],
+    frame: u8,
+) -> u8
+    requires { ⌜ Regular board ⌝ }
+    ensures { λ r. ⌜ r ≡ firstRefusal (transferCauses board (tables list (now (records .entry)) (now (protections .entry))) frame) ⌝ }
 {
-    let refusal = tables_refusal(list, records, protections);
+    let refusal = tables_refusal(board, list, records, protections);
     if refusal != 0 {
         return refusal;
     }
-    if frame as usize >= board::FRAMES {
+    if frame as usize >= board.frames {
         return 4;
     }
     0

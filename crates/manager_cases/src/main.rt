@@ -19,7 +19,7 @@ fn main() {
 
 fn limits() {
     io::write_all(STDOUT_FILENO, b"limits\n");
-    let mut records = [0u8; 192];
+    let mut records = [0u32; 192];
     let mut protections = [9u8; 256];
     let list = map_limits(&records, &mut protections);
     page_limits(list, &mut records, &mut protections);
@@ -27,7 +27,7 @@ fn limits() {
     unmap_limits(list, &mut records, &mut protections);
 }
 
-fn map_limits(records: &[u8; 192], protections: &mut [u8; 256]) -> MappingList {
+fn map_limits(records: &[u32; 192], protections: &mut [u8; 256]) -> MappingList {
     let start = mapping::empty();
     show::map(start, records, protections, entry(16, 0, 0, 1));
     let one = show::map(start, records, protections, entry(0, 0, 0, 1));
@@ -43,7 +43,7 @@ fn map_limits(records: &[u8; 192], protections: &mut [u8; 256]) -> MappingList {
     two
 }
 
-fn page_limits(list: MappingList, records: &mut [u8; 192], protections: &mut [u8; 256]) {
+fn page_limits(list: MappingList, records: &mut [u32; 192], protections: &mut [u8; 256]) {
     show::unmap(list, records, protections, 0, 5);
     show::unmap(list, records, protections, 16, 0);
     show::read(list, records, protections, 1, 0);
@@ -53,12 +53,12 @@ fn page_limits(list: MappingList, records: &mut [u8; 192], protections: &mut [u8
     show::write(list, records, protections, 255, 1023);
 }
 
-fn frame_limits(list: MappingList, records: &mut [u8; 192], protections: &mut [u8; 256]) {
+fn frame_limits(list: MappingList, records: &mut [u32; 192], protections: &mut [u8; 256]) {
     show::device_read(list, records, protections, 64);
     show::device_write(list, records, protections, 255);
 }
 
-fn unmap_limits(list: MappingList, records: &mut [u8; 192], protections: &mut [u8; 256]) {
+fn unmap_limits(list: MappingList, records: &mut [u32; 192], protections: &mut [u8; 256]) {
     let left = show::unmap(list, records, protections, 0, 0);
     show::unmap(left, records, protections, 0, 0);
     show::write(left, records, protections, 15, 1023);
@@ -69,7 +69,7 @@ fn unmap_limits(list: MappingList, records: &mut [u8; 192], protections: &mut [u
 
 fn orders() {
     io::write_all(STDOUT_FILENO, b"orders\n");
-    let mut records = [0u8; 192];
+    let mut records = [0u32; 192];
     let mut protections = [9u8; 256];
     let start = mapping::empty();
     let one = show::map(start, &records, &mut protections, entry(0, 0, 3, 2));
@@ -80,7 +80,7 @@ fn orders() {
 }
 
 // Document 01's sheet.
-fn accesses(list: MappingList, records: &mut [u8; 192], protections: &mut [u8; 256]) {
+fn accesses(list: MappingList, records: &mut [u32; 192], protections: &mut [u8; 256]) {
     show::read(list, records, protections, 1, 9);
     show::write(list, records, protections, 0, 0);
     show::read(list, records, protections, 1, 9);
@@ -90,7 +90,7 @@ fn accesses(list: MappingList, records: &mut [u8; 192], protections: &mut [u8; 2
     show::read(list, records, protections, 1, 9);
 }
 
-fn transfers(list: MappingList, records: &mut [u8; 192], protections: &mut [u8; 256]) {
+fn transfers(list: MappingList, records: &mut [u32; 192], protections: &mut [u8; 256]) {
     show::write(list, records, protections, 0, 0);
     show::device_read(list, records, protections, 3);
     show::write(list, records, protections, 0, 0);
@@ -100,7 +100,7 @@ fn transfers(list: MappingList, records: &mut [u8; 192], protections: &mut [u8; 
 }
 
 // An unmap moves the later mappings down and leaves the record: the dirty colour is flushed by the next access.
-fn unmapped(list: MappingList, records: &mut [u8; 192], protections: &mut [u8; 256]) {
+fn unmapped(list: MappingList, records: &mut [u32; 192], protections: &mut [u8; 256]) {
     let three = show::map(list, records, protections, entry(2, 8, 3, 2));
     show::write(three, records, protections, 2, 8);
     let two = show::unmap(three, records, protections, 0, 0);
@@ -116,9 +116,9 @@ fn unmapped(list: MappingList, records: &mut [u8; 192], protections: &mut [u8; 2
 
 fn lengths() {
     io::write_all(STDOUT_FILENO, b"lengths\n");
-    let mut records = [0u8; 192];
-    let mut short_records = [0u8; 191];
-    let mut long_records = [0u8; 193];
+    let mut records = [0u32; 192];
+    let mut short_records = [0u32; 191];
+    let mut long_records = [0u32; 193];
     let mut protections = [9u8; 256];
     let mut short = [9u8; 255];
     let mut long = [9u8; 257];
@@ -162,7 +162,7 @@ fn counted(list: MappingList) {
 
 // Calls that would be accepted, and one that has another refusal besides.
 fn tried(list: MappingList) {
-    let mut records = [0u8; 192];
+    let mut records = [0u32; 192];
     let mut protections = [9u8; 256];
     show::map(list, &records, &mut protections, entry(16, 0, 0, 1));
     show::read(list, &mut records, &mut protections, 1, 9);
@@ -178,11 +178,14 @@ fn records() {
     last_record(3, 0, 1);
     last_record(0, 3, 1);
     last_record(3, 252, 0);
+    last_record(256, 0, 0);
+    last_record(0, 2147483648, 0);
+    last_record(1, 0, 257);
 }
 
 // Device reads of frames 63 and 64 with this record of frame 63.
-fn last_record(held: u8, stale: u8, dirty: u8) {
-    let mut records = [0u8; 192];
+fn last_record(held: u32, stale: u32, dirty: u32) {
+    let mut records = [0u32; 192];
     let mut protections = [9u8; 256];
     records[189] = held;
     records[190] = stale;
@@ -195,7 +198,7 @@ fn last_record(held: u8, stale: u8, dirty: u8) {
 
 fn full() {
     io::write_all(STDOUT_FILENO, b"full\n");
-    let records = [0u8; 192];
+    let records = [0u32; 192];
     let mut protections = [9u8; 256];
     let almost = pages(255);
     let all = show::map(almost, &records, &mut protections, entry(0, 255, 63, 2));

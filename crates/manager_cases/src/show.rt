@@ -17,7 +17,7 @@ pub fn entry(space: u8, page: u16, frame: u8, rights: u8) -> Mapping {
 }
 
 // Maps a page, and hands back the list.
-pub fn map(list: MappingList, records: &[u8], protections: &mut [u8], m: Mapping) -> MappingList {
+pub fn map(list: MappingList, records: &[u32], protections: &mut [u8], m: Mapping) -> MappingList {
     let listed = manager::map(list, records, protections, m);
     let answer = listed.answer;
     let next = listed.list;
@@ -29,7 +29,7 @@ pub fn map(list: MappingList, records: &[u8], protections: &mut [u8], m: Mapping
 // Unmaps a page, and hands back the list.
 pub fn unmap(
     list: MappingList,
-    records: &[u8],
+    records: &[u32],
     protections: &mut [u8],
     space: u8,
     page: u16,
@@ -43,28 +43,28 @@ pub fn unmap(
 }
 
 // The processor reads a page.
-pub fn read(list: MappingList, records: &mut [u8], protections: &mut [u8], space: u8, page: u16) {
+pub fn read(list: MappingList, records: &mut [u32], protections: &mut [u8], space: u8, page: u16) {
     let answer = manager::read(list, records, protections, space, page);
     io::write_all(STDOUT_FILENO, b"read ");
     line(answer, protections);
 }
 
 // The processor writes a page.
-pub fn write(list: MappingList, records: &mut [u8], protections: &mut [u8], space: u8, page: u16) {
+pub fn write(list: MappingList, records: &mut [u32], protections: &mut [u8], space: u8, page: u16) {
     let answer = manager::write(list, records, protections, space, page);
     io::write_all(STDOUT_FILENO, b"write ");
     line(answer, protections);
 }
 
 // A device reads a frame.
-pub fn device_read(list: MappingList, records: &mut [u8], protections: &mut [u8], frame: u8) {
+pub fn device_read(list: MappingList, records: &mut [u32], protections: &mut [u8], frame: u8) {
     let answer = manager::device_read(list, records, protections, frame);
     io::write_all(STDOUT_FILENO, b"device read ");
     line(answer, protections);
 }
 
 // A device writes a frame.
-pub fn device_write(list: MappingList, records: &mut [u8], protections: &mut [u8], frame: u8) {
+pub fn device_write(list: MappingList, records: &mut [u32], protections: &mut [u8], frame: u8) {
     let answer = manager::device_write(list, records, protections, frame);
     io::write_all(STDOUT_FILENO, b"device write ");
     line(answer, protections);

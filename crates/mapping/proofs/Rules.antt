@@ -9,7 +9,7 @@ use lib.Dec.{ltb}
 use lib.ListN.{length, List·getD-eq-default}
 use borrow.Author.Tests.{not-true, leb-true, le-leb, lt-ltb, le-ltb}
 use Rattle.bits.proofs.Mask.{all-at, all-of}
-use Rattle.board.specs.Board.{Board}
+use Rattle.board.specs.declared.Board.{Board}
 use Rattle.mapping.specs.declared.Mapping.{Mapping}
 use Rattle.mapping.specs.declared.MappingList.{MappingList}
 use Rattle.mapping.specs.Entry.{zeroMapping, isZero, mappingAt}

@@ -3,7 +3,7 @@ use mathlib.Core.Path.{_≡_}
 use mathlib.Core.Option.{none}
 use Prim.Native.Nat.{ℕ}
 use native.Mathlib.Omega.{arith}
-use Rattle.board.specs.Board.{Board}
+use Rattle.board.specs.declared.Board.{Board}
 use Rattle.mapping.specs.Lookup.{mappingOf}
 use Rattle.mapping.specs.Change.{empty}
 use Rattle.mapping.specs.Facts.{Rules}

@@ -3,7 +3,8 @@ use mathlib.Core.Bool.{Bool, _&&_, _||_}
 use Prim.Native.Nat.{ℕ}
 use lib.Dec.{eqb, ltb}
 use lib.ListN.{getD}
-use Rattle.board.specs.Board.{Board, spaces, pages}
+use Rattle.board.specs.declared.Board.{Board}
+use Rattle.board.specs.Board.{spaces, pages}
 use Rattle.mapping.specs.declared.Mapping.{Mapping}
 use Rattle.mapping.specs.declared.MappingList.{MappingList}
 

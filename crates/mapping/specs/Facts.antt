@@ -3,7 +3,8 @@ use mathlib.Core.Path.{_≡_}
 use mathlib.Core.Logic.{_⊎_}
 use Prim.Native.Nat.{ℕ, _≤_, _<_}
 use lib.ListN.{length}
-use Rattle.board.specs.Board.{Board, spaces, pages}
+use Rattle.board.specs.declared.Board.{Board}
+use Rattle.board.specs.Board.{spaces, pages}
 use Rattle.mapping.specs.declared.Mapping.{Mapping}
 use Rattle.mapping.specs.declared.MappingList.{MappingList}
 use Rattle.mapping.specs.Entry.{capacity, readOnly, readWrite, zeroMapping, mappingAt}

@@ -3,11 +3,11 @@ pub mod lent;
 
 ghost use mathlib.Core.Path.{_≡_};
 ghost use Prim.Native.Nat.{_≤_};
-ghost use Rattle.board.specs.Board.{board01};
 ghost use Rattle.mapping.specs.Entry.{capacity, zeroMapping, inRange, isZero, isAt, mappingAt};
 ghost use Rattle.mapping.specs.Rules.{allInRange, noDoubles, restZero, keepsRules};
 ghost use Rattle.mapping.specs.Lookup.{lookup};
 ghost use Rattle.mapping.specs.Change.{empty, append, remove};
+use board::Board;
 
 // How many records the list has.
 pub const CAPACITY: usize = 256;
@@ -66,8 +66,8 @@ impl Mapping {
     }
 
     // Whether space, page, frame and rights lie in their ranges.
-    pub fn in_range(self) -> bool
-        ensures { λ r. ⌜ r ≡ inRange board01 self ⌝ }
+    pub fn in_range(self, board: Board) -> bool
+        ensures { λ r. ⌜ r ≡ inRange board self ⌝ }
     {
         if self.space as usize >= board::SPACES {
             return false;
@@ -75,7 +75,7 @@ impl Mapping {
         if self.page as usize >= board::PAGES {
             return false;
         }
-        if self.frame as usize >= board::FRAMES {
+        if self.frame as usize >= board.frames {
             return false;
         }
         self.rights == READ_ONLY || self.rights == READ_WRITE
@@ -90,13 +90,13 @@ impl Mapping {
 }
 
 // Whether the list keeps its rules, whatever it holds.
-pub fn keeps_rules(list: MappingList) -> bool
-    ensures { λ r. ⌜ r ≡ keepsRules board01 list ⌝ }
+pub fn keeps_rules(board: Board, list: MappingList) -> bool
+    ensures { λ r. ⌜ r ≡ keepsRules board list ⌝ }
 {
     if list.count > CAPACITY {
         return false;
     }
-    if !all_in_range(list) {
+    if !all_in_range(board, list) {
         return false;
     }
     if !no_doubles(list) {
@@ -184,14 +184,14 @@ pub fn remove(list: MappingList, i: usize) -> MappingList
 }
 
 // Whether every listed mapping is in range.
-fn all_in_range(list: MappingList) -> bool
+fn all_in_range(board: Board, list: MappingList) -> bool
     requires { ⌜ list .count ≤ capacity ⌝ }
-    ensures { λ r. ⌜ r ≡ allInRange board01 list ⌝ }
+    ensures { λ r. ⌜ r ≡ allInRange board list ⌝ }
 {
     let mut i = 0;
     while i < list.count {
         let m = list.items[i];
-        if !m.in_range() {
+        if !m.in_range(board) {
             return false;
         }
         i += 1;

@@ -6,9 +6,9 @@ use native.Mathlib.Omega.{arith}
 use borrow.Author.Tests.{ltb-true, lt-ltb, leb-true, le-leb, eqb-true}
 use lib.Bits.{bitAnd}
 use lib.Count.{ones, trailingZeros}
-use lib.Dec.{eqb, leb}
+use lib.Dec.{eqb, leb, ltb}
 use Rattle.bits.specs.Mask.{bit, digit, countOf}
-use Rattle.bits.proofs.Mask.{all-at, all-of, ones-bits, only-bit, bit-one, digit-eqb, disjoint-all}
+use Rattle.bits.proofs.Mask.{all-at, all-of, ones-bits, only-bit, only-bit-wide, bit-one, digit-eqb, disjoint-all}
 use Rattle.bits.proofs.Tautology.{and-left, and-right}
 use Rattle.page_model.specs.declared.FrameRecord.{FrameRecord}
 use Rattle.page_model.specs.Record.{keepsRules}
@@ -59,11 +59,16 @@ or-false-left true b z e = absurd (false≢true (sym z))
 or-false-left false b z e = e
 
 module _ (n : ℕ) (r : FrameRecord) (k : Keeps n r) where
+  one-bit : flag r ≡ true → ones (r .held) ≡ 1
+  one-bit z = ones-bits n (r .held) (k .held-lt) ∙ eqb-true _ _ (or-false-left (not (flag r)) _ (ap not z) (k .one-held))
+
   -- with the flag set, the held mask is one bit, whose place the trailing zeros are
   pub dirty-only : flag r ≡ true → (trailingZeros n (r .held) < n) × (r .held ≡ 2 ^ trailingZeros n (r .held))
-  dirty-only z =
-      only-bit n (r .held) (k .held-lt)
-      (ones-bits n (r .held) (k .held-lt) ∙ eqb-true _ _ (or-false-left (not (flag r)) _ (ap not z) (k .one-held)))
+  dirty-only z = only-bit n (r .held) (k .held-lt) (one-bit z)
+
+  -- at any greater width too
+  pub dirty-wide : (w : ℕ) → n ≤ w → flag r ≡ true → trailingZeros w (r .held) ≡ trailingZeros n (r .held)
+  dirty-wide w few z = only-bit-wide n w (r .held) few (k .held-lt) (one-bit z)
 
   -- so the dirty colour is the one held
   pub dirty-at : (j : ℕ) → (flag r && bit (r .held) j) ≡ (flag r && eqb (trailingZeros n (r .held)) j)
@@ -72,3 +77,12 @@ module _ (n : ℕ) (r : FrameRecord) (k : Keeps n r) where
       go : (b : Bool) → flag r ≡ b → (b && bit (r .held) j) ≡ (b && eqb (trailingZeros n (r .held)) j)
       go true z = ap (λ (m : ℕ). bit m j) (dirty-only z .1) ∙ bit-one _ j
       go false z = refl
+
+-- a mask that passes the colours breaks the rules
+pub held-past : (n : ℕ) (r : FrameRecord) → ltb (r .held) (2 ^ n) ≡ false → keepsRules n r ≡ false
+unfolding keepsRules
+held-past n r e = rw e
+
+pub stale-past : (n : ℕ) (r : FrameRecord) → ltb (r .held) (2 ^ n) ≡ true → ltb (r .stale) (2 ^ n) ≡ false → keepsRules n r ≡ false
+unfolding keepsRules
+stale-past n r e d = rw (e, d)

@@ -4,9 +4,8 @@ ghost use mathlib.Core.Bool.{true, cond};
 ghost use mathlib.Core.List.{_++_};
 ghost use lib.Count.{trailingZeros};
 ghost use lib.Dec.{eqb};
-ghost use Rattle.bits.specs.Mask.{bit};
-ghost use Prim.Native.Nat.{_<_};
-ghost use Rattle.board.specs.Board.{board01};
+ghost use Rattle.bits.specs.Mask.{width, bit};
+ghost use Prim.Native.Nat.{ℕ, _≤_, _<_};
 ghost use Rattle.page_model.specs.Record.{keepsRules, stateOf, isHeld, isDirty};
 ghost use Rattle.page_model.specs.Step.{stepped, steppedTo, firstTwo, opList};
 ghost use Rattle.page_model.specs.Table.{read, write, deviceRead, deviceWrite};
@@ -26,9 +25,9 @@ pub struct Ops {
 
 // What is known of a frame in the cache: bit c of a mask stands for colour c, and dirty is 0 or 1.
 pub struct FrameRecord {
-    pub held: u8,
-    pub stale: u8,
-    pub dirty: u8,
+    pub held: u32,
+    pub stale: u32,
+    pub dirty: u32,
 }
 
 // The record after a step, and the operations that come first.
@@ -39,22 +38,29 @@ pub struct Stepped {
 
 impl FrameRecord {
     // Whether the record keeps the rules: no bit in both masks, the flag 0 or 1, and with the flag set exactly one held bit.
-    pub fn keeps_rules(self) -> bool
-        ensures { λ r. ⌜ r ≡ keepsRules (board01 .colours) self ⌝ }
+    pub fn keeps_rules(self, colours: usize) -> bool
+        requires { ⌜ colours ≤ width ⌝ }
+        ensures { λ r. ⌜ r ≡ keepsRules colours self ⌝ }
     {
+        if !bits::within(self.held, colours) {
+            return false;
+        }
+        if !bits::within(self.stale, colours) {
+            return false;
+        }
         if self.held & self.stale != 0 {
             return false;
         }
         if self.dirty == 0 {
             return true;
         }
-        self.dirty == 1 && u8::count_ones(self.held) == 1
+        self.dirty == 1 && u32::count_ones(self.held) == 1
     }
 
     // The processor reads through a colour.
     pub fn read(self, colour: usize) -> Stepped
-        requires { ⌜ (keepsRules (board01 .colours) self ≡ true) × (colour < board01 .colours) ⌝ }
-        ensures { λ r. ⌜ r ≡ stepped (board01 .colours) (read colour) self ⌝ }
+        requires { ⌜ colour < width ⌝ }
+        ensures { λ r. ⌜ ((n : ℕ) → n ≤ width → colour < n → keepsRules n self ≡ true → r ≡ stepped n (read colour) self) ⌝ }
     {
         if bits::bit(self.held, colour) {
             return self.unchanged();
@@ -68,8 +74,8 @@ impl FrameRecord {
 
     // The processor writes through a colour.
     pub fn write(self, colour: usize) -> Stepped
-        requires { ⌜ (keepsRules (board01 .colours) self ≡ true) × (colour < board01 .colours) ⌝ }
-        ensures { λ r. ⌜ r ≡ stepped (board01 .colours) (write colour) self ⌝ }
+        requires { ⌜ colour < width ⌝ }
+        ensures { λ r. ⌜ ((n : ℕ) → n ≤ width → colour < n → keepsRules n self ≡ true → r ≡ stepped n (write colour) self) ⌝ }
     {
         if self.holds_dirty(colour) {
             return self.unchanged();
@@ -83,8 +89,7 @@ impl FrameRecord {
 
     // A device reads the frame's page from memory.
     pub fn device_read(self) -> Stepped
-        requires { ⌜ keepsRules (board01 .colours) self ≡ true ⌝ }
-        ensures { λ r. ⌜ r ≡ stepped (board01 .colours) deviceRead self ⌝ }
+        ensures { λ r. ⌜ ((n : ℕ) → n ≤ width → keepsRules n self ≡ true → r ≡ stepped n deviceRead self) ⌝ }
     {
         let colour = self.dirty_colour();
         let flush = self.if_dirty(Op::Flush(colour));
@@ -93,8 +98,7 @@ impl FrameRecord {
 
     // A device writes the frame's page in memory.
     pub fn device_write(self) -> Stepped
-        requires { ⌜ keepsRules (board01 .colours) self ≡ true ⌝ }
-        ensures { λ r. ⌜ r ≡ stepped (board01 .colours) deviceWrite self ⌝ }
+        ensures { λ r. ⌜ ((n : ℕ) → n ≤ width → keepsRules n self ≡ true → r ≡ stepped n deviceWrite self) ⌝ }
     {
         let colour = self.dirty_colour();
         let purge = self.if_dirty(Op::Purge(colour));
@@ -103,7 +107,7 @@ impl FrameRecord {
 
     // Whether a colour is present or dirty, in any record.
     pub fn holds(self, colour: usize) -> bool
-        requires { ⌜ colour < board01 .colours ⌝ }
+        requires { ⌜ colour < width ⌝ }
         ensures { λ r. ⌜ r ≡ isHeld (stateOf self colour) ⌝ }
     {
         if bits::bit(self.stale, colour) {
@@ -114,7 +118,7 @@ impl FrameRecord {
 
     // Whether a colour is dirty, in any record.
     pub fn holds_dirty(self, colour: usize) -> bool
-        requires { ⌜ colour < board01 .colours ⌝ }
+        requires { ⌜ colour < width ⌝ }
         ensures { λ r. ⌜ r ≡ isDirty (stateOf self colour) ⌝ }
     {
         if self.dirty == 1 {
@@ -132,7 +136,7 @@ impl FrameRecord {
     }
 
     // The colours that are present: those held, unless the one held is dirty.
-    fn present(self) -> u8
+    fn present(self) -> u32
         ensures { λ r. ⌜ r ≡ cond (eqb (self .dirty) 1) 0 (self .held) ⌝ }
     {
         if self.dirty == 1 { 0 } else { self.held }
@@ -140,9 +144,9 @@ impl FrameRecord {
 
     // The dirty colour: the only one held. Means nothing unless a colour is dirty.
     fn dirty_colour(self) -> usize
-        ensures { λ r. ⌜ r ≡ trailingZeros (board01 .colours) (self .held) ⌝ }
+        ensures { λ r. ⌜ r ≡ trailingZeros width (self .held) ⌝ }
     {
-        u8::trailing_zeros(self.held) as usize
+        u32::trailing_zeros(self.held) as usize
     }
 
     // An operation on the dirty colour, if there is one.
@@ -154,7 +158,7 @@ impl FrameRecord {
 
     // The purge of a colour, if it is stale.
     fn purge_stale(self, colour: usize) -> Op
-        requires { ⌜ colour < board01 .colours ⌝ }
+        requires { ⌜ colour < width ⌝ }
         ensures { λ r. ⌜ r ≡ cond (bit (self .stale) colour) (Op.Purge colour) Op.None ⌝ }
     {
         if bits::bit(self.stale, colour) {
@@ -167,7 +171,7 @@ impl FrameRecord {
 
 impl Stepped {
     // The record of two masks and a flag, after at most a flush and a purge.
-    fn to(held: u8, stale: u8, dirty: u8, flush: Op, purge: Op) -> Stepped
+    fn to(held: u32, stale: u32, dirty: u32, flush: Op, purge: Op) -> Stepped
         ensures { λ r. ⌜ r ≡ steppedTo held stale dirty flush purge ⌝ }
     {
         let ops = first_two(flush, purge);

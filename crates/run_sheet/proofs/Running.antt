@@ -8,7 +8,8 @@ use native.Mathlib.Numerals.{add-one}
 use native.Mathlib.Omega.{arith}
 use lib.ListN.{length, replicate}
 use borrow.Author.Tests.{lt-ltb, le-ltb}
-use Rattle.board.specs.Board.{Board, board01, memoryWords, cacheWords, lines}
+use Rattle.board.specs.declared.Board.{Board}
+use Rattle.board.specs.Board.{board01, memoryWords, cacheWords, lines}
 use Rattle.mapping.specs.Change.{empty}
 use Rattle.mapping.specs.declared.MappingList.{MappingList}
 use Rattle.manager.specs.Answers.{Outcome, numberOf}

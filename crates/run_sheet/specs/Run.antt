@@ -4,10 +4,11 @@ use mathlib.Core.List.{List, [], _++_}
 use Prim.Native.Nat.{ℕ, zero, suc, _+_, _*_}
 use lib.Dec.{ltb}
 use lib.ListN.{replicate}
-use Rattle.board.specs.Board.{Board, board01, memoryWords, cacheWords, lines}
+use Rattle.board.specs.declared.Board.{Board}
+use Rattle.board.specs.Board.{board01, memoryWords, cacheWords, lines}
 use Rattle.mapping.specs.Change.{empty}
 use Rattle.mapping.specs.Entry.{capacity}
-use Rattle.manager.specs.Tables.{tables, recordBytes}
+use Rattle.manager.specs.Tables.{tables, recordWords}
 use Rattle.cache.specs.Store.{store}
 use Rattle.machine.specs.State.{State, state, Call, Answer, Result}
 use Rattle.machine.specs.Step.{step}
@@ -27,7 +28,7 @@ pub record Run : Type 0 where
 unfoldable pub start : Board → State
 unfolding memoryWords cacheWords lines empty
 start b =
-    state (tables empty (replicate (b .frames * recordBytes) 0) (replicate capacity 0))
+    state (tables empty (replicate (b .frames * recordWords) 0) (replicate capacity 0))
     (store (replicate (memoryWords b) 0) (replicate (cacheWords b) 0) (replicate (lines b) 0))
 
 -- nothing called yet

@@ -25,7 +25,7 @@ pub fn run_unbroken(sheet: &[u8], text: &mut [u8]) -> usize
     let mappings = format::mapping_count(sheet);
     let steps = format::step_count(sheet, mappings);
     let list = mapping::empty();
-    let mut records = [0u8; 192];
+    let mut records = [0u32; 192];
     let mut protections = [0u8; 256];
     let mut memory = [0u32; 4096];
     let mut words = [0u32; 512];
@@ -48,7 +48,7 @@ pub fn run_unbroken(sheet: &[u8], text: &mut [u8]) -> usize
 // The first mappings of the sheet, and then its first steps.
 fn run_calls(
     list: MappingList,
-    records: &mut [u8],
+    records: &mut [u32],
     protections: &mut [u8],
     memory: &mut [u32],
     words: &mut [u32],
@@ -100,7 +100,7 @@ fn run_calls(
 // The first count mappings of the sheet.
 fn run_mappings(
     list: MappingList,
-    records: &[u8],
+    records: &[u32],
     protections: &mut [u8],
     memory: &[u32],
     words: &[u32],
@@ -148,7 +148,7 @@ fn run_mappings(
 // Mapping k of the sheet.
 fn map_one(
     list: MappingList,
-    records: &[u8],
+    records: &[u32],
     protections: &mut [u8],
     memory: &[u32],
     words: &[u32],
@@ -180,7 +180,7 @@ fn map_one(
 // The first count steps of the sheet, which start at first.
 fn run_steps(
     list: MappingList,
-    records: &mut [u8],
+    records: &mut [u32],
     protections: &mut [u8],
     memory: &mut [u32],
     words: &mut [u32],
@@ -230,7 +230,7 @@ fn run_steps(
 // Step k of the sheet, where the steps start at first.
 fn step_one(
     list: MappingList,
-    records: &mut [u8],
+    records: &mut [u32],
     protections: &mut [u8],
     memory: &mut [u32],
     words: &mut [u32],

@@ -24,7 +24,7 @@ ghost use Rattle.sheet_codec.specs.Text.{shownWord, firstWord};
 // The step of these fields.
 pub fn step(
     list: MappingList,
-    records: &mut [u8],
+    records: &mut [u32],
     protections: &mut [u8],
     memory: &mut [u32],
     words: &mut [u32],
@@ -48,7 +48,7 @@ pub fn step(
 // The processor reads.
 fn read(
     list: MappingList,
-    records: &mut [u8],
+    records: &mut [u32],
     protections: &mut [u8],
     memory: &mut [u32],
     words: &mut [u32],
@@ -74,7 +74,7 @@ fn read(
 // The processor writes.
 fn write(
     list: MappingList,
-    records: &mut [u8],
+    records: &mut [u32],
     protections: &mut [u8],
     memory: &mut [u32],
     words: &mut [u32],
@@ -105,14 +105,14 @@ fn write(
 // A device reads a frame, into a buffer of zeros; its first word is shown.
 fn device_read(
     list: MappingList,
-    records: &mut [u8],
+    records: &mut [u32],
     protections: &mut [u8],
     memory: &mut [u32],
     words: &[u32],
     tags: &mut [u8],
     f: Fields,
 ) -> Made
-    ensures { λ r. ⌜ Did (machineOf list (now (records .entry)) (now (protections .entry)) (now (memory .entry)) (now (words .entry)) (now (tags .entry))) (call.deviceRead (f .s) (replicate (board01 .pageWords) 0)) (machineOf (r .list) (now (records .exit)) (now (protections .exit)) (now (memory .exit)) (now (words .entry)) (now (tags .exit))) (outcome (r .answer)) (shownWord (r .shown)) ⌝ }
+    ensures { λ r. ⌜ Did (machineOf list (now (records .entry)) (now (protections .entry)) (now (memory .entry)) (now (words .entry)) (now (tags .entry))) (call.deviceRead (f .s) (replicate (board01 .page) 0)) (machineOf (r .list) (now (records .exit)) (now (protections .exit)) (now (memory .exit)) (now (words .entry)) (now (tags .exit))) (outcome (r .answer)) (shownWord (r .shown)) ⌝ }
 {
     let mut buffer = [0u32; 64];
     let answer = machine::device_read(
@@ -136,14 +136,14 @@ fn device_read(
 // A device writes a frame: w, w + 1 and so on.
 fn device_write(
     list: MappingList,
-    records: &mut [u8],
+    records: &mut [u32],
     protections: &mut [u8],
     memory: &mut [u32],
     words: &[u32],
     tags: &mut [u8],
     f: Fields,
 ) -> Made
-    ensures { λ r. ⌜ Did (machineOf list (now (records .entry)) (now (protections .entry)) (now (memory .entry)) (now (words .entry)) (now (tags .entry))) (call.deviceWrite (f .s) (tabulate (board01 .pageWords) (sentWord (f .w)))) (machineOf (r .list) (now (records .exit)) (now (protections .exit)) (now (memory .exit)) (now (words .entry)) (now (tags .exit))) (outcome (r .answer)) (shownWord (r .shown)) ⌝ }
+    ensures { λ r. ⌜ Did (machineOf list (now (records .entry)) (now (protections .entry)) (now (memory .entry)) (now (words .entry)) (now (tags .entry))) (call.deviceWrite (f .s) (tabulate (board01 .page) (sentWord (f .w)))) (machineOf (r .list) (now (records .exit)) (now (protections .exit)) (now (memory .exit)) (now (words .entry)) (now (tags .exit))) (outcome (r .answer)) (shownWord (r .shown)) ⌝ }
 {
     let mut buffer = [0u32; 64];
     count_up(&mut buffer, f.w);
@@ -167,7 +167,7 @@ fn device_write(
 // A line is evicted.
 fn evict(
     list: MappingList,
-    records: &[u8],
+    records: &[u32],
     protections: &mut [u8],
     memory: &mut [u32],
     words: &[u32],
@@ -195,7 +195,7 @@ fn evict(
 // A page loses its frame.
 fn unmap(
     list: MappingList,
-    records: &[u8],
+    records: &[u32],
     protections: &mut [u8],
     memory: &[u32],
     words: &[u32],
@@ -244,8 +244,8 @@ fn first_word(answer: Answer, word: u32) -> Shown
 
 // The words w, w + 1 and so on, modulo 2^32.
 fn count_up(buffer: &mut [u32], w: u32)
-    requires { ⌜ length (now buffer) ≡ board01 .pageWords ⌝ }
-    ensures { λ _. ⌜ now (buffer .exit) ≡ tabulate (board01 .pageWords) (sentWord w) ⌝ }
+    requires { ⌜ length (now buffer) ≡ board01 .page ⌝ }
+    ensures { λ _. ⌜ now (buffer .exit) ≡ tabulate (board01 .page) (sentWord w) ⌝ }
 {
     let mut i = 0;
     while i < buffer.len() {

@@ -5,7 +5,7 @@ use Prim.Native.Nat.{ℕ, _+_, _*_, _%_, _^_}
 use lib.Dec.{eqb, ltb}
 use lib.ListN.{length, getD, replicate}
 use Rattle.bits.specs.Mask.{all}
-use Rattle.board.specs.Board.{Board}
+use Rattle.board.specs.declared.Board.{Board}
 use Rattle.manager.specs.Tables.{tabulate}
 use Rattle.machine.specs.State as call
 use Rattle.machine.specs.State.{Call}
@@ -116,8 +116,8 @@ sentWord w k = (w + k) % 2 ^ 32
 abbrev pub callOf : Board → Kind → Fields → Call
 callOf b Read f = call.read (f .s) (f .p) (f .o)
 callOf b Write f = call.write (f .s) (f .p) (f .o) (f .w)
-callOf b DeviceRead f = call.deviceRead (f .s) (replicate (b .pageWords) 0)
-callOf b DeviceWrite f = call.deviceWrite (f .s) (tabulate (b .pageWords) (sentWord (f .w)))
+callOf b DeviceRead f = call.deviceRead (f .s) (replicate (b .page) 0)
+callOf b DeviceWrite f = call.deviceWrite (f .s) (tabulate (b .page) (sentWord (f .w)))
 callOf b Evict f = call.evict (f .s)
 callOf b Unmap f = call.unmap (f .s) (f .p)
 callOf b Other f = call.unmap (f .s) (f .p)

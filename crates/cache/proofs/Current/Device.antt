@@ -4,14 +4,15 @@ use mathlib.Core.Logic.{_≢_}
 use mathlib.Core.List.{List}
 use Prim.Native.Nat.{ℕ, _<_}
 use lib.ListN.{length, getD}
-use Rattle.board.specs.Board.{Board, Regular, lineOf, cacheAt}
+use Rattle.board.specs.declared.Board.{Board}
+use Rattle.board.specs.Board.{Regular, lineOf, cacheAt}
 use Rattle.cache.specs.Store.{Store, WellFormed, tagAt}
 use Rattle.cache.specs.Tag.{dirtyTag}
 use Rattle.cache.specs.Cache.{deviceWrite}
 use Rattle.cache.specs.Current.{Current}
 use Rattle.cache.proofs.Laws.Device.{deviceWrite-tags, deviceWrite-words, deviceWrite-memory-same, deviceWrite-memory-other}
 
-module _ (b : Board) (reg : Regular b) (g : ℕ) (hg : g < b .frames) (buffer : List ℕ) (full : length buffer ≡ b .pageWords) (s : Store) (wf : WellFormed b s) where
+module _ (b : Board) (reg : Regular b) (g : ℕ) (hg : g < b .frames) (buffer : List ℕ) (full : length buffer ≡ b .page) (s : Store) (wf : WellFormed b s) where
   -- it loses none of another frame
   pub device-current-other : (f : ℕ) (current : ℕ → ℕ) → f ≢ g → Current b f current s → Current b f current (deviceWrite b g buffer s)
   device-current-other f current ne was =
@@ -26,7 +27,7 @@ module _ (b : Board) (reg : Regular b) (g : ℕ) (hg : g < b .frames) (buffer : 
       tag c o = ap (λ (l : List ℕ). getD l (lineOf b c o) 0) (deviceWrite-tags b reg g hg s wf buffer full)
 
   -- its own frame's words are the buffer's, if no line of it is dirty
-  pub device-current-same : ((c o : ℕ) → c < b .colours → o < b .pageWords → tagAt s (lineOf b c o) ≡ dirtyTag g → ⊥) → Current b g (λ o. getD buffer o 0) (deviceWrite b g buffer s)
+  pub device-current-same : ((c o : ℕ) → c < b .colours → o < b .page → tagAt s (lineOf b c o) ≡ dirtyTag g → ⊥) → Current b g (λ o. getD buffer o 0) (deviceWrite b g buffer s)
   device-current-same clean =
       record {
         in-line = λ c o hc ho dirty.

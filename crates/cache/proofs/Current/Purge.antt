@@ -5,7 +5,8 @@ use mathlib.Core.List.{List}
 use Prim.Native.Nat.{ℕ, _<_}
 use native.Mathlib.Decide.{ℕ-discrete}
 use lib.ListN.{getD}
-use Rattle.board.specs.Board.{Board, Regular, lineOf, cacheAt, memoryAt}
+use Rattle.board.specs.declared.Board.{Board}
+use Rattle.board.specs.Board.{Regular, lineOf, cacheAt, memoryAt}
 use Rattle.board.proofs.Geometry.{lineOf-lt, lineOf-colour}
 use Rattle.cache.specs.Store.{Store, WellFormed, tagAt}
 use Rattle.cache.specs.Tag.{dirtyTag, names}
@@ -17,7 +18,7 @@ use Rattle.cache.proofs.Laws.Orders.{purge-tag-left, purge-tag-other, p
 
 module _ (b : Board) (reg : Regular b) (g c : ℕ) (hg : g < b .frames) (hc : c < b .colours) (f : ℕ) (current : ℕ → ℕ) (s : Store) (wf : WellFormed b s) (was : Current b f current s) where
   -- it loses none of f, unless f is g and has a dirty line in colour c
-  pub purge-current : ((o : ℕ) → o < b .pageWords → f ≡ g → tagAt s (lineOf b c o) ≡ dirtyTag f → ⊥) → Current b f current (purge b g c s)
+  pub purge-current : ((o : ℕ) → o < b .page → f ≡ g → tagAt s (lineOf b c o) ≡ dirtyTag f → ⊥) → Current b f current (purge b g c s)
   purge-current spared =
       record {
         in-line = λ d p hd hp dirty.
@@ -28,7 +29,7 @@ module _ (b : Board) (reg : Regular b) (g c : ℕ) (hg : g < b .frames) (hc : c 
             ∙ was .in-memory o ho (λ d hd dirty. none d hd (stays d o ho dirty (ℕ-discrete d c) (names (tagAt s (lineOf b d o)) g) refl ∙ dirty));
       }
     where
-      stays : (d o : ℕ) → o < b .pageWords → tagAt s (lineOf b d o) ≡ dirtyTag f → Dec (d ≡ c) → (t : Bool) → names (tagAt s (lineOf b d o)) g ≡ t → tagAt (purge b g c s) (lineOf b d o) ≡ tagAt s (lineOf b d o)
+      stays : (d o : ℕ) → o < b .page → tagAt s (lineOf b d o) ≡ dirtyTag f → Dec (d ≡ c) → (t : Bool) → names (tagAt s (lineOf b d o)) g ≡ t → tagAt (purge b g c s) (lineOf b d o) ≡ tagAt s (lineOf b d o)
       stays d o ho dirty (no ne) t q = purge-tag-other b reg g c hc s wf (lineOf b d o) (λ e. ne (sym (lineOf-colour b reg d o ho) ∙ e))
       stays d o ho dirty (yes e) false q = purge-tag-left b reg g c hc s wf (lineOf b d o) q
       stays d o ho dirty (yes e) true q =

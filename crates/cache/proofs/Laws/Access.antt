@@ -7,7 +7,8 @@ use Prim.Native.Nat.{ℕ, _<_}
 use native.Mathlib.Omega.{arith}
 use lib.ListN.{getD, length-set}
 use lib.Seq.{getD-set-same, getD-set-other}
-use Rattle.board.specs.Board.{Board, Regular, lines, lineOf, cacheAt, memoryAt}
+use Rattle.board.specs.declared.Board.{Board}
+use Rattle.board.specs.Board.{Regular, lines, lineOf, cacheAt, memoryAt}
 use Rattle.board.proofs.Geometry.{lineOf-lt, lineOf-colour, cacheAt-lt, cacheAt-line-inj, cacheAt-offset-inj}
 use Rattle.cache.specs.Store.{Store, WellFormed, tagAt, wordAt, memoryWord}
 use Rattle.cache.specs.Tag.{cleanTag, dirtyTag, names}
@@ -31,7 +32,7 @@ module _ (b : Board) (reg : Regular b) (s : Store) (wf : WellFormed b s) (f n : 
   unfolding replace
   replace-tag-other m ne = fill-tag-other b reg (writeBack b n s) (writeBack-kept b reg s wf n hn) f n hf hn m ne ∙ ap (λ (l : List ℕ). getD l m 0) (writeBack-tags b reg s wf n)
 
-  pub replace-word-same : (c o : ℕ) → o < b .pageWords → lineOf b c o ≡ n → tagAt s n ≢ dirtyTag f → wordAt b (replace b f n s) c o ≡ memoryWord b s f o
+  pub replace-word-same : (c o : ℕ) → o < b .page → lineOf b c o ≡ n → tagAt s n ≢ dirtyTag f → wordAt b (replace b f n s) c o ≡ memoryWord b s f o
   unfolding replace
   replace-word-same c o ho e ne =
       fill-word-same b reg (writeBack b n s) (writeBack-kept b reg s wf n hn) f n hf hn c o ho e
@@ -49,7 +50,7 @@ module _ (b : Board) (reg : Regular b) (s : Store) (wf : WellFormed b s) (f n : 
 
 -- ---- access, to offset o of frame f through colour c
 
-module _ (b : Board) (reg : Regular b) (f c o : ℕ) (hf : f < b .frames) (hc : c < b .colours) (ho : o < b .pageWords) (s : Store) (wf : WellFormed b s) where
+module _ (b : Board) (reg : Regular b) (f c o : ℕ) (hf : f < b .frames) (hc : c < b .colours) (ho : o < b .page) (s : Store) (wf : WellFormed b s) where
   hn : lineOf b c o < lines b
   hn = lineOf-lt b reg c o hc ho
 
@@ -87,19 +88,19 @@ module _ (b : Board) (reg : Regular b) (f c o : ℕ) (hf : f < b .frames) (hc : 
   pub access-tag-other : (m : ℕ) → m ≢ lineOf b c o → tagAt (access b f c o s) m ≡ tagAt s m
   access-tag-other m ne = access-cases (λ t. tagAt t m ≡ tagAt s m) (λ _. refl) (λ _. replace-tag-other b reg s wf f (lineOf b c o) hf hn m ne)
 
-  pub access-word-same : (d p : ℕ) → p < b .pageWords → lineOf b d p ≡ lineOf b c o → names (tagAt s (lineOf b c o)) f ≡ false → wordAt b (access b f c o s) d p ≡ memoryWord b s f p
+  pub access-word-same : (d p : ℕ) → p < b .page → lineOf b d p ≡ lineOf b c o → names (tagAt s (lineOf b c o)) f ≡ false → wordAt b (access b f c o s) d p ≡ memoryWord b s f p
   access-word-same d p hp e miss = rw (access-miss miss) (replace-word-same b reg s wf f (lineOf b c o) hf hn d p hp e (not-dirty miss))
 
   pub access-word-other : (d p : ℕ) → lineOf b d p ≢ lineOf b c o → wordAt b (access b f c o s) d p ≡ wordAt b s d p
   access-word-other d p ne = access-cases (λ t. wordAt b t d p ≡ wordAt b s d p) (λ _. refl) (λ _. replace-word-other b reg s wf f (lineOf b c o) hf hn d p ne)
 
-  pub access-memory-same : (g p : ℕ) → p < b .pageWords → lineOf b c p ≡ lineOf b c o → names (tagAt s (lineOf b c o)) f ≡ false → tagAt s (lineOf b c o) ≡ dirtyTag g → memoryWord b (access b f c o s) g p ≡ wordAt b s c p
+  pub access-memory-same : (g p : ℕ) → p < b .page → lineOf b c p ≡ lineOf b c o → names (tagAt s (lineOf b c o)) f ≡ false → tagAt s (lineOf b c o) ≡ dirtyTag g → memoryWord b (access b f c o s) g p ≡ wordAt b s c p
   access-memory-same g p hp e miss d =
       ap (λ (t : Store). memoryWord b t g p) (access-miss miss)
       ∙ ap (λ (l : List ℕ). getD l (memoryAt b g p) 0) (replace-memory b reg s wf f (lineOf b c o) hf hn)
       ∙ writeBack-memory-same b reg s wf (lineOf b c o) g c p hn hp e d
 
-  pub access-memory-other : (g p : ℕ) → p < b .pageWords → (names (tagAt s (lineOf b c o)) f ≡ false → lineOf b c p ≡ lineOf b c o → tagAt s (lineOf b c o) ≡ dirtyTag g → ⊥) → memoryWord b (access b f c o s) g p ≡ memoryWord b s g p
+  pub access-memory-other : (g p : ℕ) → p < b .page → (names (tagAt s (lineOf b c o)) f ≡ false → lineOf b c p ≡ lineOf b c o → tagAt s (lineOf b c o) ≡ dirtyTag g → ⊥) → memoryWord b (access b f c o s) g p ≡ memoryWord b s g p
   access-memory-other g p hp out =
       access-cases (λ t. memoryWord b t g p ≡ memoryWord b s g p) (λ _. refl)
       (λ miss.

@@ -8,7 +8,8 @@ use native.Mathlib.Omega.{arith}
 use native.Mathlib.Decide.{ℕ-discrete}
 use lib.ListN.{getD, length-set}
 use lib.Seq.{getD-set-same, getD-set-other}
-use Rattle.board.specs.Board.{Board, Regular, lines, lineOf, lineColour}
+use Rattle.board.specs.declared.Board.{Board}
+use Rattle.board.specs.Board.{Regular, lines, lineOf, lineColour}
 use Rattle.cache.specs.Store.{Store, WellFormed, tagAt, wordAt, memoryWord, withTag}
 use Rattle.cache.specs.Tag.{emptyTag, dirtyTag, names, tagKeepsRules}
 use Rattle.cache.specs.Cache.{writeBack, empty, evict}
@@ -86,10 +87,10 @@ module _ (b : Board) (reg : Regular b) (s : Store) (wf : WellFormed b s) (n : �
   unfolding evict
   evict-memory = refl
 
-  pub evict-memory-same : (f c o : ℕ) → o < b .pageWords → lineOf b c o ≡ n → tagAt s n ≡ dirtyTag f → memoryWord b (evict b n s) f o ≡ wordAt b s c o
+  pub evict-memory-same : (f c o : ℕ) → o < b .page → lineOf b c o ≡ n → tagAt s n ≡ dirtyTag f → memoryWord b (evict b n s) f o ≡ wordAt b s c o
   unfolding evict
   evict-memory-same f c o ho e d = writeBack-memory-same b reg s wf n f c o hn ho e d
 
-  pub evict-memory-other : (f o : ℕ) → o < b .pageWords → (lineOf b (lineColour b n) o ≡ n → tagAt s n ≡ dirtyTag f → ⊥) → memoryWord b (evict b n s) f o ≡ memoryWord b s f o
+  pub evict-memory-other : (f o : ℕ) → o < b .page → (lineOf b (lineColour b n) o ≡ n → tagAt s n ≡ dirtyTag f → ⊥) → memoryWord b (evict b n s) f o ≡ memoryWord b s f o
   unfolding evict
   evict-memory-other f o ho out = writeBack-memory-other b reg s wf n f o hn ho out

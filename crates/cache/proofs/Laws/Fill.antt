@@ -6,7 +6,8 @@ use Prim.Native.Nat.{ℕ, _+_, _%_, _≤_, _<_}
 use native.Mathlib.Omega.{arith}
 use native.Mathlib.Nat.{mod-lt}
 use lib.ListN.{length, getD}
-use Rattle.board.specs.Board.{Board, Regular, lines, lineOf, lineAt, cacheAt, lineOffset, memoryAt}
+use Rattle.board.specs.declared.Board.{Board}
+use Rattle.board.specs.Board.{Regular, lines, lineOf, lineAt, cacheAt, lineOffset, memoryAt}
 use Rattle.board.proofs.Geometry.{lineAt-end, lineOf-offset, memoryAt-line, memoryAt-line-end, cacheAt-within}
 use Rattle.cache.specs.Part.{part, overlay}
 use Rattle.cache.specs.Store.{Store, WellFormed, tagAt, wordAt, memoryWord, withWords}
@@ -18,11 +19,11 @@ use Rattle.cache.proofs.Laws.Evict.{tags-kept, withTag-same, withTag-ot
 
 module _ (b : Board) (reg : Regular b) (s : Store) (wf : WellFormed b s) (f n : ℕ) (hf : f < b .frames) (hn : n < lines b) where
   line-in : List ℕ
-  line-in = part (s .memory) (memoryAt b f (lineOffset b n)) (b .lineWords)
+  line-in = part (s .memory) (memoryAt b f (lineOffset b n)) (b .line)
 
-  in-length : length line-in ≡ b .lineWords
+  in-length : length line-in ≡ b .line
   unfolding line-in
-  in-length = let e = wf .memory-length in length-part (s .memory) (memoryAt b f (lineOffset b n)) (b .lineWords) (omega (arith, memoryAt-line-end b reg f n hf))
+  in-length = let e = wf .memory-length in length-part (s .memory) (memoryAt b f (lineOffset b n)) (b .line) (omega (arith, memoryAt-line-end b reg f n hf))
 
   in-fits : lineAt b n + length line-in ≤ length (s .words)
   in-fits = let e = wf .words-length in omega (arith, in-length, lineAt-end b reg n hn)
@@ -47,14 +48,14 @@ module _ (b : Board) (reg : Regular b) (s : Store) (wf : WellFormed b s) (f n : 
   unfolding fill
   fill-tag-other m h = withTag-other b reg s wf n (cleanTag f) m h
 
-  pub fill-word-same : (c o : ℕ) → o < b .pageWords → lineOf b c o ≡ n → wordAt b (fill b f n s) c o ≡ memoryWord b s f o
+  pub fill-word-same : (c o : ℕ) → o < b .page → lineOf b c o ≡ n → wordAt b (fill b f n s) c o ≡ memoryWord b s f o
   unfolding fill line-in cacheAt
   fill-word-same c o ho e =
-      let i : ℕ = o % b .lineWords in
-      let below : i < b .lineWords = mod-lt o (reg .line-words) in
+      let i : ℕ = o % b .line in
+      let below : i < b .line = mod-lt o (reg .has-line-words) in
       ap (λ (x : ℕ). getD (fill b f n s .words) (lineAt b x + i) 0) e
       ∙ overlay-inside (s .words) (lineAt b n) line-in in-fits i (omega (arith, in-length))
-      ∙ part-at (s .memory) (memoryAt b f (lineOffset b n)) (b .lineWords) i below
+      ∙ part-at (s .memory) (memoryAt b f (lineOffset b n)) (b .line) i below
       ∙ ap (λ (x : ℕ). getD (s .memory) x 0) (memoryAt-line b reg f n i ∙ ap (λ (x : ℕ). memoryAt b f x) (rw e at (lineOf-offset b reg c o ho)))
 
   pub fill-word-other : (c o : ℕ) → lineOf b c o ≢ n → wordAt b (fill b f n s) c o ≡ wordAt b s c o

@@ -5,7 +5,8 @@ use mathlib.Core.Logic.{_≢_}
 use mathlib.Core.List.{List}
 use Prim.Native.Nat.{ℕ, _<_}
 use lib.ListN.{getD}
-use Rattle.board.specs.Board.{Board, Regular, lines, pageLines, lineOf, cacheAt, lineColour}
+use Rattle.board.specs.declared.Board.{Board}
+use Rattle.board.specs.Board.{Regular, lines, pageLines, lineOf, cacheAt, lineColour}
 use Rattle.board.proofs.Geometry.{lineOf-lt, lineOf-colour}
 use Rattle.cache.specs.Store.{Store, WellFormed, tagAt, wordAt, memoryWord, when}
 use Rattle.cache.specs.Tag.{emptyTag, dirtyTag, names}
@@ -104,7 +105,7 @@ module _ (b : Board) (reg : Regular b) (f c : ℕ) (hf : f < b .frames) (hc : c 
       (λ m t h e w. flushLine-cases b reg f (λ u. u .words ≡ t .words) m t refl (λ _. evict-words b reg t w m h))
 
   -- a word of memory at offset o is changed by the turn of the line of colour c that covers o alone
-  memory-apart : (g o : ℕ) → o < b .pageWords → Apart b (flushLine b f) c (lineOf b c o) (λ t. memoryWord b t g o)
+  memory-apart : (g o : ℕ) → o < b .page → Apart b (flushLine b f) c (lineOf b c o) (λ t. memoryWord b t g o)
   memory-apart g o ho m t h e w ne =
       flushLine-cases b reg f (λ u. memoryWord b u g o ≡ memoryWord b t g o) m t refl
       (λ _. evict-memory-other b reg t w m h g o ho (λ l _. ne (sym l ∙ ap (λ (x : ℕ). lineOf b x o) e)))
@@ -112,7 +113,7 @@ module _ (b : Board) (reg : Regular b) (f c : ℕ) (hf : f < b .frames) (hc : c 
   tag-apart : (n : ℕ) → Apart b (flushLine b f) c n (λ t. tagAt t n)
   tag-apart n m t h e w ne = flushLine-empties b reg f .tag-other m t h w n (λ q. ne (sym q))
 
-  pub flush-memory-same : (o : ℕ) → o < b .pageWords → tagAt s (lineOf b c o) ≡ dirtyTag f → memoryWord b (flush b f c s) f o ≡ wordAt b s c o
+  pub flush-memory-same : (o : ℕ) → o < b .page → tagAt s (lineOf b c o) ≡ dirtyTag f → memoryWord b (flush b f c s) f o ≡ wordAt b s c o
   unfolding flush
   flush-memory-same o ho d =
       let n : ℕ = lineOf b c o in
@@ -123,7 +124,7 @@ module _ (b : Board) (reg : Regular b) (f c : ℕ) (hf : f < b .frames) (hc : c 
       ∙ evict-memory-same b reg (turn .now) (turn .kept) n (lineOf-lt b reg c o hc ho) f c o ho refl dirty
       ∙ turn .before (λ t. wordAt b t c o) (λ m t h e w ne. flushLine-cases b reg f (λ u. wordAt b u c o ≡ wordAt b t c o) m t refl (λ _. ap (λ (l : List ℕ). getD l (cacheAt b c o) 0) (evict-words b reg t w m h)))
 
-  pub flush-memory-other : (g o : ℕ) → o < b .pageWords → (g ≡ f → tagAt s (lineOf b c o) ≡ dirtyTag f → ⊥) → memoryWord b (flush b f c s) g o ≡ memoryWord b s g o
+  pub flush-memory-other : (g o : ℕ) → o < b .page → (g ≡ f → tagAt s (lineOf b c o) ≡ dirtyTag f → ⊥) → memoryWord b (flush b f c s) g o ≡ memoryWord b s g o
   unfolding flush
   flush-memory-other g o ho out =
       let n : ℕ = lineOf b c o in

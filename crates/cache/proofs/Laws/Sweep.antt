@@ -6,7 +6,8 @@ use Prim.Native.Nat.{ℕ, zero, suc, _+_, _%_, _≤_, _<_}
 use native.Mathlib.Omega.{arith}
 use native.Mathlib.Numerals.{add-one}
 use native.Mathlib.Decide.{ℕ-discrete}
-use Rattle.board.specs.Board.{Board, Regular, lines, pageLines, colourLine, lineColour}
+use Rattle.board.specs.declared.Board.{Board}
+use Rattle.board.specs.Board.{Regular, lines, pageLines, colourLine, lineColour}
 use Rattle.board.proofs.Geometry.{colourLine-lt, colourLine-colour, colourLine-index, colourLine-split, colourLine-inj}
 use Rattle.cache.specs.Store.{Store, WellFormed, tagAt}
 use Rattle.cache.specs.Tag.{emptyTag, names}

@@ -5,7 +5,8 @@ use Prim.Native.Nat.{ℕ, _+_, _%_, _≤_, _<_}
 use native.Mathlib.Omega.{arith}
 use native.Mathlib.Nat.{mod-lt}
 use lib.ListN.{length, getD}
-use Rattle.board.specs.Board.{Board, Regular, lines, lineOf, lineAt, cacheAt, lineColour, lineOffset, memoryAt}
+use Rattle.board.specs.declared.Board.{Board}
+use Rattle.board.specs.Board.{Regular, lines, lineOf, lineAt, cacheAt, lineColour, lineOffset, memoryAt}
 use Rattle.board.proofs.Geometry.{lineAt-end, lineOf-offset, memoryAt-line, memoryAt-line-end, memoryAt-within-frame, memoryAt-within-line}
 use Rattle.cache.specs.Store.{Store, WellFormed, tagAt, wordAt, memoryWord, when}
 use Rattle.cache.specs.Tag.{dirtyTag, isDirty, frameOf, tagKeepsRules}
@@ -19,13 +20,13 @@ module _ (b : Board) (reg : Regular b) (s : Store) (wf : WellFormed b s) where
 
   -- ---- the words of a line
 
-  line-length : (n : ℕ) → n < lines b → length (lineWordsOf b n s) ≡ b .lineWords
+  line-length : (n : ℕ) → n < lines b → length (lineWordsOf b n s) ≡ b .line
   unfolding lineWordsOf
-  line-length n h = let e = wf .words-length in length-part (s .words) (lineAt b n) (b .lineWords) (omega (arith, lineAt-end b reg n h))
+  line-length n h = let e = wf .words-length in length-part (s .words) (lineAt b n) (b .line) (omega (arith, lineAt-end b reg n h))
 
-  line-at : (n c o : ℕ) → lineOf b c o ≡ n → getD (lineWordsOf b n s) (o % b .lineWords) 0 ≡ wordAt b s c o
+  line-at : (n c o : ℕ) → lineOf b c o ≡ n → getD (lineWordsOf b n s) (o % b .line) 0 ≡ wordAt b s c o
   unfolding lineWordsOf cacheAt
-  line-at n c o e = rw e (part-at (s .words) (lineAt b n) (b .lineWords) (o % b .lineWords) (mod-lt o (reg .line-words)))
+  line-at n c o e = rw e (part-at (s .words) (lineAt b n) (b .line) (o % b .line) (mod-lt o (reg .has-line-words)))
 
   -- ---- line n's words copied to memory of frame g
 
@@ -43,21 +44,21 @@ module _ (b : Board) (reg : Regular b) (s : Store) (wf : WellFormed b s) where
           tags-rules = wf .tags-rules;
         }
 
-    copyOut-memory-same : (c o : ℕ) → o < b .pageWords → lineOf b c o ≡ n → memoryWord b (copyOut b g n s) g o ≡ wordAt b s c o
+    copyOut-memory-same : (c o : ℕ) → o < b .page → lineOf b c o ≡ n → memoryWord b (copyOut b g n s) g o ≡ wordAt b s c o
     unfolding copyOut
     copyOut-memory-same c o ho e =
-        let i : ℕ = o % b .lineWords in
+        let i : ℕ = o % b .line in
         let place : memoryAt b g o ≡ memoryAt b g (lineOffset b n) + i = ap (λ (x : ℕ). memoryAt b g x) (sym (rw e at (lineOf-offset b reg c o ho))) ∙ sym (memoryAt-line b reg g n i) in
         ap (λ (x : ℕ). getD (copyOut b g n s .memory) x 0) place
-        ∙ overlay-inside (s .memory) (memoryAt b g (lineOffset b n)) (lineWordsOf b n s) out-fits i (omega (arith, line-length n hn, mod-lt o (reg .line-words)))
+        ∙ overlay-inside (s .memory) (memoryAt b g (lineOffset b n)) (lineWordsOf b n s) out-fits i (omega (arith, line-length n hn, mod-lt o (reg .has-line-words)))
         ∙ line-at n c o e
 
-    copyOut-memory-other : (f o : ℕ) → o < b .pageWords → (f ≡ g → lineOf b (lineColour b n) o ≡ n → ⊥) → memoryWord b (copyOut b g n s) f o ≡ memoryWord b s f o
+    copyOut-memory-other : (f o : ℕ) → o < b .page → (f ≡ g → lineOf b (lineColour b n) o ≡ n → ⊥) → memoryWord b (copyOut b g n s) f o ≡ memoryWord b s f o
     unfolding copyOut
     copyOut-memory-other f o ho out =
         overlay-outside (s .memory) (memoryAt b g (lineOffset b n)) (lineWordsOf b n s) out-fits (memoryAt b f o)
         (λ low high.
-        let below : memoryAt b f o < memoryAt b g (lineOffset b n) + b .lineWords = omega (arith, line-length n hn) in
+        let below : memoryAt b f o < memoryAt b g (lineOffset b n) + b .line = omega (arith, line-length n hn) in
         let e : f ≡ g = memoryAt-within-frame b reg g n f o ho low below in
         out e (memoryAt-within-line b reg g n o (rw e at low) (rw e at below)))
 
@@ -101,10 +102,10 @@ module _ (b : Board) (reg : Regular b) (s : Store) (wf : WellFormed b s) where
   pub writeBack-kept : (n : ℕ) → n < lines b → WellFormed b (writeBack b n s)
   writeBack-kept n hn = writeBack-cases (WellFormed b) n (λ e. wf) (λ f h e. copyOut-kept f n h hn)
 
-  pub writeBack-memory-same : (n f c o : ℕ) → n < lines b → o < b .pageWords → lineOf b c o ≡ n → tagAt s n ≡ dirtyTag f → memoryWord b (writeBack b n s) f o ≡ wordAt b s c o
+  pub writeBack-memory-same : (n f c o : ℕ) → n < lines b → o < b .page → lineOf b c o ≡ n → tagAt s n ≡ dirtyTag f → memoryWord b (writeBack b n s) f o ≡ wordAt b s c o
   writeBack-memory-same n f c o hn ho e d = rw (writeBack-dirty n f d) (copyOut-memory-same f n (dirty-frame-lt n f d) hn c o ho e)
 
-  pub writeBack-memory-other : (n f o : ℕ) → n < lines b → o < b .pageWords → (lineOf b (lineColour b n) o ≡ n → tagAt s n ≡ dirtyTag f → ⊥) → memoryWord b (writeBack b n s) f o ≡ memoryWord b s f o
+  pub writeBack-memory-other : (n f o : ℕ) → n < lines b → o < b .page → (lineOf b (lineColour b n) o ≡ n → tagAt s n ≡ dirtyTag f → ⊥) → memoryWord b (writeBack b n s) f o ≡ memoryWord b s f o
   writeBack-memory-other n f o hn ho out =
       writeBack-cases (λ t. memoryWord b t f o ≡ memoryWord b s f o) n (λ e. refl)
       (λ g h d. copyOut-memory-other g n h hn f o ho (λ e l. out l (d ∙ ap dirtyTag (sym e))))

@@ -12,6 +12,7 @@ use Rattle.manager.specs.Tables.{tables}
 use Rattle.cache.specs.Store.{store}
 use Rattle.machine.specs.Refusals.{causes}
 use borrow.Author.Needs.{needs}
+use Rattle.board.proofs.Geometry.{board01-regular}
 use Rattle.machine.proofs.device_write.Statement.{statement}
 use Rattle.machine.proofs.device_write.Tie as tie
 
@@ -28,7 +29,7 @@ planned-by c =
     p
 
 plan-device-write-requires : tie.Need-plan-device-write-requires
-plan-device-write-requires c κs = search needs
+plan-device-write-requires c κs = board01-regular
 
 enum-known-plan : tie.Need-enum-known-plan
 enum-known-plan c = search needs
@@ -37,7 +38,7 @@ enum-known-plan-2 : tie.Need-enum-known-plan-2
 enum-known-plan-2 c = search needs
 
 commit-change-requires : tie.Need-commit-change-requires
-commit-change-requires c κs = search needs
+commit-change-requires c κs = board01-regular
 
 cast-receive : tie.Need-cast-receive
 cast-receive c = search needs
@@ -47,8 +48,8 @@ receive-requires c κs =
     let at = c .before .before .before .before .before .before .before .before .before .before .before .before in
     let s = at .before .before .before .before .before .before .before .before .before .before .before .before .before in
     let p = planned-by at in
-    let r = subst (λ (m : Change). Ready board01 (St s) m × (length (s .args .buffer .now) ≡ board01 .pageWords)) (p .1) (deviceWrite-ready board01 (St s) (s .args .frame) (s .args .buffer .now) (p .0)) in
-    (r .0 .0, r .0 .1, r .0 .2, r .0 .3, r .1)
+    let r = subst (λ (m : Change). Ready board01 (St s) m × (length (s .args .buffer .now) ≡ board01 .page)) (p .1) (deviceWrite-ready board01 (St s) (s .args .frame) (s .args .buffer .now) (p .0)) in
+    (r .0 .0, r .0 .1, r .0 .2, r .0 .3, r .1, board01-regular)
 
 same-length : tie.Need-same-length
 same-length c = search needs

@@ -6,6 +6,7 @@ use Rattle.cache.specs.Store.{store}
 use Rattle.machine.specs.State.{State, state, evict}
 use Rattle.machine.proofs.StepLaws.{step-refused, evict-ready, made, evict-made}
 use borrow.Author.Needs.{needs}
+use Rattle.board.proofs.Geometry.{board01-regular}
 use Rattle.machine.proofs.evict.Statement.{statement}
 use Rattle.machine.proofs.evict.Tie as tie
 
@@ -14,7 +15,7 @@ abbrev St : tie.Start → State
 St s = state (tables (s .args .list) (s .args .records .now) (s .args .protections .now)) (store (s .args .memory .now) (s .args .words .now) (s .args .tags .now))
 
 evict-refusal-requires : tie.Need-evict-refusal-requires
-evict-refusal-requires c κs = search needs
+evict-refusal-requires c κs = board01-regular
 
 same-length : tie.Need-same-length
 same-length c = search needs
@@ -31,12 +32,12 @@ returns c =
     step-refused board01 (St s) (evict (s .args .line)) _ (sym (c .before .evict-refusal .ensures), λ z. c .if1 .taken (c .before .evict-refusal .ensures ∙ z))
 
 refill-requires : tie.Need-refill-requires
-refill-requires c κs = search needs
+refill-requires c κs = board01-regular
 
 evict-requires : tie.Need-evict-requires
 evict-requires c κs =
     let s = c .before .before .before .before .before .before .before .before .before .before .before .before .before .before .before .before in
-    evict-ready board01 (St s) (s .args .line) (sym (c .before .before .before .before .before .before .before .evict-refusal .ensures) ∙ c .before .before .before .before .before .before .if1 .left)
+    let e = evict-ready board01 (St s) (s .args .line) (sym (c .before .before .before .before .before .before .before .evict-refusal .ensures) ∙ c .before .before .before .before .before .before .if1 .left) in (e .0, e .1, board01-regular)
 
 no-orders-requires : tie.Need-no-orders-requires
 no-orders-requires c κs = search needs

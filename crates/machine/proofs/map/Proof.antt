@@ -7,6 +7,7 @@ use Rattle.cache.specs.Store.{store}
 use Rattle.machine.specs.State.{State, state, map}
 use Rattle.machine.proofs.StepLaws.{placed-place, placed-refusal, step-refused, made, map-made}
 use borrow.Author.Needs.{needs}
+use Rattle.board.proofs.Geometry.{board01-regular}
 use Rattle.machine.proofs.map.Statement.{statement}
 use Rattle.machine.proofs.map.Tie as tie
 
@@ -15,7 +16,7 @@ abbrev St : tie.Start → State
 St s = state (tables (s .args .list) (s .args .records .now) (s .args .protections .now)) (store (s .args .memory .now) (s .args .words .now) (s .args .tags .now))
 
 plan-map-requires : tie.Need-plan-map-requires
-plan-map-requires c κs = search needs
+plan-map-requires c κs = board01-regular
 
 enum-known-plan : tie.Need-enum-known-plan
 enum-known-plan c = search needs
@@ -27,7 +28,7 @@ enum-told : tie.Need-enum-told
 enum-told c = search needs
 
 commit-map-requires : tie.Need-commit-map-requires
-commit-map-requires c κs = search needs
+commit-map-requires c κs = board01-regular
 
 listed-as-requires : tie.Need-listed-as-requires
 listed-as-requires c κs = search needs
@@ -47,7 +48,7 @@ same-length-2 c = search needs
 returns-2 : tie.Need-returns-2
 returns-2 c =
     let s = c .before .before .before .before .before .before .before .before .before .before .before .before .before .before in
-    made (c .listed-as .ensures .0) refl refl (ap (λ (l : MappingList). tables l (s .args .records .now) (c .before .before .before .commit-map .last .1 .1 .0)) (c .listed-as .ensures .1) ∙ c .before .before .before .commit-map .ensures) refl
+    made (c .listed-as .ensures .0) refl refl (ap (λ (l : MappingList). tables l (s .args .records .now) (c .before .before .before .commit-map .last .1 .1 .1 .0)) (c .listed-as .ensures .1) ∙ c .before .before .before .commit-map .ensures) refl
     ∙ map-made board01 (St s) (s .args .m .space) (s .args .m .page) (s .args .m .frame) (s .args .m .rights) (placed-place _ _ _ (sym (c .before .before .before .before .before .before .before .plan-map .ensures) ∙ c .before .before .before .before .before .enum-told .given .1) .0)
 
 pub map-spec : {M : Type 1} → statement M

@@ -8,6 +8,7 @@ use Rattle.machine.specs.State.{State, state, unmap}
 use Rattle.machine.proofs.StepLaws.{placed-place, placed-refusal, step-refused, made, unmap-made}
 use Rattle.manager.specs.Calls.{commitUnmap}
 use borrow.Author.Needs.{needs}
+use Rattle.board.proofs.Geometry.{board01-regular}
 use Rattle.machine.proofs.unmap.Statement.{statement}
 use Rattle.machine.proofs.unmap.Tie as tie
 
@@ -16,7 +17,7 @@ abbrev St : tie.Start → State
 St s = state (tables (s .args .list) (s .args .records .now) (s .args .protections .now)) (store (s .args .memory .now) (s .args .words .now) (s .args .tags .now))
 
 plan-unmap-requires : tie.Need-plan-unmap-requires
-plan-unmap-requires c κs = search needs
+plan-unmap-requires c κs = board01-regular
 
 enum-known-plan : tie.Need-enum-known-plan
 enum-known-plan c = search needs
@@ -28,7 +29,7 @@ enum-known-plan-2 : tie.Need-enum-known-plan-2
 enum-known-plan-2 c = search needs
 
 commit-unmap-requires : tie.Need-commit-unmap-requires
-commit-unmap-requires c κs = search needs
+commit-unmap-requires c κs = board01-regular
 
 listed-as-requires : tie.Need-listed-as-requires
 listed-as-requires c κs = search needs
@@ -50,7 +51,7 @@ returns-2 c =
     let s = c .before .before .before .before .before .before .before .before .before .before .before .before .before .before .before in
     let p = placed-place _ _ _ (sym (c .before .before .before .before .before .before .before .before .plan-unmap .ensures) ∙ c .before .before .before .before .before .before .plan2 .given .1) in
     made (c .listed-as .ensures .0) refl refl
-    (ap (λ (l : MappingList). tables l (s .args .records .now) (c .before .before .before .commit-unmap .last .1 .1 .0)) (c .listed-as .ensures .1) ∙ c .before .before .before .commit-unmap .ensures ∙ ap (commitUnmap board01 (St s .tables)) (sym (p .1))) refl
+    (ap (λ (l : MappingList). tables l (s .args .records .now) (c .before .before .before .commit-unmap .last .1 .1 .1 .0)) (c .listed-as .ensures .1) ∙ c .before .before .before .commit-unmap .ensures ∙ ap (commitUnmap board01 (St s .tables)) (sym (p .1))) refl
     ∙ unmap-made board01 (St s) (s .args .space) (s .args .page) (p .0)
 
 pub unmap-spec : {M : Type 1} → statement M

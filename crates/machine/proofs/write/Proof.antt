@@ -31,7 +31,7 @@ planned-by c =
     (sym (write-any board01 (St s) (s .args .space) (s .args .page) (s .args .offset) (s .args .word)) ∙ p .0, p .1)
 
 plan-write-requires : tie.Need-plan-write-requires
-plan-write-requires c κs = search needs
+plan-write-requires c κs = board01-regular
 
 enum-known-plan : tie.Need-enum-known-plan
 enum-known-plan c = search needs
@@ -40,10 +40,10 @@ enum-known-plan-2 : tie.Need-enum-known-plan-2
 enum-known-plan-2 c = search needs
 
 commit-change-requires : tie.Need-commit-change-requires
-commit-change-requires c κs = search needs
+commit-change-requires c κs = board01-regular
 
 colour-of-requires : tie.Need-colour-of-requires
-colour-of-requires c κs = search needs
+colour-of-requires c κs = board01-regular
 
 cast-put : tie.Need-cast-put
 cast-put c = search needs
@@ -53,8 +53,8 @@ put-requires c κs =
     let at = c .before .before .before .before .before .before .before .before .before .before .before .before .before .before in
     let s = at .before .before .before .before .before .before .before .before .before .before .before .before .before in
     let p = planned-by at in
-    let r = subst (λ (m : Change). Ready board01 (St s) m × (s .args .offset < board01 .pageWords)) (p .1) (write-ready board01 (St s) (s .args .space) (s .args .page) (s .args .offset) (s .args .word) (p .0)) in
-    (r .0 .0, r .0 .1, r .0 .2, r .0 .3, subst⁻¹ (λ (k : ℕ). k < board01 .colours) (c .before .before .before .colour-of .ensures) (colourOf-lt board01 board01-regular _), r .1)
+    let r = subst (λ (m : Change). Ready board01 (St s) m × (s .args .offset < board01 .page)) (p .1) (write-ready board01 (St s) (s .args .space) (s .args .page) (s .args .offset) (s .args .word) (p .0)) in
+    (r .0 .0, r .0 .1, r .0 .2, r .0 .3, subst⁻¹ (λ (k : ℕ). k < board01 .colours) (c .before .before .before .colour-of .ensures .0) (colourOf-lt board01 board01-regular _), r .1, board01-regular)
 
 same-length : tie.Need-same-length
 same-length c = search needs
@@ -98,7 +98,7 @@ returns-2 c =
     let m = at .plan2 .given .0 .0 in
     let p = planned-by at in
     made refl refl refl (c .before .before .before .before .before .before .before .before .before .before .before .before .before .before .before .commit-change .ensures)
-    (c .before .before .before .before .before .before .put .ensures ∙ ap (λ (k : ℕ). writeWord board01 (m .frame) k (s .args .offset) (s .args .word) (afterOps board01 (St s) m)) (c .before .before .before .before .before .before .before .before .before .before .colour-of .ensures))
+    (c .before .before .before .before .before .before .put .ensures ∙ ap (λ (k : ℕ). writeWord board01 (m .frame) k (s .args .offset) (s .args .word) (afterOps board01 (St s) m)) (c .before .before .before .before .before .before .before .before .before .before .colour-of .ensures .0))
     ∙ write-made board01 (St s) m (s .args .space) (s .args .page) (s .args .offset) (s .args .word) (p .0) (p .1)
 
 pub write-spec : {M : Type 1} → statement M

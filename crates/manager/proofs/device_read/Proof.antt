@@ -3,14 +3,15 @@ use mathlib.Core.Path.{ap, _∙_}
 use Rattle.board.specs.Board.{board01}
 use Rattle.manager.specs.Calls.{stepResult}
 use borrow.Author.Needs.{needs}
+use Rattle.board.proofs.Geometry.{board01-regular}
 use Rattle.manager.proofs.device_read.Statement.{statement}
 use Rattle.manager.proofs.device_read.Tie as tie
 
 plan-device-read-requires : tie.Need-plan-device-read-requires
-plan-device-read-requires c κs = search needs
+plan-device-read-requires c κs = board01-regular
 
 carry-out-requires : tie.Need-carry-out-requires
-carry-out-requires c κs = search needs
+carry-out-requires c κs = board01-regular
 
 same-length : tie.Need-same-length
 same-length c = search needs

@@ -3,14 +3,15 @@ use mathlib.Core.Path.{ap, _∙_}
 use Rattle.board.specs.Board.{board01}
 use Rattle.manager.specs.Calls.{stepResult}
 use borrow.Author.Needs.{needs}
+use Rattle.board.proofs.Geometry.{board01-regular}
 use Rattle.manager.proofs.device_write.Statement.{statement}
 use Rattle.manager.proofs.device_write.Tie as tie
 
 plan-device-write-requires : tie.Need-plan-device-write-requires
-plan-device-write-requires c κs = search needs
+plan-device-write-requires c κs = board01-regular
 
 carry-out-requires : tie.Need-carry-out-requires
-carry-out-requires c κs = search needs
+carry-out-requires c κs = board01-regular
 
 same-length : tie.Need-same-length
 same-length c = search needs

@@ -3,11 +3,12 @@ use mathlib.Core.Path.{sym, ap, _∙_}
 use Rattle.manager.specs.Answers.{accepted}
 use Rattle.manager.specs.Calls.{noOps, result}
 use borrow.Author.Needs.{needs}
+use Rattle.board.proofs.Geometry.{board01-regular}
 use Rattle.manager.proofs.map.Statement.{statement}
 use Rattle.manager.proofs.map.Tie as tie
 
 plan-map-requires : tie.Need-plan-map-requires
-plan-map-requires c κs = search needs
+plan-map-requires c κs = board01-regular
 
 enum-known-plan : tie.Need-enum-known-plan
 enum-known-plan c = search needs
@@ -19,7 +20,7 @@ enum-told : tie.Need-enum-told
 enum-told c = search needs
 
 commit-map-requires : tie.Need-commit-map-requires
-commit-map-requires c κs = search needs
+commit-map-requires c κs = board01-regular
 
 listed-as-requires : tie.Need-listed-as-requires
 listed-as-requires c κs = search needs

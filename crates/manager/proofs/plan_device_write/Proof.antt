@@ -1,6 +1,5 @@
 -- `manager::plan_device_write` meets its contract.
 use mathlib.Core.Path.{sym, ap, _∙_}
-use Rattle.board.specs.Board.{board01}
 use Rattle.page_model.specs.Record.{keepsRules}
 use Rattle.manager.specs.declared.Plan.the-variants as step-plan
 use Rattle.manager.specs.Tables.{Tables, tables}
@@ -24,13 +23,18 @@ record-at-requires : tie.Need-record-at-requires
 record-at-requires c κs = search needs
 
 device-write-requires : tie.Need-device-write-requires
-device-write-requires c κs = ap (keepsRules (board01 .colours)) (c .record-at .ensures) ∙ transfer-rules board01 (T (c .before .before .before .before .before)) _ (sym (c .before .before .transfer-refusal .ensures) ∙ c .before .if1 .left)
+device-write-requires c κs = search needs
 
 step-of-requires : tie.Need-step-of-requires
 step-of-requires c κs = search needs
 
 returns-2 : tie.Need-returns-2
-returns-2 c = c .step-of .ensures ∙ simp (c .before .device-write .ensures, c .before .before .record-at .ensures, sym (c .before .before .before .before .transfer-refusal .ensures) ∙ c .before .before .before .if1 .left)
+returns-2 c =
+    let at-record = c .before .before in
+    let s = at-record .before .before .before .before .before in
+    let accepted = sym (at-record .before .before .transfer-refusal .ensures) ∙ at-record .before .if1 .left in
+    let rules = ap (keepsRules _) (at-record .record-at .ensures) ∙ transfer-rules _ (T s) _ accepted in
+    c .step-of .ensures ∙ simp (c .before .device-write .ensures _ (s .pre .few-colours) rules, at-record .record-at .ensures, accepted)
 
 pub plan-device-write-spec : {M : Type 1} → statement M
 plan-device-write-spec =

@@ -1,8 +1,5 @@
 -- `manager::plan_read` meets its contract.
-use mathlib.Core.Path.{sym, ap, subst⁻¹, _∙_}
-use Prim.Native.Nat.{ℕ, _<_}
-use Rattle.board.specs.Board.{board01}
-use Rattle.board.proofs.Geometry.{board01-regular, colourOf-lt}
+use mathlib.Core.Path.{sym, ap, _∙_}
 use Rattle.page_model.specs.Record.{keepsRules}
 use Rattle.mapping.specs.declared.Mapping.{Mapping}
 use Rattle.manager.specs.declared.Plan.the-variants as step-plan
@@ -33,18 +30,24 @@ record-at-requires : tie.Need-record-at-requires
 record-at-requires c κs = search needs
 
 read-requires : tie.Need-read-requires
-read-requires c κs =
-    let s = c .before .before .before .before .before .before .before in (
-      ap (keepsRules (board01 .colours)) (c .record-at .ensures ∙ ap (λ (m : Mapping). recordAt (s .args .records .now) (m .frame)) (c .before .before .mapping-of .ensures))
-          ∙ page-rules board01 (T s) (s .args .space) (s .args .page) (sym (c .before .before .before .before .page-refusal .ensures) ∙ c .before .before .before .if1 .left),
-      subst⁻¹ (λ (k : ℕ). k < board01 .colours) (c .before .colour-of .ensures) (colourOf-lt board01 board01-regular _),
-    )
+read-requires c κs = search needs
 
 step-of-requires : tie.Need-step-of-requires
 step-of-requires c κs = search needs
 
 returns-2 : tie.Need-returns-2
-returns-2 c = c .step-of .ensures ∙ simp (c .before .read .ensures, c .before .before .record-at .ensures, c .before .before .before .colour-of .ensures, c .before .before .before .before .mapping-of .ensures, sym (c .before .before .before .before .before .before .page-refusal .ensures) ∙ c .before .before .before .before .before .if1 .left)
+returns-2 c =
+    let at-record = c .before .before in
+    let at-colour = at-record .before in
+    let at-mapping = at-colour .before in
+    let s = at-mapping .before .before .before .before .before in
+    let accepted = sym (at-mapping .before .before .page-refusal .ensures) ∙ at-mapping .before .if1 .left in
+    let rules =
+    ap (keepsRules _) (at-record .record-at .ensures ∙ ap (λ (m : Mapping). recordAt (s .args .records .now) (m .frame)) (at-mapping .mapping-of .ensures))
+    ∙ page-rules _ (T s) (s .args .space) (s .args .page) accepted in
+    c .step-of .ensures
+    ∙ simp
+    (c .before .read .ensures _ (s .pre .few-colours) (at-colour .colour-of .ensures .1) rules, at-record .record-at .ensures, at-colour .colour-of .ensures .0, at-mapping .mapping-of .ensures, accepted)
 
 pub plan-read-spec : {M : Type 1} → statement M
 plan-read-spec =

@@ -3,14 +3,15 @@ use mathlib.Core.Path.{ap, _∙_}
 use Rattle.board.specs.Board.{board01}
 use Rattle.manager.specs.Calls.{stepResult}
 use borrow.Author.Needs.{needs}
+use Rattle.board.proofs.Geometry.{board01-regular}
 use Rattle.manager.proofs.read.Statement.{statement}
 use Rattle.manager.proofs.read.Tie as tie
 
 plan-read-requires : tie.Need-plan-read-requires
-plan-read-requires c κs = search needs
+plan-read-requires c κs = board01-regular
 
 carry-out-requires : tie.Need-carry-out-requires
-carry-out-requires c κs = search needs
+carry-out-requires c κs = board01-regular
 
 same-length : tie.Need-same-length
 same-length c = search needs

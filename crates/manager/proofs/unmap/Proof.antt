@@ -3,11 +3,12 @@ use mathlib.Core.Path.{sym, ap, _∙_}
 use Rattle.manager.specs.Answers.{accepted}
 use Rattle.manager.specs.Calls.{noOps, result}
 use borrow.Author.Needs.{needs}
+use Rattle.board.proofs.Geometry.{board01-regular}
 use Rattle.manager.proofs.unmap.Statement.{statement}
 use Rattle.manager.proofs.unmap.Tie as tie
 
 plan-unmap-requires : tie.Need-plan-unmap-requires
-plan-unmap-requires c κs = search needs
+plan-unmap-requires c κs = board01-regular
 
 enum-known-plan : tie.Need-enum-known-plan
 enum-known-plan c = search needs
@@ -19,7 +20,7 @@ enum-known-plan-2 : tie.Need-enum-known-plan-2
 enum-known-plan-2 c = search needs
 
 commit-unmap-requires : tie.Need-commit-unmap-requires
-commit-unmap-requires c κs = search needs
+commit-unmap-requires c κs = board01-regular
 
 listed-as-requires : tie.Need-listed-as-requires
 listed-as-requires c κs = search needs

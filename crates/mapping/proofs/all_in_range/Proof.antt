@@ -7,7 +7,6 @@ use borrow.Author.Needs.{needs}
 use borrow.Author.Count.{below-none, below-more}
 use borrow.Author.Tests.{not-true, not-false}
 use Rattle.bits.proofs.Mask.{all-of}
-use Rattle.board.specs.Board.{board01}
 use Rattle.mapping.specs.Entry.{inRange, mappingAt}
 use Rattle.mapping.specs.Rules.{allInRange}
 use Rattle.mapping.proofs.Tests.{all-not}
@@ -15,10 +14,10 @@ use Rattle.mapping.proofs.all_in_range.Statement.{statement}
 use Rattle.mapping.proofs.all_in_range.Tie as tie
 
 abbrev Inv-loop : tie.InvT-loop
-Inv-loop list i₀ i = (i ≤ list .count) × ((k : ℕ) → k < i → inRange board01 (mappingAt list k) ≡ true)
+Inv-loop board list i₀ i = (i ≤ list .count) × ((k : ℕ) → k < i → inRange board (mappingAt list k) ≡ true)
 
 abbrev μ-loop : tie.MeasureT-loop
-μ-loop list i₀ i = list .count - i
+μ-loop board list i₀ i = list .count - i
 
 loop-holds : tie.Need-loop-holds Inv-loop μ-loop
 loop-holds c = (search needs, below-none _)

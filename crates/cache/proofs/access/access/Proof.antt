@@ -3,8 +3,6 @@ use borrow.Author.Needs.{needs}
 use mathlib.Core.Path.{ap, sym, _∙_}
 use Prim.Native.Nat.{ℕ}
 use borrow.Author.Tests.{not-true, not-false}
-use Rattle.board.specs.Board.{board01, lines, lineOf}
-use Rattle.board.proofs.Geometry.{board01-regular}
 use Rattle.cache.specs.Store.{Store, store, tagAt}
 use Rattle.cache.specs.Tag.{names}
 use Rattle.cache.specs.Cache.{replace}
@@ -16,14 +14,12 @@ line-of-requires : tie.Need-line-of-requires
 line-of-requires c κs = search needs
 
 slice-read-names : tie.Need-slice-read-names
-unfolding lineOf lines
 slice-read-names c = search needs
 
 names-requires : tie.Need-names-requires
 names-requires c κs = search needs
 
 replace-requires : tie.Need-replace-requires
-unfolding lineOf lines
 replace-requires c κs = search needs
 
 same-length : tie.Need-same-length
@@ -44,9 +40,9 @@ returns c =
     let s : Store = store (start .args .memory .now) (start .args .words .now) (start .args .tags .now) in
     let frame = start .args .frame in
     c .before .before .before .before .before .before .replace .ensures
-    ∙ ap (λ (n : ℕ). replace board01 frame n s) (here .line-of .ensures)
-    ∙ sym (access-miss board01 board01-regular frame (start .args .colour) (start .args .offset) (pre .1) (pre .2) (pre .3) s (pre .0)
-    (ap (λ (n : ℕ). names (tagAt s n) frame) (sym (here .line-of .ensures)) ∙ sym (named .names .ensures) ∙ not-true _ (c .before .before .before .before .before .before .before .before .before .before .if1 .taken)))
+    ∙ ap (λ (n : ℕ). replace (start .args .board) frame n s) (here .line-of .ensures .0)
+    ∙ sym (access-miss _ (pre .4) frame (start .args .colour) (start .args .offset) (pre .1) (pre .2) (pre .3) s (pre .0)
+    (ap (λ (n : ℕ). names (tagAt s n) frame) (sym (here .line-of .ensures .0)) ∙ sym (named .names .ensures) ∙ not-true _ (c .before .before .before .before .before .before .before .before .before .before .if1 .taken)))
 
 returns-2 : tie.Need-returns-2
 returns-2 c =
@@ -55,8 +51,8 @@ returns-2 c =
     let pre = start .pre in
     let s : Store = store (start .args .memory .now) (start .args .words .now) (start .args .tags .now) in
     let frame = start .args .frame in
-    sym (access-hit board01 board01-regular frame (start .args .colour) (start .args .offset) (pre .1) (pre .2) (pre .3) s (pre .0)
-    (ap (λ (n : ℕ). names (tagAt s n) frame) (sym (here .line-of .ensures)) ∙ sym (c .before .names .ensures) ∙ not-false _ (c .if1 .left)))
+    sym (access-hit _ (pre .4) frame (start .args .colour) (start .args .offset) (pre .1) (pre .2) (pre .3) s (pre .0)
+    (ap (λ (n : ℕ). names (tagAt s n) frame) (sym (here .line-of .ensures .0)) ∙ sym (c .before .names .ensures) ∙ not-false _ (c .if1 .left)))
 
 pub access-spec : {M : Type 1} → statement M
 access-spec =

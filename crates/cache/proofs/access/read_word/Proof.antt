@@ -3,7 +3,6 @@ use borrow.Author.Needs.{needs}
 use mathlib.Core.Path.{ap₂}
 use Prim.Native.Nat.{ℕ}
 use lib.ListN.{getD}
-use Rattle.board.specs.Board.{cacheWords, cacheAt}
 use Rattle.cache.specs.Store.{Store}
 use Rattle.cache.specs.Cache.{readWord}
 use Rattle.cache.proofs.access.read_word.Statement.{statement}
@@ -16,11 +15,9 @@ cache-at-requires : tie.Need-cache-at-requires
 cache-at-requires c κs = search needs
 
 mul-result : tie.Need-mul-result
-unfolding cacheAt
 mul-result c = search needs
 
 slice-read-result : tie.Need-slice-read-result
-unfolding cacheAt cacheWords
 slice-read-result c = search needs
 
 same-length : tie.Need-same-length
@@ -36,7 +33,7 @@ returns : tie.Need-returns
 unfolding readWord
 returns c =
     let done = c .before .before .before .before .before .before .before .before in
-    (ap₂ (λ (s : Store) (at : ℕ). getD (s .words) at 0) (done .access .ensures) (c .before .cache-at .ensures), done .access .ensures)
+    (ap₂ (λ (s : Store) (at : ℕ). getD (s .words) at 0) (done .access .ensures) (c .before .cache-at .ensures .0), done .access .ensures)
 
 pub read-word-spec : {M : Type 1} → statement M
 read-word-spec =

@@ -1,8 +1,7 @@
 -- `cache::access::replace` meets its contract.
 use borrow.Author.Needs.{needs}
 use mathlib.Core.Path.{ap, _∙_, subst⁻¹}
-use Rattle.board.specs.Board.{board01, lines}
-use Rattle.board.proofs.Geometry.{board01-regular}
+use Rattle.board.specs.Board.{lines}
 use Rattle.cache.specs.Store.{WellFormed}
 use Rattle.cache.specs.Cache.{fill, replace}
 use Rattle.cache.proofs.Laws.WriteBack.{writeBack-kept}
@@ -18,10 +17,11 @@ unfolding lines
 fill-requires c κs =
     let back = c .before .before .before .before .before in
     let start = back .before .before .before .before .before .before .before in (
-      subst⁻¹ (WellFormed board01) (back .write-back .ensures)
-          (writeBack-kept board01 board01-regular _ (start .pre .0) _ (search needs)),
+      subst⁻¹ (WellFormed (start .args .board)) (back .write-back .ensures)
+          (writeBack-kept _ (start .pre .3) _ (start .pre .0) _ (search needs)),
       start .pre .1,
       start .pre .2,
+      start .pre .3,
     )
 
 same-length : tie.Need-same-length
@@ -38,7 +38,7 @@ unfolding replace
 returns c =
     let back = c .before .before .before .before .before .before .before .before .before .before in
     let start = back .before .before .before .before .before .before .before in
-    c .before .before .before .before .fill .ensures ∙ ap (fill board01 (start .args .frame) (start .args .line)) (back .write-back .ensures)
+    c .before .before .before .before .fill .ensures ∙ ap (fill (start .args .board) (start .args .frame) (start .args .line)) (back .write-back .ensures)
 
 pub replace-spec : {M : Type 1} → statement M
 replace-spec =

@@ -1,7 +1,6 @@
 -- `cache::access::write_word` meets its contract.
 use borrow.Author.Needs.{needs}
 use mathlib.Core.Path.{ap}
-use Rattle.board.specs.Board.{board01, lines, lineOf, cacheWords, cacheAt}
 use Rattle.cache.specs.Cache.{putWord, writeWord}
 use Rattle.cache.proofs.access.write_word.Statement.{statement}
 use Rattle.cache.proofs.access.write_word.Tie as tie
@@ -13,11 +12,9 @@ cache-at-requires : tie.Need-cache-at-requires
 cache-at-requires c κs = search needs
 
 mul-words : tie.Need-mul-words
-unfolding cacheAt
 mul-words c = search needs
 
 slice-write-words : tie.Need-slice-write-words
-unfolding cacheAt cacheWords
 slice-write-words c = search needs
 
 line-of-requires : tie.Need-line-of-requires
@@ -27,7 +24,6 @@ dirty-tag-requires : tie.Need-dirty-tag-requires
 dirty-tag-requires c κs = search needs
 
 slice-write-tags : tie.Need-slice-write-tags
-unfolding lineOf lines
 slice-write-tags c = search needs
 
 same-length : tie.Need-same-length
@@ -45,8 +41,8 @@ returns c =
     let done = c .before .before .before .before .before .before .before .before .before in
     let start = done .before .before .before .before .before .before .before in
     let a = start .args in
-    rw (c .before .before .cache-at .ensures, c .before .line-of .ensures, c .dirty-tag .ensures)
-    (ap (putWord board01 (a .frame) (a .colour) (a .offset) (a .word)) (done .access .ensures))
+    rw (c .before .before .cache-at .ensures .0, c .before .line-of .ensures .0, c .dirty-tag .ensures)
+    (ap (putWord (a .board) (a .frame) (a .colour) (a .offset) (a .word)) (done .access .ensures))
 
 pub write-word-spec : {M : Type 1} → statement M
 write-word-spec =

@@ -1,10 +1,9 @@
 -- `cache::device::device_read` meets its contract.
 use borrow.Author.Needs.{needs}
 use mathlib.Core.Path.{_∙_}
-use Rattle.board.proofs.Geometry.{board01-regular, memoryAt-zero}
+use Rattle.board.proofs.Geometry.{memoryAt-zero}
 use Rattle.cache.specs.Cache.{deviceRead}
 use Rattle.cache.proofs.Laws.Part.{part-lent}
-use Rattle.board.specs.Board.{board01, memoryWords, memoryAt}
 use Rattle.cache.proofs.device.device_read.Statement.{statement}
 use Rattle.cache.proofs.device.device_read.Tie as tie
 
@@ -12,11 +11,9 @@ memory-at-requires : tie.Need-memory-at-requires
 memory-at-requires c κs = search needs
 
 add-end : tie.Need-add-end
-unfolding memoryAt
 add-end c = search needs
 
 mul-copy : tie.Need-mul-copy
-unfolding memoryAt
 mul-copy c = search needs
 
 sub-copy : tie.Need-sub-copy
@@ -26,7 +23,6 @@ part-copy-start : tie.Need-part-copy-start
 part-copy-start c = search needs
 
 part-copy-end : tie.Need-part-copy-end
-unfolding memoryAt memoryWords
 part-copy-end c = search needs
 
 copy-requires : tie.Need-copy-requires
@@ -38,9 +34,9 @@ same-length c = search needs
 returns : tie.Need-returns
 unfolding deviceRead
 returns c words tags =
-    let to = c .before .before .before .before .before in
+    let to = c .before .before .before .before .before .before in
     let start = to .before .before .before in
-    c .before .before .copy .ensures ∙ part-lent (start .args .memory .now) 64 (to .memory-at .ensures ∙ memoryAt-zero board01 board01-regular (start .args .frame))
+    c .before .before .copy .ensures ∙ part-lent (start .args .memory .now) _ (to .memory-at .ensures .0 ∙ memoryAt-zero _ (start .pre .3) (start .args .frame))
 
 pub device-read-spec : {M : Type 1} → statement M
 device-read-spec =

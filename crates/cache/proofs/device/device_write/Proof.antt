@@ -3,11 +3,10 @@ use borrow.Author.Needs.{needs}
 use mathlib.Core.Path.{ap, _∙_}
 use mathlib.Core.List.{List}
 use Prim.Native.Nat.{ℕ}
-use Rattle.board.proofs.Geometry.{board01-regular, memoryAt-zero}
+use Rattle.board.proofs.Geometry.{memoryAt-zero}
 use Rattle.cache.specs.Store.{store}
 use Rattle.cache.specs.Cache.{deviceWrite}
 use Rattle.cache.proofs.Laws.Part.{part-back}
-use Rattle.board.specs.Board.{board01, memoryWords, memoryAt}
 use Rattle.cache.proofs.device.device_write.Statement.{statement}
 use Rattle.cache.proofs.device.device_write.Tie as tie
 
@@ -15,11 +14,9 @@ memory-at-requires : tie.Need-memory-at-requires
 memory-at-requires c κs = search needs
 
 add-end : tie.Need-add-end
-unfolding memoryAt
 add-end c = search needs
 
 mul-copy : tie.Need-mul-copy
-unfolding memoryAt
 mul-copy c = search needs
 
 sub-copy : tie.Need-sub-copy
@@ -29,7 +26,6 @@ part-copy-start : tie.Need-part-copy-start
 part-copy-start c = search needs
 
 part-copy-end : tie.Need-part-copy-end
-unfolding memoryAt memoryWords
 part-copy-end c = search needs
 
 copy-requires : tie.Need-copy-requires
@@ -41,10 +37,10 @@ same-length c = search needs
 returns : tie.Need-returns
 unfolding deviceWrite
 returns c words tags =
-    let to = c .before .before .before .before in
+    let to = c .before .before .before .before .before in
     let start = to .before .before .before in
     ap (λ (m : List ℕ). store m words tags)
-    (part-back (start .args .memory .now) 64 (to .memory-at .ensures ∙ memoryAt-zero board01 board01-regular (start .args .frame)) (c .before .before .copy .ensures) (start .pre .1))
+    (part-back (start .args .memory .now) _ (to .memory-at .ensures .0 ∙ memoryAt-zero _ (start .pre .3) (start .args .frame)) (c .before .before .copy .ensures) (start .pre .1))
 
 pub device-write-spec : {M : Type 1} → statement M
 device-write-spec =

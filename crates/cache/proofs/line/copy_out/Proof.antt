@@ -7,7 +7,8 @@ use native.Mathlib.Omega.{arith}
 use Rattle.cache.specs.Store.{store}
 use Rattle.cache.specs.Cache.{copyOut}
 use Rattle.cache.proofs.Laws.Part.{length-part, part-lent, part-back}
-use Rattle.board.specs.Board.{board01, lines, memoryWords, cacheWords, lineAt, lineOffset, memoryAt}
+use Rattle.board.specs.Board.{lineAt, memoryAt}
+use Rattle.board.proofs.Geometry.{lineAt-end}
 use Rattle.cache.proofs.line.copy_out.Statement.{statement}
 use Rattle.cache.proofs.line.copy_out.Tie as tie
 
@@ -15,22 +16,18 @@ line-offset-requires : tie.Need-line-offset-requires
 line-offset-requires c κs = search needs
 
 memory-at-requires : tie.Need-memory-at-requires
-unfolding lineOffset
 memory-at-requires c κs = search needs
 
 add-end : tie.Need-add-end
-unfolding memoryAt lineOffset
 add-end c = search needs
 
 line-at-requires : tie.Need-line-at-requires
 line-at-requires c κs = search needs
 
 add-from-end : tie.Need-add-from-end
-unfolding lineAt lines
 add-from-end c = search needs
 
 mul-copy : tie.Need-mul-copy
-unfolding lineAt lines
 mul-copy c = search needs
 
 sub-copy : tie.Need-sub-copy
@@ -40,11 +37,9 @@ part-copy-start : tie.Need-part-copy-start
 part-copy-start c = search needs
 
 part-copy-end : tie.Need-part-copy-end
-unfolding lineAt lines cacheWords
 part-copy-end c = search needs
 
 mul-copy-2 : tie.Need-mul-copy-2
-unfolding memoryAt lineOffset
 mul-copy-2 c = search needs
 
 sub-copy-2 : tie.Need-sub-copy-2
@@ -54,7 +49,6 @@ part-copy-start-2 : tie.Need-part-copy-start-2
 part-copy-start-2 c = search needs
 
 part-copy-end-2 : tie.Need-part-copy-end-2
-unfolding memoryAt lineOffset memoryWords
 part-copy-end-2 c = search needs
 
 copy-requires : tie.Need-copy-requires
@@ -64,17 +58,17 @@ same-length : tie.Need-same-length
 same-length c = search needs
 
 returns : tie.Need-returns
-unfolding copyOut lines cacheWords
+unfolding copyOut
 returns c tags =
-    let to = c .before .before .before .before .before .before in
+    let to = c .before .before .before .before .before .before .before .before in
     let start = to .before .before .before .before in
+    let board = start .args .board in
     let words = start .args .words .now in
-    let line = start .args .line in
     ap (λ (m : List ℕ). store m words tags)
-    (part-back (start .args .memory .now) 8
-    (to .memory-at .ensures ∙ ap (memoryAt board01 (start .args .frame)) (to .before .line-offset .ensures))
-    (c .before .before .copy .ensures ∙ part-lent words 8 (c .before .before .before .before .before .line-at .ensures))
-    (length-part words (lineAt board01 line) 8 (omega (arith, start .pre))))
+    (part-back (start .args .memory .now) _
+    (to .memory-at .ensures .0 ∙ ap (memoryAt board (start .args .frame)) (to .before .line-offset .ensures .0))
+    (c .before .before .copy .ensures ∙ part-lent words _ (c .before .before .before .before .before .before .line-at .ensures .0))
+    (length-part words (lineAt board (start .args .line)) _ (omega (arith, start .pre, lineAt-end _ (start .pre .4) _ (start .pre .3)))))
 
 pub copy-out-spec : {M : Type 1} → statement M
 copy-out-spec =

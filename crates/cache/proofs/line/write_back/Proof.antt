@@ -6,8 +6,6 @@ use Prim.Native.Nat.{_-_}
 use native.Mathlib.Omega.{arith}
 use lib.ListN.{getD}
 use borrow.Author.Tests.{le-leb, lt-leb}
-use Rattle.board.specs.Board.{board01}
-use Rattle.board.proofs.Geometry.{board01-regular}
 use Rattle.cache.specs.Tag.{isDirty}
 use Rattle.cache.proofs.Laws.Tag.{dirty-frame, rules-at, rules-frame}
 use Rattle.cache.proofs.Laws.WriteBack.{writeBack-clean, writeBack-dirty}
@@ -26,11 +24,12 @@ copy-out-requires c κs =
     let start = c .before .before .before .before .before .before .before in
     let tag = getD (start .args .tags .now) (start .args .line) 0 in
     let dirty : isDirty tag ≡ true = le-leb 129 tag (omega (arith, c .before .before)) in
-    let keeps = rules-at board01 board01-regular (start .args .tags .now) (start .args .line) (start .pre .0 .tags-rules) in (
+    let keeps = rules-at _ (start .pre .2) (start .args .tags .now) (start .args .line) (start .pre .0 .tags-rules) in (
       start .pre .0 .memory-length,
       start .pre .0 .words-length,
-      omega (arith, c .before .before, dirty-frame tag dirty, rules-frame board01 board01-regular tag keeps dirty),
+      omega (arith, c .before .before, dirty-frame tag dirty, rules-frame _ (start .pre .2) tag keeps dirty),
       start .pre .1,
+      start .pre .2,
     )
 
 same-length : tie.Need-same-length
@@ -42,13 +41,13 @@ returns c =
     let start = here .before .before .before .before .before in
     let tags = start .args .tags .now in
     c .before .before .copy-out .ensures tags
-    ∙ sym (writeBack-dirty board01 board01-regular _ (start .pre .0) (start .args .line) (here .number .result - 129) (omega (arith, here)))
+    ∙ sym (writeBack-dirty _ (start .pre .2) _ (start .pre .0) (start .args .line) (here .number .result - 129) (omega (arith, here)))
 
 returns-2 : tie.Need-returns-2
 unfolding isDirty
 returns-2 c =
     let start = c .before .before .before .before .before .before in
-    sym (writeBack-clean board01 board01-regular _ (start .pre .0) (start .args .line) (lt-leb 129 (getD (start .args .tags .now) (start .args .line) 0) (omega arith)))
+    sym (writeBack-clean _ (start .pre .2) _ (start .pre .0) (start .args .line) (lt-leb 129 (getD (start .args .tags .now) (start .args .line) 0) (omega arith)))
 
 pub write-back-spec : {M : Type 1} → statement M
 write-back-spec =

@@ -1,8 +1,6 @@
 -- `cache::order::flush_line` meets its contract.
 use borrow.Author.Needs.{needs}
 use mathlib.Core.Path.{sym, _∙_}
-use Rattle.board.specs.Board.{board01}
-use Rattle.board.proofs.Geometry.{board01-regular}
 use Rattle.cache.proofs.Laws.Orders.{flushLine-named, flushLine-other}
 use Rattle.cache.proofs.order.flush_line.Statement.{statement}
 use Rattle.cache.proofs.order.flush_line.Tie as tie
@@ -26,12 +24,12 @@ returns : tie.Need-returns
 returns c =
     let start = c .before .before .before .before .before .before .before .before .before .before .before .before .before in
     let named = c .before .before .before .before .before .before .before .before in
-    c .before .before .before .before .evict .ensures ∙ sym (flushLine-named board01 board01-regular (start .args .frame) (start .args .line) _ (sym (named .names .ensures) ∙ c .before .before .before .before .before .before .before .if1 .taken))
+    c .before .before .before .before .evict .ensures ∙ sym (flushLine-named _ (start .pre .3) (start .args .frame) (start .args .line) _ (sym (named .names .ensures) ∙ c .before .before .before .before .before .before .before .if1 .taken))
 
 returns-2 : tie.Need-returns-2
 returns-2 c =
     let start = c .before .before .before .before .before .before in
-    sym (flushLine-other board01 board01-regular (start .args .frame) (start .args .line) _ (sym (c .before .names .ensures) ∙ c .if1 .left))
+    sym (flushLine-other _ (start .pre .3) (start .args .frame) (start .args .line) _ (sym (c .before .names .ensures) ∙ c .if1 .left))
 
 pub flush-line-spec : {M : Type 1} → statement M
 flush-line-spec =

@@ -1,8 +1,6 @@
 -- `cache::order::purge_line` meets its contract.
 use borrow.Author.Needs.{needs}
 use mathlib.Core.Path.{sym, _∙_}
-use Rattle.board.specs.Board.{board01}
-use Rattle.board.proofs.Geometry.{board01-regular}
 use Rattle.cache.specs.Cache.{empty}
 use Rattle.cache.proofs.Laws.Orders.{purgeLine-named, purgeLine-other}
 use Rattle.cache.proofs.order.purge_line.Statement.{statement}
@@ -22,10 +20,10 @@ same-length c = search needs
 
 returns : tie.Need-returns
 unfolding empty
-returns c memory words = sym (purgeLine-named board01 board01-regular (c .before .before .before .before .args .frame) (c .before .before .before .before .args .line) _ (sym (c .before .names .ensures) ∙ c .if1 .taken))
+returns c memory words = sym (purgeLine-named _ (c .before .before .before .before .pre .3) (c .before .before .before .before .args .frame) (c .before .before .before .before .args .line) _ (sym (c .before .names .ensures) ∙ c .if1 .taken))
 
 returns-2 : tie.Need-returns-2
-returns-2 c memory words = sym (purgeLine-other board01 board01-regular (c .before .before .before .before .args .frame) (c .before .before .before .before .args .line) _ (sym (c .before .names .ensures) ∙ c .if1 .left))
+returns-2 c memory words = sym (purgeLine-other _ (c .before .before .before .before .pre .3) (c .before .before .before .before .args .frame) (c .before .before .before .before .args .line) _ (sym (c .before .names .ensures) ∙ c .if1 .left))
 
 pub purge-line-spec : {M : Type 1} → statement M
 purge-line-spec =

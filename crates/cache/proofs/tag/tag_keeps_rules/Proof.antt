@@ -2,8 +2,6 @@
 use borrow.Author.Needs.{needs}
 use mathlib.Core.Path.{sym}
 use borrow.Author.Tests.{lt-leb, le-leb}
-use Rattle.board.specs.Board.{board01}
-use Rattle.board.proofs.Geometry.{board01-regular}
 use Rattle.cache.specs.Tag.{isDirty}
 use Rattle.cache.proofs.Laws.Tag.{rules-below, rules-above}
 use Rattle.cache.proofs.tag.tag_keeps_rules.Statement.{statement}
@@ -14,14 +12,14 @@ add-result c = search needs
 
 returns : tie.Need-returns
 unfolding isDirty
-returns c = sym (rules-below board01 board01-regular _ (lt-leb _ _ (c .if1 .taken)))
+returns c = sym (rules-below _ (c .before .before .pre) _ (lt-leb _ _ (c .before .if1 .taken)))
 
 add-result-2 : tie.Need-add-result-2
 add-result-2 c = search needs
 
 returns-2 : tie.Need-returns-2
 unfolding isDirty
-returns-2 c = sym (rules-above board01 board01-regular _ (le-leb _ _ (c .if1 .left)))
+returns-2 c = sym (rules-above _ (c .before .before .pre) _ (le-leb _ _ (c .before .if1 .left)))
 
 pub tag-keeps-rules-spec : {M : Type 1} → statement M
 tag-keeps-rules-spec = tie.close (tie.spec add-result returns add-result-2 returns-2)

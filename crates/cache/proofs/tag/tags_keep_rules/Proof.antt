@@ -7,19 +7,17 @@ use borrow.Author.Count.{below-none, below-more}
 use borrow.Author.Needs.{needs}
 use borrow.Author.Tests.{not-true, not-false}
 use lib.ListN.{length, getD}
-use Rattle.board.specs.Board.{board01}
-use Rattle.board.proofs.Geometry.{board01-regular}
 use Rattle.cache.proofs.Laws.Tag.{rules-all, rules-break}
 use Rattle.cache.specs.Tag.{tagKeepsRules}
 use Rattle.cache.proofs.tag.tags_keep_rules.Statement.{statement}
 use Rattle.cache.proofs.tag.tags_keep_rules.Tie as tie
 
 abbrev Inv-loop : tie.InvT-loop
-Inv-loop tags i₀ i =
-    (i ≤ length tags) × ((k : ℕ) → k < i → tagKeepsRules board01 (getD tags k 0) ≡ true)
+Inv-loop board tags i₀ i =
+    (i ≤ length tags) × ((k : ℕ) → k < i → tagKeepsRules board (getD tags k 0) ≡ true)
 
 abbrev μ-loop : tie.MeasureT-loop
-μ-loop tags i₀ i = length tags - i
+μ-loop board tags i₀ i = length tags - i
 
 loop-holds : tie.Need-loop-holds Inv-loop μ-loop
 loop-holds c = (search needs, below-none _)
@@ -31,7 +29,7 @@ tag-keeps-rules-requires : tie.Need-tag-keeps-rules-requires Inv-loop μ-loop
 tag-keeps-rules-requires c κs = search needs
 
 returns : tie.Need-returns Inv-loop μ-loop
-returns c = sym (rules-break board01 board01-regular _ (c .before .before .before .before .loop .i) (sym (c .before .tag-keeps-rules .ensures) ∙ not-true _ (c .if1 .taken)))
+returns c = sym (rules-break _ (c .before .before .before .before .before .before .pre) _ (c .before .before .before .before .loop .i) (sym (c .before .tag-keeps-rules .ensures) ∙ not-true _ (c .if1 .taken)))
 
 add-i : tie.Need-add-i Inv-loop μ-loop
 add-i c = search needs
@@ -43,7 +41,7 @@ loop-again : tie.Need-loop-again Inv-loop μ-loop
 loop-again c = (search needs, below-more _ _ (c .before .before .before .before .loop .inv .1) (sym (c .before .tag-keeps-rules .ensures) ∙ not-false _ (c .if1 .left)))
 
 returns-2 : tie.Need-returns-2 Inv-loop μ-loop
-returns-2 c = sym (rules-all board01 board01-regular _ (λ k h. c .before .loop .inv .1 k (omega arith)))
+returns-2 c = sym (rules-all _ (c .before .before .before .pre) _ (λ k h. c .before .loop .inv .1 k (omega arith)))
 
 pub tags-keep-rules-spec : {M : Type 1} → statement M
 tags-keep-rules-spec =

@@ -1,12 +1,13 @@
 -- `cache_cases::show::device_read` meets its contract.
 use borrow.Author.Needs.{needs}
+use Rattle.board.proofs.Geometry.{board01-regular}
 use Rattle.board.specs.Board.{memoryWords}
 use Rattle.cache_cases.proofs.show.device_read.Statement.{statement}
 use Rattle.cache_cases.proofs.show.device_read.Tie as tie
 
 device-read-requires : tie.Need-device-read-requires
 unfolding memoryWords
-device-read-requires c κs = search needs
+device-read-requires c κs = search (needs, board01-regular)
 
 slice-aggregate-write-all : tie.Need-slice-aggregate-write-all
 slice-aggregate-write-all c = search needs

@@ -1,11 +1,12 @@
 -- `cache_cases::show::evict` meets its contract.
 use borrow.Author.Needs.{needs}
+use Rattle.board.proofs.Geometry.{board01-regular}
 use Rattle.board.specs.Board.{cacheWords, lines, memoryWords}
 use Rattle.cache_cases.proofs.show.evict.Statement.{statement}
 use Rattle.cache_cases.proofs.show.evict.Tie as tie
 
 tags-keep-rules-requires : tie.Need-tags-keep-rules-requires
-tags-keep-rules-requires c κs = search needs
+tags-keep-rules-requires c κs = board01-regular
 
 evict-requires : tie.Need-evict-requires
 unfolding memoryWords cacheWords lines
@@ -17,6 +18,7 @@ evict-requires c κs = (
     tags-rules = cc;
   },
   search needs,
+  board01-regular,
 )
 
 slice-aggregate-write-all : tie.Need-slice-aggregate-write-all

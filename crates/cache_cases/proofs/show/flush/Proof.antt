@@ -1,11 +1,12 @@
 -- `cache_cases::show::flush` meets its contract.
 use borrow.Author.Needs.{needs}
+use Rattle.board.proofs.Geometry.{board01-regular}
 use Rattle.board.specs.Board.{cacheWords, lines, memoryWords}
 use Rattle.cache_cases.proofs.show.flush.Statement.{statement}
 use Rattle.cache_cases.proofs.show.flush.Tie as tie
 
 tags-keep-rules-requires : tie.Need-tags-keep-rules-requires
-tags-keep-rules-requires c κs = search needs
+tags-keep-rules-requires c κs = board01-regular
 
 flush-requires : tie.Need-flush-requires
 unfolding memoryWords cacheWords lines
@@ -18,6 +19,7 @@ flush-requires c κs = (
   },
   search needs,
   search needs,
+  board01-regular,
 )
 
 slice-aggregate-write-all : tie.Need-slice-aggregate-write-all

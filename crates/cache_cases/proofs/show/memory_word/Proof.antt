@@ -1,11 +1,12 @@
 -- `cache_cases::show::memory_word` meets its contract.
 use borrow.Author.Needs.{needs}
+use Rattle.board.proofs.Geometry.{board01-regular}
 use Rattle.board.specs.Board.{memoryAt}
 use Rattle.cache_cases.proofs.show.memory_word.Statement.{statement}
 use Rattle.cache_cases.proofs.show.memory_word.Tie as tie
 
 memory-at-requires : tie.Need-memory-at-requires
-memory-at-requires c κs = search needs
+memory-at-requires c κs = search (needs, board01-regular)
 
 slice-aggregate-write-all : tie.Need-slice-aggregate-write-all
 slice-aggregate-write-all c = search needs

@@ -1,12 +1,13 @@
 -- `cache_cases::show::purge` meets its contract.
 use borrow.Author.Needs.{needs}
+use Rattle.board.proofs.Geometry.{board01-regular}
 use Rattle.board.specs.Board.{lines}
 use Rattle.cache_cases.proofs.show.purge.Statement.{statement}
 use Rattle.cache_cases.proofs.show.purge.Tie as tie
 
 purge-requires : tie.Need-purge-requires
 unfolding lines
-purge-requires c κs = search needs
+purge-requires c κs = search (needs, board01-regular)
 
 slice-aggregate-write-all : tie.Need-slice-aggregate-write-all
 slice-aggregate-write-all c = search needs

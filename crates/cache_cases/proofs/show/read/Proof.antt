@@ -1,11 +1,12 @@
 -- `cache_cases::show::read` meets its contract.
 use borrow.Author.Needs.{needs}
+use Rattle.board.proofs.Geometry.{board01-regular}
 use Rattle.board.specs.Board.{cacheWords, lineOf, lines, memoryWords}
 use Rattle.cache_cases.proofs.show.read.Statement.{statement}
 use Rattle.cache_cases.proofs.show.read.Tie as tie
 
 tags-keep-rules-requires : tie.Need-tags-keep-rules-requires
-tags-keep-rules-requires c κs = search needs
+tags-keep-rules-requires c κs = board01-regular
 
 read-word-requires : tie.Need-read-word-requires
 unfolding memoryWords cacheWords lines
@@ -19,10 +20,11 @@ read-word-requires c κs = (
   search needs,
   search needs,
   search needs,
+  board01-regular,
 )
 
 line-of-requires : tie.Need-line-of-requires
-line-of-requires c κs = search needs
+line-of-requires c κs = search (needs, board01-regular)
 
 slice-aggregate-write-all : tie.Need-slice-aggregate-write-all
 slice-aggregate-write-all c = search needs

@@ -1,11 +1,12 @@
 -- `cache_cases::show::write` meets its contract.
 use borrow.Author.Needs.{needs}
+use Rattle.board.proofs.Geometry.{board01-regular}
 use Rattle.board.specs.Board.{cacheWords, lineOf, lines, memoryAt, memoryWords}
 use Rattle.cache_cases.proofs.show.write.Statement.{statement}
 use Rattle.cache_cases.proofs.show.write.Tie as tie
 
 tags-keep-rules-requires : tie.Need-tags-keep-rules-requires
-tags-keep-rules-requires c κs = search needs
+tags-keep-rules-requires c κs = board01-regular
 
 write-word-requires : tie.Need-write-word-requires
 unfolding memoryWords cacheWords lines
@@ -19,13 +20,14 @@ write-word-requires c κs = (
   search needs,
   search needs,
   search needs,
+  board01-regular,
 )
 
 line-of-requires : tie.Need-line-of-requires
-line-of-requires c κs = search needs
+line-of-requires c κs = search (needs, board01-regular)
 
 memory-at-requires : tie.Need-memory-at-requires
-memory-at-requires c κs = search needs
+memory-at-requires c κs = search (needs, board01-regular)
 
 slice-aggregate-write-all : tie.Need-slice-aggregate-write-all
 slice-aggregate-write-all c = search needs

@@ -1,6 +1,5 @@
 -- `machine::operate` meets its contract.
 use mathlib.Core.Path.{subst}
-use Rattle.board.specs.Board.{board01}
 use Rattle.page_model.specs.Step.{OpBelow}
 use Rattle.machine.specs.Step.{operate}
 use borrow.Author.Needs.{needs}
@@ -16,7 +15,7 @@ enum-known-op c = search needs
 flush-requires : tie.Need-flush-requires
 flush-requires c κs =
     let s = c .before .before .before .before .before .before .before .before in
-    (s .pre .0, s .pre .1, subst (OpBelow (board01 .colours)) (c .before .before .before .op .given .1) (s .pre .2))
+    (s .pre .0, s .pre .1, subst (OpBelow (s .args .board .colours)) (c .before .before .before .op .given .1) (s .pre .2), s .pre .3)
 
 enum-known-op-2 : tie.Need-enum-known-op-2
 enum-known-op-2 c = search needs
@@ -24,7 +23,7 @@ enum-known-op-2 c = search needs
 purge-requires : tie.Need-purge-requires
 purge-requires c κs =
     let s = c .before .before .before .before .before .before .before in
-    (s .pre .0 .tags-length, s .pre .1, subst (OpBelow (board01 .colours)) (c .before .before .op2 .given .1) (s .pre .2))
+    (s .pre .0 .tags-length, s .pre .1, subst (OpBelow (s .args .board .colours)) (c .before .before .op2 .given .1) (s .pre .2), s .pre .3)
 
 returns : tie.Need-returns
 unfolding operate

@@ -1,6 +1,5 @@
 -- `machine::receive` meets its contract.
 use mathlib.Core.Path.{ap, _∙_}
-use Rattle.board.specs.Board.{board01}
 use Rattle.cache.specs.Cache.{deviceWrite}
 use borrow.Author.Needs.{needs}
 use Rattle.machine.proofs.orders.receive.Statement.{statement}
@@ -21,7 +20,7 @@ same-length-2 c = search needs
 returns : tie.Need-returns
 returns c =
     let s = c .before .before .before .before .before .before .before .before .before .before .before .before .before .before .before in
-    c .before .before .device-write .ensures _ _ ∙ ap (deviceWrite board01 (s .args .frame) (s .args .buffer .now)) (c .before .before .before .before .before .before .before .before .carry-out .ensures)
+    c .before .before .device-write .ensures _ _ ∙ ap (deviceWrite (s .args .board) (s .args .frame) (s .args .buffer .now)) (c .before .before .before .before .before .before .before .before .carry-out .ensures)
 
 pub receive-spec : {M : Type 1} → statement M
 receive-spec =

@@ -1,6 +1,5 @@
 -- `machine::send` meets its contract.
 use mathlib.Core.Path.{ap, _∙_}
-use Rattle.board.specs.Board.{board01}
 use Rattle.cache.specs.Cache.{deviceRead}
 use borrow.Author.Needs.{needs}
 use Rattle.machine.proofs.orders.send.Statement.{statement}
@@ -24,7 +23,7 @@ same-length-3 c = search needs
 returns : tie.Need-returns
 returns c =
     let s = c .before .before .before .before .before .before .before .before .before .before .before .before .before .before .before .before in
-    (c .before .before .before .before .before .before .before .before .before .carry-out .ensures, c .before .before .device-read .ensures _ _ ∙ ap (deviceRead board01 (s .args .frame)) (c .before .before .before .before .before .before .before .before .before .carry-out .ensures))
+    (c .before .before .before .before .before .before .before .before .before .carry-out .ensures, c .before .before .device-read .ensures _ _ ∙ ap (deviceRead (s .args .board) (s .args .frame)) (c .before .before .before .before .before .before .before .before .before .carry-out .ensures))
 
 pub send-spec : {M : Type 1} → statement M
 send-spec =

@@ -4,7 +4,6 @@ use mathlib.Core.Bool.{Bool, true, cond}
 use mathlib.Core.List.{List, [], _∷_}
 use borrow.Author.Tests.{le-leb, lt-leb}
 use lib.Dec.{leb}
-use Rattle.board.specs.Board.{board01}
 use Rattle.manager.specs.Refusals.{Cause, _if_, firstRefusal}
 use Rattle.manager.proofs.CauseLaws.{refusal-prefix, refusal-rest}
 use Rattle.cache.specs.Store.{Store, store}
@@ -22,18 +21,18 @@ abbrev own : tie.Start → List Cause
 own s = (6 if leb (s .args .limit) (s .args .offset)) ∷ []
 
 -- past the store's causes it decides
-rest : (c : tie.Else1) → firstRefusal (own (c .before .before .before .before .before)) ≡ firstRefusal (accessCauses board01 (S (c .before .before .before .before .before)) (c .before .before .before .before .before .args .limit) (c .before .before .before .before .before .args .offset))
+rest : (c : tie.Else1) → firstRefusal (own (c .before .before .before .before .before)) ≡ firstRefusal (accessCauses (c .before .before .before .before .before .args .board) (S (c .before .before .before .before .before)) (c .before .before .before .before .before .args .limit) (c .before .before .before .before .before .args .offset))
 unfolding accessCauses
 rest c =
     let s = c .before .before .before .before .before in
-    refusal-rest (storeCauses board01 (S s) true) (own s) refl (sym (c .before .store-refusal .ensures) ∙ c .if1 .left)
+    refusal-rest (storeCauses (s .args .board) (S s) true) (own s) refl (sym (c .before .store-refusal .ensures) ∙ c .if1 .left)
 
 store-refusal-requires : tie.Need-store-refusal-requires
 store-refusal-requires c κs = search needs
 
 returns : tie.Need-returns
 unfolding firstRefusal accessCauses
-returns c = c .before .store-refusal .ensures ∙ refusal-prefix (storeCauses board01 (S (c .before .before .before .before .before)) true) (own (c .before .before .before .before .before)) (λ z. c .if1 .taken (c .before .store-refusal .ensures ∙ z))
+returns c = c .before .store-refusal .ensures ∙ refusal-prefix (storeCauses (c .before .before .before .before .before .args .board) (S (c .before .before .before .before .before)) true) (own (c .before .before .before .before .before)) (λ z. c .if1 .taken (c .before .store-refusal .ensures ∙ z))
 
 returns-2 : tie.Need-returns-2
 unfolding firstRefusal accessCauses

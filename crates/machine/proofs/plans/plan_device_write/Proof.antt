@@ -1,6 +1,5 @@
 -- `machine::plan_device_write` meets its contract.
 use mathlib.Core.Path.{ap₂, _∙_}
-use Rattle.board.specs.Board.{board01}
 use Rattle.manager.specs.Tables.{tables}
 use Rattle.cache.specs.Store.{store}
 use Rattle.machine.specs.State.{State, state}
@@ -26,7 +25,7 @@ with-step-requires c κs = search needs
 returns : tie.Need-returns
 returns c =
     let s = c .before .before .before .before .before .before .before .before .before in
-    c .with-step .ensures ∙ ap₂ withStep (c .before .before .transfer-refusal .ensures) (c .before .plan-device-write .ensures) ∙ withStep-merged _ _ _ (deviceWrite-merge board01 (St s) (s .args .frame) (s .args .buffer .now))
+    c .with-step .ensures ∙ ap₂ withStep (c .before .before .transfer-refusal .ensures) (c .before .plan-device-write .ensures) ∙ withStep-merged _ _ _ (deviceWrite-merge _ (St s) (s .args .frame) (s .args .buffer .now))
 
 pub plan-device-write-spec : {M : Type 1} → statement M
 plan-device-write-spec =

@@ -1,6 +1,5 @@
 -- `machine::plan_unmap` meets its contract.
 use mathlib.Core.Path.{ap₂, _∙_}
-use Rattle.board.specs.Board.{board01}
 use Rattle.manager.specs.Tables.{tables}
 use Rattle.cache.specs.Store.{store}
 use Rattle.machine.specs.State.{State, state}
@@ -26,7 +25,7 @@ with-place-requires c κs = search needs
 returns : tie.Need-returns
 returns c =
     let s = c .before .before .before .before .before .before .before .before in
-    c .with-place .ensures ∙ ap₂ withPlace (c .before .before .store-refusal .ensures) (c .before .plan-unmap .ensures) ∙ withPlace-merged _ _ _ (unmap-merge board01 (St s) (s .args .space) (s .args .page))
+    c .with-place .ensures ∙ ap₂ withPlace (c .before .before .store-refusal .ensures) (c .before .plan-unmap .ensures) ∙ withPlace-merged _ _ _ (unmap-merge _ (St s) (s .args .space) (s .args .page))
 
 pub plan-unmap-spec : {M : Type 1} → statement M
 plan-unmap-spec =

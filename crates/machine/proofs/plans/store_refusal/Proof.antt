@@ -2,7 +2,6 @@
 use mathlib.Core.Path.{_≡_, sym, _∙_}
 use mathlib.Core.Bool.{true}
 use borrow.Author.Tests.{ne-eqb, not-true, not-false}
-use Rattle.board.specs.Board.{board01, memoryWords, cacheWords, lines}
 use Rattle.manager.specs.Refusals.{firstRefusal}
 use Rattle.cache.specs.Store.{Store, store}
 use Rattle.machine.specs.Refusals.{storeLengths}
@@ -17,21 +16,30 @@ abbrev S : tie.Start → Store
 S s = store (s .args .memory .now) (s .args .words .now) (s .args .tags .now)
 
 -- past the three tests the lengths are right
-lengths : (c : tie.Else3) → storeLengths board01 (S (c .before .before .before .before .before .before)) ≡ true
-unfolding memoryWords cacheWords lines
-lengths c = lengths-right board01 (S (c .before .before .before .before .before .before)) (c .before .before .if1 .left) (c .before .if2 .left) (c .if3 .left)
+lengths : (c : tie.Else3) → storeLengths (c .before .before .before .before .before .before .before .before .before .args .board) (S (c .before .before .before .before .before .before .before .before .before)) ≡ true
+lengths c =
+    lengths-right _ (S (c .before .before .before .before .before .before .before .before .before)) (c .before .before .before .before .if1 .left ∙ c .before .before .before .before .before .memory-words .ensures) (c .before .before .if2 .left ∙ c .before .before .before .cache-words .ensures) (c .if3 .left ∙ c .before .lines .ensures)
+
+memory-words-requires : tie.Need-memory-words-requires
+memory-words-requires c κs = search needs
 
 returns : tie.Need-returns
-unfolding firstRefusal storeCauses memoryWords
-returns c = rw (lengths-memory board01 (S (c .before .before .before .before)) (ne-eqb _ _ (c .if1 .taken)))
+unfolding firstRefusal storeCauses
+returns c = let s = c .before .before .before .before .before in rw (lengths-memory (s .args .board) (S s) (ne-eqb _ _ (λ e. c .if1 .taken (e ∙ sym (c .before .memory-words .ensures)))))
+
+cache-words-requires : tie.Need-cache-words-requires
+cache-words-requires c κs = search needs
 
 returns-2 : tie.Need-returns-2
-unfolding firstRefusal storeCauses cacheWords
-returns-2 c = rw (lengths-words board01 (S (c .before .before .before .before .before)) (ne-eqb _ _ (c .if2 .taken)))
+unfolding firstRefusal storeCauses
+returns-2 c = let s = c .before .before .before .before .before .before .before in rw (lengths-words (s .args .board) (S s) (ne-eqb _ _ (λ e. c .if2 .taken (e ∙ sym (c .before .cache-words .ensures)))))
+
+lines-requires : tie.Need-lines-requires
+lines-requires c κs = search needs
 
 returns-3 : tie.Need-returns-3
-unfolding firstRefusal storeCauses lines
-returns-3 c = rw (lengths-tags board01 (S (c .before .before .before .before .before .before)) (ne-eqb _ _ (c .if3 .taken)))
+unfolding firstRefusal storeCauses
+returns-3 c = let s = c .before .before .before .before .before .before .before .before .before in rw (lengths-tags (s .args .board) (S s) (ne-eqb _ _ (λ e. c .if3 .taken (e ∙ sym (c .before .lines .ensures)))))
 
 tags-keep-rules-requires : tie.Need-tags-keep-rules-requires
 tags-keep-rules-requires c κs = search needs
@@ -46,4 +54,4 @@ returns-5 c = rw (lengths (c .before .before), sym (c .before .tags-keep-rules .
 
 pub store-refusal-spec : {M : Type 1} → statement M
 store-refusal-spec =
-    tie.close (tie.spec returns returns-2 returns-3 tags-keep-rules-requires returns-4 returns-5)
+    tie.close (tie.spec memory-words-requires returns cache-words-requires returns-2 lines-requires returns-3 tags-keep-rules-requires returns-4 returns-5)

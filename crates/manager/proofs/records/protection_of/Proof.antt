@@ -1,9 +1,6 @@
 -- `manager::protection_of` meets its contract.
-use mathlib.Core.Path.{_≡_, sym, ap, subst⁻¹, _∙_}
-use Prim.Native.Nat.{ℕ, _<_}
+use mathlib.Core.Path.{_≡_, sym, ap, _∙_}
 use borrow.Author.Tests.{eq-eqb, ne-eqb, not-true, not-false}
-use Rattle.board.specs.Board.{board01}
-use Rattle.board.proofs.Geometry.{board01-regular, colourOf-lt}
 use Rattle.page_model.specs.Record.{stateOf, isHeld, isDirty}
 use Rattle.manager.specs.Tables.{mappingState}
 use Rattle.manager.proofs.Laws.{state-at, protection-none, protection-rights, protection-clean, protection-write}
@@ -12,17 +9,14 @@ use Rattle.manager.proofs.records.protection_of.Statement.{statement}
 use Rattle.manager.proofs.records.protection_of.Tie as tie
 
 -- the state of the mapping's colour
-state : (c : tie.After-colour-of) → stateOf (c .before .before .record-at .result) (c .colour-of .result) ≡ mappingState board01 (c .before .before .before .before .args .records .now) (c .before .before .before .before .args .m)
-state c = state-at board01 _ _ (c .before .before .record-at .ensures) (c .colour-of .ensures)
+state : (c : tie.After-colour-of) → stateOf (c .before .before .record-at .result) (c .colour-of .result) ≡ mappingState (c .before .before .before .before .args .board) (c .before .before .before .before .args .records .now) (c .before .before .before .before .args .m)
+state c = state-at _ _ _ (c .before .before .record-at .ensures) (c .colour-of .ensures .0)
 
-held : (c : tie.After-holds) → isHeld (mappingState board01 (c .before .before .before .before .before .args .records .now) (c .before .before .before .before .before .args .m)) ≡ c .holds .result
+held : (c : tie.After-holds) → isHeld (mappingState (c .before .before .before .before .before .args .board) (c .before .before .before .before .before .args .records .now) (c .before .before .before .before .before .args .m)) ≡ c .holds .result
 held c = sym (c .holds .ensures ∙ ap isHeld (state (c .before)))
 
-dirty : (c : tie.After-holds-dirty) → isDirty (mappingState board01 (c .before .before .before .before .before .before .before .before .before .args .records .now) (c .before .before .before .before .before .before .before .before .before .args .m)) ≡ c .holds-dirty .result
+dirty : (c : tie.After-holds-dirty) → isDirty (mappingState (c .before .before .before .before .before .before .before .before .before .args .board) (c .before .before .before .before .before .before .before .before .before .args .records .now) (c .before .before .before .before .before .before .before .before .before .args .m)) ≡ c .holds-dirty .result
 dirty c = sym (c .holds-dirty .ensures ∙ ap isDirty (state (c .before .before .before .before .before)))
-
-below : (c : tie.After-colour-of) → c .colour-of .result < board01 .colours
-below c = subst⁻¹ (λ (k : ℕ). k < board01 .colours) (c .colour-of .ensures) (colourOf-lt board01 board01-regular _)
 
 record-at-requires : tie.Need-record-at-requires
 record-at-requires c κs = search needs
@@ -34,7 +28,7 @@ colour-of-requires : tie.Need-colour-of-requires
 colour-of-requires c κs = search needs
 
 holds-requires : tie.Need-holds-requires
-holds-requires c κs = below c
+holds-requires c κs = search needs
 
 returns : tie.Need-returns
 returns c = protection-none _ _ (held (c .before) ∙ not-true _ (c .if1 .taken))
@@ -43,7 +37,7 @@ returns-2 : tie.Need-returns-2
 returns-2 c = protection-rights _ _ (held (c .before .before .before) ∙ not-false _ (c .before .before .if1 .left)) (ne-eqb _ _ (c .if2 .taken))
 
 holds-dirty-requires : tie.Need-holds-dirty-requires
-holds-dirty-requires c κs = below (c .before .before .before .before)
+holds-dirty-requires c κs = search needs
 
 returns-3 : tie.Need-returns-3
 returns-3 c = protection-write _ _ (dirty (c .before) ∙ c .if3 .taken) (eq-eqb _ _ (c .before .before .if2 .left))

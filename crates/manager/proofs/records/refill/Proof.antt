@@ -6,17 +6,16 @@ use mathlib.Core.Path.{_≡_, refl}
 use Prim.Native.Nat.{ℕ, _<_, _-_}
 use native.Mathlib.Omega.{arith}
 use lib.ListN.{length, getD}
-use Rattle.board.specs.Board.{board01}
 use Rattle.manager.specs.Tables.{protectionAt}
 use Rattle.manager.proofs.Laws.{is-tabulate}
 use Rattle.manager.proofs.records.refill.Statement.{statement}
 use Rattle.manager.proofs.records.refill.Tie as tie
 
 abbrev Inv-loop : tie.InvT-loop
-Inv-loop list records protections₀ i₀ protections i = (length protections ≡ length protections₀) × ((k : ℕ) → k < i → getD protections k 0 ≡ protectionAt board01 list records k)
+Inv-loop board list records protections₀ i₀ protections i = (length protections ≡ length protections₀) × ((k : ℕ) → k < i → getD protections k 0 ≡ protectionAt board list records k)
 
 abbrev μ-loop : tie.MeasureT-loop
-μ-loop list records protections₀ i₀ protections i = length protections₀ - i
+μ-loop board list records protections₀ i₀ protections i = length protections₀ - i
 
 loop-holds : tie.Need-loop-holds Inv-loop μ-loop
 loop-holds c = (refl, λ k l. absurd (omega arith))

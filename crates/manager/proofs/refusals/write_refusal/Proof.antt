@@ -4,7 +4,6 @@ use mathlib.Core.Bool.{Bool, cond}
 use mathlib.Core.List.{List, [], _∷_}
 use borrow.Author.Tests.{eq-eqb, ne-eqb}
 use lib.Dec.{eqb}
-use Rattle.board.specs.Board.{board01}
 use Rattle.mapping.specs.declared.Mapping.{Mapping}
 use Rattle.mapping.specs.Entry.{readOnly}
 use Rattle.manager.specs.Refusals.{Cause, _if_, firstRefusal, pageCauses, writeCauses, mappingOf}
@@ -23,18 +22,18 @@ abbrev own : tie.Start → List Cause
 own s = (10 if eqb (mappingOf (s .args .list) (s .args .space) (s .args .page) .rights) readOnly) ∷ []
 
 -- past the causes of a read it decides
-rest : (c : tie.Else1) → firstRefusal (own (c .before .before .before .before)) ≡ firstRefusal (writeCauses board01 (T (c .before .before .before .before)) (c .before .before .before .before .args .space) (c .before .before .before .before .args .page))
+rest : (c : tie.Else1) → firstRefusal (own (c .before .before .before .before)) ≡ firstRefusal (writeCauses (c .before .before .before .before .args .board) (T (c .before .before .before .before)) (c .before .before .before .before .args .space) (c .before .before .before .before .args .page))
 unfolding writeCauses
 rest c =
     let s = c .before .before .before .before in
-    refusal-rest (pageCauses board01 (T s) (s .args .space) (s .args .page)) (own s) refl (sym (c .before .page-refusal .ensures) ∙ c .if1 .left)
+    refusal-rest (pageCauses (s .args .board) (T s) (s .args .space) (s .args .page)) (own s) refl (sym (c .before .page-refusal .ensures) ∙ c .if1 .left)
 
 page-refusal-requires : tie.Need-page-refusal-requires
 page-refusal-requires c κs = search needs
 
 returns : tie.Need-returns
 unfolding firstRefusal writeCauses
-returns c = c .before .page-refusal .ensures ∙ refusal-prefix (pageCauses board01 (T (c .before .before .before .before)) (c .before .before .before .before .args .space) (c .before .before .before .before .args .page)) (own (c .before .before .before .before)) (λ z. c .if1 .taken (c .before .page-refusal .ensures ∙ z))
+returns c = c .before .page-refusal .ensures ∙ refusal-prefix (pageCauses (c .before .before .before .before .args .board) (T (c .before .before .before .before)) (c .before .before .before .before .args .space) (c .before .before .before .before .args .page)) (own (c .before .before .before .before)) (λ z. c .if1 .taken (c .before .page-refusal .ensures ∙ z))
 
 mapping-of-requires : tie.Need-mapping-of-requires
 mapping-of-requires c κs = search needs

@@ -26,21 +26,21 @@ cast-if3 c = search needs
 returns-3 : tie.Need-returns-3
 unfolding inRange
 returns-3 c =
-    let at2 = c .before .before in
+    let at2 = c .before .before .before in
     simp (lt-ltb _ _ (at2 .before .before .if1 .left), lt-ltb _ _ (at2 .if2 .left), le-ltb _ _ (c .if3 .taken))
 
 returns-4 : tie.Need-returns-4
 unfolding inRange
 returns-4 c =
     let at3 = c .before .before in
-    let at2 = at3 .before .before in
+    let at2 = at3 .before .before .before in
     chain-last _ _ _ _ _ (lt-ltb _ _ (at2 .before .before .if1 .left)) (lt-ltb _ _ (at2 .if2 .left)) (lt-ltb _ _ (at3 .if3 .left)) (simp (eq-eqb _ _ (c .if4 .taken)))
 
 returns-5 : tie.Need-returns-5
 unfolding inRange
 returns-5 c =
     let at3 = c .before .before .before in
-    let at2 = at3 .before .before in
+    let at2 = at3 .before .before .before in
     chain-last _ _ _ _ _ (lt-ltb _ _ (at2 .before .before .if1 .left)) (lt-ltb _ _ (at2 .if2 .left)) (lt-ltb _ _ (at3 .if3 .left)) (or-second _ _ (ne-eqb _ _ (c .before .if4 .left)))
 
 pub in-range-spec : {M : Type 1} → statement M

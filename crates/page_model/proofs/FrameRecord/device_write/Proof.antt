@@ -19,10 +19,10 @@ to-requires : tie.Need-to-requires
 to-requires c κs = search needs
 
 returns : tie.Need-returns
-returns c =
+returns c n few rules =
     let at-if = c .before .before .before in
     let s = at-if .before .before in
-    c .to .ensures ∙ simp (c .before .before .present .ensures, at-if .if-dirty .ensures, at-if .before .dirty-colour .ensures) (device-write-step _ _ (keeps _ _ (s .pre)))
+    c .to .ensures ∙ simp (c .before .before .present .ensures, at-if .if-dirty .ensures, at-if .before .dirty-colour .ensures) (device-write-step n _ few _ (keeps n _ rules))
 
 pub device-write-spec : {M : Type 1} → statement M
 device-write-spec =

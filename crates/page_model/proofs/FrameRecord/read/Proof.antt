@@ -15,9 +15,9 @@ unchanged-requires : tie.Need-unchanged-requires
 unchanged-requires c κs = search needs
 
 returns : tie.Need-returns
-returns c =
+returns c n few lc rules =
     let s = c .before .before .before in
-    c .unchanged .ensures ∙ idle-step _ _ _ (read-idle _ _ (keeps _ _ (s .pre .0)) _ (s .pre .1) (sym (c .before .before .bit .ensures) ∙ c .before .if1 .taken))
+    c .unchanged .ensures ∙ idle-step _ _ _ (read-idle n _ (keeps n _ rules) _ lc (sym (c .before .before .bit .ensures) ∙ c .before .if1 .taken))
 
 dirty-colour-requires : tie.Need-dirty-colour-requires
 dirty-colour-requires c κs = search needs
@@ -41,7 +41,7 @@ to-requires : tie.Need-to-requires
 to-requires c κs = search needs
 
 returns-2 : tie.Need-returns-2
-returns-2 c =
+returns-2 c n few lc rules =
     let at-without = c .before in
     let at-present = at-without .before .before in
     let at-purge = at-present .before in
@@ -52,7 +52,7 @@ returns-2 c =
     c .to .ensures
     ∙ simp
     (at-without .without-bit .ensures, at-without .before .with-bit .ensures, at-present .present .ensures, at-purge .purge-stale .ensures, at-if .if-dirty .ensures, at-colour .dirty-colour .ensures)
-    (read-step _ _ (keeps _ _ (s .pre .0)) _ (s .pre .1) (sym (at-else .before .bit .ensures) ∙ at-else .if1 .left))
+    (read-step n _ few _ (keeps n _ rules) _ lc (sym (at-else .before .bit .ensures) ∙ at-else .if1 .left))
 
 pub read-spec : {M : Type 1} → statement M
 read-spec =
