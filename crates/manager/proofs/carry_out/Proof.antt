@@ -26,8 +26,9 @@ same-length-2 c = search needs
 
 returns-2 : tie.Need-returns-2
 returns-2 c =
-    let change = c .before .before .before .before .before .before .before .before .before .before .plan2 .given .0 .0 in
-    rw (c .before .before .before .before .before .before .before .before .before .before .plan2 .given .1) (ap (result (accepted (change .frame) (change .ops))) (c .before .before .before .before .commit-change .ensures))
+    let after-plan2 = c .before .before .before .before .before .before .before .before .before .before in
+    let change = after-plan2 .plan2 .given .0 .0 in
+    rw (after-plan2 .plan2 .given .1) (ap (result (accepted (change .frame) (change .ops))) (c .before .before .before .before .commit-change .ensures))
 
 pub carry-out-spec : {M : Type 1} → statement M
 carry-out-spec =

@@ -18,7 +18,9 @@ same-length-2 c = search needs
 
 returns : tie.Need-returns
 unfolding refill
-returns c = rw (c .before .before .refill .ensures, c .before .before .before .before .before .before .before .put-record .ensures)
+returns c =
+    let after-put-record = c .before .before .before .before .before .before .before in
+    rw (c .before .before .refill .ensures, after-put-record .put-record .ensures)
 
 pub commit-change-spec : {M : Type 1} → statement M
 commit-change-spec =

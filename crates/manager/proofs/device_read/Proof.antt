@@ -20,7 +20,9 @@ same-length-2 : tie.Need-same-length-2
 same-length-2 c = search needs
 
 returns : tie.Need-returns
-returns c = c .before .before .before .before .carry-out .ensures ∙ ap (stepResult board01 _) (c .before .before .before .before .before .before .before .plan-device-read .ensures)
+returns c =
+    let after-plan-device-read = c .before .before .before .before .before .before .before in
+    c .before .before .before .before .carry-out .ensures ∙ ap (stepResult board01 _) (after-plan-device-read .plan-device-read .ensures)
 
 pub device-read-spec : {M : Type 1} → statement M
 device-read-spec =

@@ -20,7 +20,9 @@ same-length-2 : tie.Need-same-length-2
 same-length-2 c = search needs
 
 returns : tie.Need-returns
-returns c = c .before .before .before .before .carry-out .ensures ∙ ap (stepResult board01 _) (c .before .before .before .before .before .before .before .plan-device-write .ensures)
+returns c =
+    let after-plan-device-write = c .before .before .before .before .before .before .before in
+    c .before .before .before .before .carry-out .ensures ∙ ap (stepResult board01 _) (after-plan-device-write .plan-device-write .ensures)
 
 pub device-write-spec : {M : Type 1} → statement M
 device-write-spec =

@@ -35,7 +35,9 @@ same-length-2 : tie.Need-same-length-2
 same-length-2 c = search needs
 
 returns-2 : tie.Need-returns-2
-returns-2 c = rw (c .listed-as .ensures .0, c .listed-as .ensures .1, sym (c .before .before .before .before .before .before .before .plan-map .ensures) ∙ c .before .before .before .before .before .enum-told .given .1) (ap (result (accepted 0 noOps)) (c .before .before .before .commit-map .ensures))
+returns-2 c =
+    let after-plan-map = c .before .before .before .before .before .before .before in
+    rw (c .listed-as .ensures .0, c .listed-as .ensures .1, sym (after-plan-map .plan-map .ensures) ∙ c .before .before .before .before .before .enum-told .given .1) (ap (result (accepted 0 noOps)) (c .before .before .before .commit-map .ensures))
 
 pub map-spec : {M : Type 1} → statement M
 map-spec =

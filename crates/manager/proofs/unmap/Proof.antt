@@ -35,7 +35,10 @@ same-length-2 : tie.Need-same-length-2
 same-length-2 c = search needs
 
 returns-2 : tie.Need-returns-2
-returns-2 c = rw (c .listed-as .ensures .0, c .listed-as .ensures .1, sym (c .before .before .before .before .before .before .before .before .plan-unmap .ensures) ∙ c .before .before .before .before .before .before .plan2 .given .1) (ap (result (accepted 0 noOps)) (c .before .before .before .commit-unmap .ensures))
+returns-2 c =
+    let after-plan2 = c .before .before .before .before .before .before in
+    let after-plan-unmap = after-plan2 .before .before in
+    rw (c .listed-as .ensures .0, c .listed-as .ensures .1, sym (after-plan-unmap .plan-unmap .ensures) ∙ after-plan2 .plan2 .given .1) (ap (result (accepted 0 noOps)) (c .before .before .before .commit-unmap .ensures))
 
 pub unmap-spec : {M : Type 1} → statement M
 unmap-spec =

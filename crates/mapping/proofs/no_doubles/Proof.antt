@@ -48,7 +48,9 @@ is-at-requires c κs = search needs
 
 returns : tie.Need-returns Inv-loop2 μ-loop2 Inv-loop μ-loop
 unfolding fresh noDoubles
-returns c = sym (all-not _ _ (c .before .before .before .before .before .before .before .loop .i) (search needs) (all-not _ _ (c .before .before .before .before .loop2 .j) (search needs) (ap not (sym (c .before .is-at .ensures) ∙ c .if1 .taken))))
+returns c =
+    let at-loop = c .before .before .before .before .before .before .before in
+    sym (all-not _ _ (at-loop .loop .i) (search needs) (all-not _ _ (c .before .before .before .before .loop2 .j) (search needs) (ap not (sym (c .before .is-at .ensures) ∙ c .if1 .taken))))
 
 add-j : tie.Need-add-j Inv-loop2 μ-loop2 Inv-loop μ-loop
 add-j c = search needs

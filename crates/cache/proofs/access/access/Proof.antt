@@ -33,16 +33,18 @@ same-length-3 c = search needs
 
 returns : tie.Need-returns
 returns c =
-    let named = c .before .before .before .before .before .before .before .before .before .before .before in
+    let after-replace = c .before .before .before .before .before .before in
+    let then1 = after-replace .before .before .before .before in
+    let named = then1 .before in
     let here = named .before .before in
     let start = here .before .before .before .before in
     let pre = start .pre in
     let s : Store = store (start .args .memory .now) (start .args .words .now) (start .args .tags .now) in
     let frame = start .args .frame in
-    c .before .before .before .before .before .before .replace .ensures
+    after-replace .replace .ensures
     ∙ ap (λ (n : ℕ). replace (start .args .board) frame n s) (here .line-of .ensures .0)
     ∙ sym (access-miss _ (pre .4) frame (start .args .colour) (start .args .offset) (pre .1) (pre .2) (pre .3) s (pre .0)
-    (ap (λ (n : ℕ). names (tagAt s n) frame) (sym (here .line-of .ensures .0)) ∙ sym (named .names .ensures) ∙ not-true _ (c .before .before .before .before .before .before .before .before .before .before .if1 .taken)))
+    (ap (λ (n : ℕ). names (tagAt s n) frame) (sym (here .line-of .ensures .0)) ∙ sym (named .names .ensures) ∙ not-true _ (then1 .if1 .taken)))
 
 returns-2 : tie.Need-returns-2
 returns-2 c =

@@ -8,6 +8,10 @@ use Rattle.cache.proofs.Laws.WriteBack.{writeBack-kept}
 use Rattle.cache.proofs.access.replace.Statement.{statement}
 use Rattle.cache.proofs.access.replace.Tie as tie
 
+-- the places that the proof goes back to
+abbrev start-of : tie.After-write-back → tie.Start
+start-of c = c .before .before .before .before .before .before .before
+
 write-back-requires : tie.Need-write-back-requires
 unfolding lines
 write-back-requires c κs = search needs
@@ -16,7 +20,7 @@ fill-requires : tie.Need-fill-requires
 unfolding lines
 fill-requires c κs =
     let back = c .before .before .before .before .before in
-    let start = back .before .before .before .before .before .before .before in (
+    let start = start-of back in (
       subst⁻¹ (WellFormed (start .args .board)) (back .write-back .ensures)
           (writeBack-kept _ (start .pre .3) _ (start .pre .0) _ (search needs)),
       start .pre .1,
@@ -37,7 +41,7 @@ returns : tie.Need-returns
 unfolding replace
 returns c =
     let back = c .before .before .before .before .before .before .before .before .before .before in
-    let start = back .before .before .before .before .before .before .before in
+    let start = start-of back in
     c .before .before .before .before .fill .ensures ∙ ap (fill (start .args .board) (start .args .frame) (start .args .line)) (back .write-back .ensures)
 
 pub replace-spec : {M : Type 1} → statement M

@@ -60,14 +60,15 @@ same-length c = search needs
 returns : tie.Need-returns
 unfolding copyOut
 returns c tags =
-    let to = c .before .before .before .before .before .before .before .before in
+    let after-line-at = c .before .before .before .before .before .before in
+    let to = after-line-at .before .before in
     let start = to .before .before .before .before in
     let board = start .args .board in
     let words = start .args .words .now in
     ap (λ (m : List ℕ). store m words tags)
     (part-back (start .args .memory .now) _
     (to .memory-at .ensures .0 ∙ ap (memoryAt board (start .args .frame)) (to .before .line-offset .ensures .0))
-    (c .before .before .copy .ensures ∙ part-lent words _ (c .before .before .before .before .before .before .line-at .ensures .0))
+    (c .before .before .copy .ensures ∙ part-lent words _ (after-line-at .line-at .ensures .0))
     (length-part words (lineAt board (start .args .line)) _ (omega (arith, start .pre, lineAt-end _ (start .pre .4) _ (start .pre .3)))))
 
 pub copy-out-spec : {M : Type 1} → statement M

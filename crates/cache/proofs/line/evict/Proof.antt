@@ -19,7 +19,9 @@ same-length-2 c = search needs
 
 returns : tie.Need-returns
 unfolding evict
-returns c = ap (empty (c .before .before .before .before .before .before .before .before .args .line)) (c .before .before .write-back .ensures)
+returns c =
+    let start = c .before .before .before .before .before .before .before .before in
+    ap (empty (start .args .line)) (c .before .before .write-back .ensures)
 
 pub evict-spec : {M : Type 1} → statement M
 evict-spec =

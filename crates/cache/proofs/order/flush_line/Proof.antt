@@ -22,9 +22,10 @@ same-length-2 c = search needs
 
 returns : tie.Need-returns
 returns c =
-    let start = c .before .before .before .before .before .before .before .before .before .before .before .before .before in
-    let named = c .before .before .before .before .before .before .before .before in
-    c .before .before .before .before .evict .ensures ∙ sym (flushLine-named _ (start .pre .3) (start .args .frame) (start .args .line) _ (sym (named .names .ensures) ∙ c .before .before .before .before .before .before .before .if1 .taken))
+    let then1 = c .before .before .before .before .before .before .before in
+    let named = then1 .before in
+    let start = named .before .before .before .before .before in
+    c .before .before .before .before .evict .ensures ∙ sym (flushLine-named _ (start .pre .3) (start .args .frame) (start .args .line) _ (sym (named .names .ensures) ∙ then1 .if1 .taken))
 
 returns-2 : tie.Need-returns-2
 returns-2 c =

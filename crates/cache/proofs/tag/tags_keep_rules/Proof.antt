@@ -29,7 +29,9 @@ tag-keeps-rules-requires : tie.Need-tag-keeps-rules-requires Inv-loop μ-loop
 tag-keeps-rules-requires c κs = search needs
 
 returns : tie.Need-returns Inv-loop μ-loop
-returns c = sym (rules-break _ (c .before .before .before .before .before .before .pre) _ (c .before .before .before .before .loop .i) (sym (c .before .tag-keeps-rules .ensures) ∙ not-true _ (c .if1 .taken)))
+returns c =
+    let start = c .before .before .before .before .before .before in
+    sym (rules-break _ (start .pre) _ (c .before .before .before .before .loop .i) (sym (c .before .tag-keeps-rules .ensures) ∙ not-true _ (c .if1 .taken)))
 
 add-i : tie.Need-add-i Inv-loop μ-loop
 add-i c = search needs

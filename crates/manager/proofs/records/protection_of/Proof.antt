@@ -2,6 +2,7 @@
 use mathlib.Core.Path.{_≡_, sym, ap, _∙_}
 use borrow.Author.Tests.{eq-eqb, ne-eqb, not-true, not-false}
 use Rattle.page_model.specs.Record.{stateOf, isHeld, isDirty}
+use Rattle.page_model.specs.Table.{ColourState}
 use Rattle.manager.specs.Tables.{mappingState}
 use Rattle.manager.proofs.Laws.{state-at, protection-none, protection-rights, protection-clean, protection-write}
 use borrow.Author.Needs.{needs}
@@ -9,13 +10,16 @@ use Rattle.manager.proofs.records.protection_of.Statement.{statement}
 use Rattle.manager.proofs.records.protection_of.Tie as tie
 
 -- the state of the mapping's colour
-state : (c : tie.After-colour-of) → stateOf (c .before .before .record-at .result) (c .colour-of .result) ≡ mappingState (c .before .before .before .before .args .board) (c .before .before .before .before .args .records .now) (c .before .before .before .before .args .m)
+abbrev seen : tie.Start → ColourState
+seen s = mappingState (s .args .board) (s .args .records .now) (s .args .m)
+
+state : (c : tie.After-colour-of) → stateOf (c .before .before .record-at .result) (c .colour-of .result) ≡ seen (c .before .before .before .before)
 state c = state-at _ _ _ (c .before .before .record-at .ensures) (c .colour-of .ensures .0)
 
-held : (c : tie.After-holds) → isHeld (mappingState (c .before .before .before .before .before .args .board) (c .before .before .before .before .before .args .records .now) (c .before .before .before .before .before .args .m)) ≡ c .holds .result
+held : (c : tie.After-holds) → isHeld (seen (c .before .before .before .before .before)) ≡ c .holds .result
 held c = sym (c .holds .ensures ∙ ap isHeld (state (c .before)))
 
-dirty : (c : tie.After-holds-dirty) → isDirty (mappingState (c .before .before .before .before .before .before .before .before .before .args .board) (c .before .before .before .before .before .before .before .before .before .args .records .now) (c .before .before .before .before .before .before .before .before .before .args .m)) ≡ c .holds-dirty .result
+dirty : (c : tie.After-holds-dirty) → let colour = c .before .before .before .before .before in isDirty (seen (colour .before .before .before .before)) ≡ c .holds-dirty .result
 dirty c = sym (c .holds-dirty .ensures ∙ ap isDirty (state (c .before .before .before .before .before)))
 
 record-at-requires : tie.Need-record-at-requires

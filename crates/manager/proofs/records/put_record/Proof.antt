@@ -27,7 +27,10 @@ same-length c = search needs
 
 returns : tie.Need-returns
 unfolding putRecord
-returns c = rw (c .before .before .put-word3 .ensures, c .before .before .before .before .before .before .put-word2 .ensures, c .before .before .before .before .before .before .before .before .before .before .put-word .ensures)
+returns c =
+    let after-put-word2 = c .before .before .before .before .before .before in
+    let after-put-word = after-put-word2 .before .before .before .before in
+    rw (c .before .before .put-word3 .ensures, after-put-word2 .put-word2 .ensures, after-put-word .put-word .ensures)
 
 pub put-record-spec : {M : Type 1} → statement M
 put-record-spec =

@@ -36,18 +36,24 @@ keeps-rules-requires c κs = search needs
 
 returns-3 : tie.Need-returns-3
 unfolding firstRefusal tableCauses
-returns-3 c = rw (lengths (c .before .before), rules-list _ (T (c .before .before .before .before .before .before .before)) (sym (c .before .keeps-rules .ensures) ∙ not-true _ (c .if3 .taken)))
+returns-3 c =
+    let start = c .before .before .before .before .before .before .before in
+    rw (lengths (c .before .before), rules-list _ (T start) (sym (c .before .keeps-rules .ensures) ∙ not-true _ (c .if3 .taken)))
 
 records-keep-rules-requires : tie.Need-records-keep-rules-requires
 records-keep-rules-requires c κs = search needs
 
 returns-4 : tie.Need-returns-4
 unfolding firstRefusal tableCauses
-returns-4 c = rw (lengths (c .before .before .before .before), rules-records _ (T (c .before .before .before .before .before .before .before .before .before)) (sym (c .before .records-keep-rules .ensures) ∙ not-true _ (c .if4 .taken)))
+returns-4 c =
+    let start = c .before .before .before .before .before .before .before .before .before in
+    rw (lengths (c .before .before .before .before), rules-records _ (T start) (sym (c .before .records-keep-rules .ensures) ∙ not-true _ (c .if4 .taken)))
 
 returns-5 : tie.Need-returns-5
 unfolding firstRefusal tableCauses
-returns-5 c = rw (lengths (c .before .before .before .before), rules-kept _ (T (c .before .before .before .before .before .before .before .before .before)) (sym (c .before .before .before .keeps-rules .ensures) ∙ not-false _ (c .before .before .if3 .left)) (sym (c .before .records-keep-rules .ensures) ∙ not-false _ (c .if4 .left)))
+returns-5 c =
+    let start = c .before .before .before .before .before .before .before .before .before in
+    rw (lengths (c .before .before .before .before), rules-kept _ (T start) (sym (c .before .before .before .keeps-rules .ensures) ∙ not-false _ (c .before .before .if3 .left)) (sym (c .before .records-keep-rules .ensures) ∙ not-false _ (c .if4 .left)))
 
 pub tables-refusal-spec : {M : Type 1} → statement M
 tables-refusal-spec =
