@@ -66,10 +66,6 @@ module _ (b : Board) (reg : Regular b) where
   unfolding lineOf lineColour lineOffset
   lineOf-line n i h = ap (λ (x : ℕ). n / pageLines b * pageLines b + x) (digits-div (n % pageLines b) h) ∙ div-add-mod' n (pageLines b)
 
-  pub cacheAt-line : (n i : ℕ) → i < b .line → cacheAt b (lineColour b n) (lineOffset b n + i) ≡ lineAt b n + i
-  unfolding cacheAt lineOffset
-  cacheAt-line n i h = ap₂ (λ (x y : ℕ). lineAt b x + y) (lineOf-line n i h) (digits-mod (n % pageLines b) h)
-
   -- ---- the lines of a colour
 
   pub colourLine-lt : (c i : ℕ) → c < b .colours → i < pageLines b → colourLine b c i < lines b
@@ -120,7 +116,6 @@ module _ (b : Board) (reg : Regular b) where
   unfolding memoryAt
   memoryAt-zero f = omega arith
 
-  -- a word of memory is of one frame and offset
   -- ---- the words of a line and of a frame
 
   -- a place in a row of w words is that row's

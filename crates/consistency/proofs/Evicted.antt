@@ -1,4 +1,4 @@
--- Every line turned out: none of the evictions is refused, and memory then holds the cacheless memory's words.
+-- Every line evicted: none of the evictions is refused, and memory then holds the cacheless memory's words.
 use mathlib.Core.Path.{_≡_, refl, sym, ap, ap₂, _∙_, subst⁻¹}
 use mathlib.Core.Bool.{true, false, not, _&&_}
 use mathlib.Core.List.{List, [], _∷_}

@@ -1,5 +1,5 @@
 -- Demand 3: over any list of calls from the start, every accepted read finds what memory without a cache would give, and once every line
--- has been turned out memory equals that memory word for word. Over any board whose line divides its page.
+-- has been evicted memory equals that memory word for word. Over any board whose line divides its page.
 use mathlib.Core.Bool.{Bool, false}
 use mathlib.Core.List.{List, [], _∷_}
 use mathlib.Core.Logic.{_⊎_}

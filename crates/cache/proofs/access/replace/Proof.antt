@@ -1,7 +1,6 @@
 -- `cache::access::replace` meets its contract.
 use borrow.Author.Needs.{needs}
 use mathlib.Core.Path.{ap, _∙_, subst⁻¹}
-use Rattle.board.specs.Board.{lines}
 use Rattle.cache.specs.Store.{WellFormed}
 use Rattle.cache.specs.Cache.{fill, replace}
 use Rattle.cache.proofs.Laws.WriteBack.{writeBack-kept}
@@ -13,11 +12,9 @@ abbrev start-of : tie.After-write-back → tie.Start
 start-of c = c .before .before .before .before .before .before .before
 
 write-back-requires : tie.Need-write-back-requires
-unfolding lines
 write-back-requires c κs = search needs
 
 fill-requires : tie.Need-fill-requires
-unfolding lines
 fill-requires c κs =
     let back = c .before .before .before .before .before in
     let start = start-of back in (

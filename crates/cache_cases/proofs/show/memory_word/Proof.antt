@@ -1,7 +1,7 @@
 -- `cache_cases::show::memory_word` meets its contract.
 use borrow.Author.Needs.{needs}
 use Rattle.board.proofs.Geometry.{board01-regular}
-use Rattle.board.specs.Board.{memoryAt}
+use Rattle.board.specs.Board.{memoryWords}
 use Rattle.cache_cases.proofs.show.memory_word.Statement.{statement}
 use Rattle.cache_cases.proofs.show.memory_word.Tie as tie
 
@@ -15,11 +15,11 @@ write-all-requires : tie.Need-write-all-requires
 write-all-requires c κs = search needs
 
 mul-wide : tie.Need-mul-wide
-unfolding memoryAt
+unfolding memoryWords
 mul-wide c = search needs
 
 element-copy-out-wide : tie.Need-element-copy-out-wide
-unfolding memoryAt
+unfolding memoryWords
 element-copy-out-wide c = search needs
 
 wide-requires : tie.Need-wide-requires

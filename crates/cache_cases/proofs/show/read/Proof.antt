@@ -1,7 +1,7 @@
 -- `cache_cases::show::read` meets its contract.
 use borrow.Author.Needs.{needs}
 use Rattle.board.proofs.Geometry.{board01-regular}
-use Rattle.board.specs.Board.{cacheWords, lineOf, lines, memoryWords}
+use Rattle.board.specs.Board.{cacheWords, lines, memoryWords}
 use Rattle.cache_cases.proofs.show.read.Statement.{statement}
 use Rattle.cache_cases.proofs.show.read.Tie as tie
 
@@ -36,7 +36,7 @@ wide-requires : tie.Need-wide-requires
 wide-requires c κs = search needs
 
 element-copy-out-tag-number : tie.Need-element-copy-out-tag-number
-unfolding lineOf
+unfolding lines
 element-copy-out-tag-number c = search needs
 
 tag-number-requires : tie.Need-tag-number-requires

@@ -1,7 +1,7 @@
 -- `cache_cases::show::write` meets its contract.
 use borrow.Author.Needs.{needs}
 use Rattle.board.proofs.Geometry.{board01-regular}
-use Rattle.board.specs.Board.{cacheWords, lineOf, lines, memoryAt, memoryWords}
+use Rattle.board.specs.Board.{cacheWords, lines, memoryWords}
 use Rattle.cache_cases.proofs.show.write.Statement.{statement}
 use Rattle.cache_cases.proofs.show.write.Tie as tie
 
@@ -36,18 +36,18 @@ write-all-requires : tie.Need-write-all-requires
 write-all-requires c κs = search needs
 
 element-copy-out-tag-number : tie.Need-element-copy-out-tag-number
-unfolding lineOf
+unfolding lines
 element-copy-out-tag-number c = search needs
 
 tag-number-requires : tie.Need-tag-number-requires
 tag-number-requires c κs = search needs
 
 mul-wide : tie.Need-mul-wide
-unfolding memoryAt
+unfolding memoryWords
 mul-wide c = search needs
 
 element-copy-out-wide : tie.Need-element-copy-out-wide
-unfolding memoryAt
+unfolding memoryWords
 element-copy-out-wide c = search needs
 
 wide-requires : tie.Need-wide-requires
