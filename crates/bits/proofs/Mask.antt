@@ -8,7 +8,7 @@ use native.Mathlib.Nat.{pow-suc, div-one, div-eq-of-lt, div-add-mod', mod-lt, ze
 use native.Mathlib.Numerals.{add-one, one-add}
 use borrow.Author.Tests.{eqb-true, eq-eqb, ne-eqb, lt-ltb, le-ltb, not-true}
 use lib.Arith.{lt-one}
-use lib.Bits.{bitAnd, bitOr, and-shr, or-shr, and-mod, or-mod, or-lt, and-le-l}
+use lib.Bits.{bitAnd, bitOr, and-shr, or-shr, and-mod, or-mod, or-lt, or-add-and, and-le-l, and-le-r}
 use lib.Count.{ones, trailingZeros, under, ones-step, ones-cat}
 use lib.Dec.{eqb, ltb, lit<, eqb·zero-suc, eqb·suc-zero, eqb·suc-suc}
 use lib.Pow.{pow-pos, pow-lt, pow-mono, shr-shr, shr-lt}
@@ -179,6 +179,15 @@ shr-none m k = go (decLt m (2 ^ k))
     go : Dec (m < 2 ^ k) → eqb (m / 2 ^ k) 0 ≡ ltb m (2 ^ k)
     go (yes h) = eq-eqb _ 0 (div-eq-of-lt h) ∙ sym (lt-ltb m (2 ^ k) h)
     go (no h) = ne-eqb (m / 2 ^ k) 0 (λ e. h (omega (arith, div-add-mod' m (2 ^ k), mod-lt m (pow-pos k), ap (λ (x : ℕ). x * 2 ^ k) e))) ∙ sym (le-ltb m (2 ^ k) (omega arith))
+
+-- two masks fit exactly if their or does
+pub or-within : (n a b : ℕ) → ltb (bitOr a b) (2 ^ n) ≡ (ltb a (2 ^ n) && ltb b (2 ^ n))
+or-within n a b = go (decLt a (2 ^ n)) (decLt b (2 ^ n))
+  where
+    go : Dec (a < 2 ^ n) → Dec (b < 2 ^ n) → ltb (bitOr a b) (2 ^ n) ≡ (ltb a (2 ^ n) && ltb b (2 ^ n))
+    go (yes h) (yes l) = lt-ltb _ _ (or-lt n a b h l) ∙ sym (ap₂ _&&_ (lt-ltb _ _ h) (lt-ltb _ _ l))
+    go (yes h) (no l) = le-ltb (bitOr a b) (2 ^ n) (omega (arith, or-add-and a b, and-le-l a b)) ∙ sym (ap₂ _&&_ (lt-ltb _ _ h) (le-ltb b (2 ^ n) (omega arith)))
+    go (no h) l = le-ltb (bitOr a b) (2 ^ n) (omega (arith, or-add-and a b, and-le-r a b)) ∙ sym (ap (λ (x : Bool). x && ltb b (2 ^ n)) (le-ltb a (2 ^ n) (omega arith)))
 
 -- no bit, or those of m
 pub bit-cond : (b : Bool) (m k : ℕ) → bit (cond b 0 m) k ≡ (not b && bit m k)

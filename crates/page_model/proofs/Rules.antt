@@ -4,11 +4,11 @@ use mathlib.Core.Bool.{Bool, true, false, not, _&&_, _||_, false≢true}
 use Prim.Native.Nat.{ℕ, _^_, _≤_, _<_}
 use native.Mathlib.Omega.{arith}
 use borrow.Author.Tests.{ltb-true, lt-ltb, leb-true, le-leb, eqb-true}
-use lib.Bits.{bitAnd}
+use lib.Bits.{bitAnd, bitOr}
 use lib.Count.{ones, trailingZeros}
 use lib.Dec.{eqb, leb, ltb}
 use Rattle.bits.specs.Mask.{bit, digit, countOf}
-use Rattle.bits.proofs.Mask.{all-at, all-of, ones-bits, only-bit, only-bit-wide, bit-one, digit-eqb, disjoint-all}
+use Rattle.bits.proofs.Mask.{all-at, all-of, ones-bits, only-bit, only-bit-wide, bit-one, digit-eqb, disjoint-all, or-within}
 use Rattle.bits.proofs.Tautology.{and-left, and-right}
 use Rattle.page_model.specs.declared.FrameRecord.{FrameRecord}
 use Rattle.page_model.specs.Record.{keepsRules}
@@ -41,14 +41,22 @@ unfolding keepsRules
 kept n r k =
     ap₂ _&&_ (ap₂ _&&_ (ap₂ _&&_ (ap₂ _&&_ (lt-ltb _ _ (k .held-lt)) (lt-ltb _ _ (k .stale-lt))) (all-of n _ (k .apart))) (le-leb _ _ (k .flag-le))) (k .one-held)
 
--- the rules by operations on masks that fit
-pub rules-are : (n : ℕ) (r : FrameRecord) → r .held < 2 ^ n → r .stale < 2 ^ n
-    → keepsRules n r ≡ (eqb (bitAnd (r .held) (r .stale)) 0 && leb (r .dirty) 1 && (not (flag r) || eqb (ones (r .held)) 1))
+-- the rules by operations on whole masks
+pub rules-are : (n : ℕ) (r : FrameRecord) → keepsRules n r
+    ≡ (ltb (bitOr (r .held) (r .stale)) (2 ^ n) && (eqb (bitAnd (r .held) (r .stale)) 0 && leb (r .dirty) 1 && (not (flag r) || eqb (ones (r .held)) 1)))
 unfolding keepsRules
-rules-are n r lh ls =
-    ap₂ _&&_
-    (ap (λ (b : Bool). b && leb (r .dirty) 1) (ap₂ _&&_ (ap₂ _&&_ (lt-ltb _ _ lh) (lt-ltb _ _ ls)) (disjoint-all n (r .held) (r .stale) lh)))
-    (ap (λ (m : ℕ). not (flag r) || eqb m 1) (sym (ones-bits n (r .held) lh)))
+rules-are n r = go (ltb (r .held) (2 ^ n)) (ltb (r .stale) (2 ^ n)) refl refl
+  where
+    Rules : Bool → Type 0
+    Rules fits = keepsRules n r ≡ (fits && (eqb (bitAnd (r .held) (r .stale)) 0 && leb (r .dirty) 1 && (not (flag r) || eqb (ones (r .held)) 1)))
+
+    go : (h s : Bool) → ltb (r .held) (2 ^ n) ≡ h → ltb (r .stale) (2 ^ n) ≡ s → Rules (ltb (bitOr (r .held) (r .stale)) (2 ^ n))
+    go true true eh es =
+        let lh = ltb-true (r .held) (2 ^ n) eh in
+        rw (or-within, eh, es)
+        (ap₂ _&&_ (ap (λ (b : Bool). b && leb (r .dirty) 1) (disjoint-all n (r .held) (r .stale) lh)) (ap (λ (m : ℕ). not (flag r) || eqb m 1) (sym (ones-bits n (r .held) lh))))
+    go true false eh es = rw (or-within, eh, es)
+    go false s eh es = rw (or-within, eh)
 
 -- the flag as a digit is the flag
 pub flag-digit : {d : ℕ} → d ≤ 1 → d ≡ digit (eqb d 1)
@@ -77,12 +85,3 @@ module _ (n : ℕ) (r : FrameRecord) (k : Keeps n r) where
       go : (b : Bool) → flag r ≡ b → (b && bit (r .held) j) ≡ (b && eqb (trailingZeros n (r .held)) j)
       go true z = ap (λ (m : ℕ). bit m j) (dirty-only z .1) ∙ bit-one _ j
       go false z = refl
-
--- a mask that passes the colours breaks the rules
-pub held-past : (n : ℕ) (r : FrameRecord) → ltb (r .held) (2 ^ n) ≡ false → keepsRules n r ≡ false
-unfolding keepsRules
-held-past n r e = rw e
-
-pub stale-past : (n : ℕ) (r : FrameRecord) → ltb (r .held) (2 ^ n) ≡ true → ltb (r .stale) (2 ^ n) ≡ false → keepsRules n r ≡ false
-unfolding keepsRules
-stale-past n r e d = rw (e, d)

@@ -37,15 +37,12 @@ pub struct Stepped {
 }
 
 impl FrameRecord {
-    // Whether the record keeps the rules: no bit in both masks, the flag 0 or 1, and with the flag set exactly one held bit.
+    // Whether the record keeps the rules: no bit past the colours, none in both masks, the flag 0 or 1, and with the flag set exactly one held bit.
     pub fn keeps_rules(self, colours: usize) -> bool
         requires { ⌜ colours ≤ width ⌝ }
         ensures { λ r. ⌜ r ≡ keepsRules colours self ⌝ }
     {
-        if !bits::within(self.held, colours) {
-            return false;
-        }
-        if !bits::within(self.stale, colours) {
+        if !bits::within(self.held | self.stale, colours) {
             return false;
         }
         if self.held & self.stale != 0 {
