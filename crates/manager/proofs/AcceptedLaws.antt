@@ -1,4 +1,4 @@
--- What tables that keep their rules, and a call of which no cause of refusal applies, tell part by part.
+-- What tables that keep their rules, and a map of which no cause of refusal applies, tell part by part.
 use mathlib.Core.Path.{_≡_, refl, sym}
 use mathlib.Core.Bool.{Bool, true, false, _&&_, _||_, false≢true}
 use mathlib.Core.Logic.{inl, inr, ⊎-elim}
@@ -18,7 +18,7 @@ use Rattle.mapping.specs.Facts.{InRange}
 use Rattle.mapping.specs.Lookup.{lookup}
 use Rattle.mapping.specs.Rules as list-of
 use Rattle.mapping.proofs.Tests.{or-either}
-use Rattle.manager.specs.Refusals.{firstRefusal, mapCauses, pageCauses, writeCauses, transferCauses, found, isMapped}
+use Rattle.manager.specs.Refusals.{firstRefusal, mapCauses, found}
 use Rattle.manager.specs.Tables.{Tables, recordWords, recordsKeepRules, lengthsRight, rulesKept}
 use Rattle.manager.specs.Theorems.{WellFormed}
 use Rattle.manager.proofs.CauseLaws.{list-rules, none-applies}
@@ -40,20 +40,6 @@ unfolding rulesKept
 records-rules b t e = and-right (list-of.keepsRules b (t .list)) _ e
 
 -- ---- where no cause applies
-
-module _ (b : Board) (t : Tables) where
-  pub transfer-accepted : (f : ℕ) → firstRefusal (transferCauses b t f) ≡ 0 → WellFormed b t × (f < b .frames)
-  unfolding transferCauses
-  transfer-accepted f e = let n = none-applies (transferCauses b t f) refl e in ((not-false _ (n .0), not-false _ (n .1 .0)), leb-false _ _ (n .1 .1 .0))
-
-  module _ (space page : ℕ) where
-    pub page-accepted : firstRefusal (pageCauses b t space page) ≡ 0 → WellFormed b t × (isMapped (t .list) space page ≡ true)
-    unfolding pageCauses
-    page-accepted e = let n = none-applies (pageCauses b t space page) refl e in ((not-false _ (n .0), not-false _ (n .1 .0)), not-false _ (n .1 .1 .1 .0))
-
-    pub write-accepted : firstRefusal (writeCauses b t space page) ≡ 0 → WellFormed b t × (isMapped (t .list) space page ≡ true)
-    unfolding writeCauses
-    write-accepted e = let n = none-applies (writeCauses b t space page) refl e in ((not-false _ (n .0), not-false _ (n .1 .0)), not-false _ (n .1 .1 .1 .0))
 
 -- neither of two
 or-neither : (x y : Bool) → (x || y) ≡ false → (x ≡ false) × (y ≡ false)

@@ -2,10 +2,9 @@
 pub mod Laws
 pub mod CauseLaws
 pub mod RecordLaws
-pub mod CallLaws
 pub mod AcceptedLaws
 pub mod KeepsRules
 pub mod Passing
-pub mod SmallestRefusal
+pub mod FirstRefusal
 pub mod ProtectionBuffer
 pub mod Theorems

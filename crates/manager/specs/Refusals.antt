@@ -1,8 +1,9 @@
 -- Document 01, "Answers": for each call the causes of refusal, in the order of the table. The first that applies is given.
-use mathlib.Core.Bool.{Bool, true, false, not, cond, _||_}
+use mathlib.Core.Bool.{Bool, true, false, not, cond, _&&_, _||_}
 use mathlib.Core.List.{List, [], _∷_, _++_}
-use Prim.Native.Nat.{ℕ}
-use lib.Dec.{eqb, leb}
+use Prim.Native.Nat.{ℕ, suc}
+use lib.Dec.{eqb, leb, ltb}
+use lib.ListN.{length}
 use Rattle.board.specs.declared.Board.{Board}
 use Rattle.board.specs.Board.{spaces, pages}
 use Rattle.mapping.specs.declared.Found.{Found}
@@ -26,6 +27,28 @@ n if c = record { number = n; applies = c }
 unfoldable pub firstRefusal : List Cause → ℕ
 firstRefusal [] = 0
 firstRefusal (c ∷ rest) = cond (c .applies) (c .number) (firstRefusal rest)
+
+-- ---- the order of the refusals
+
+-- the numbers in the order in which document 01 has them tested
+abbrev pub refusalOrder : List ℕ
+refusalOrder = 1 ∷ 2 ∷ 3 ∷ 4 ∷ 5 ∷ 6 ∷ 7 ∷ 8 ∷ 9 ∷ 10 ∷ []
+
+-- the first place of a number in a list, past its end where it is not listed
+unfoldable pub placeIn : List ℕ → ℕ → ℕ
+placeIn [] n = 0
+placeIn (m ∷ rest) n = cond (eqb m n) 0 (suc (placeIn rest n))
+
+-- the place of a refusal
+unfoldable pub refusalPlace : ℕ → ℕ
+unfolding placeIn
+refusalPlace n = placeIn refusalOrder n
+
+-- causes whose numbers are listed, in the order's places from n on
+unfoldable pub inOrder : ℕ → List Cause → Bool
+unfolding refusalPlace
+inOrder n [] = true
+inOrder n (c ∷ rest) = leb n (refusalPlace (c .number)) && ltb (refusalPlace (c .number)) (length refusalOrder) && inOrder (suc (refusalPlace (c .number))) rest
 
 -- ---- conditions
 

@@ -2,7 +2,7 @@
 ghost use mathlib.Core.Path.{_≡_};
 ghost use Rattle.board.specs.Board.{Regular};
 ghost use Rattle.manager.specs.Tables.{tables};
-ghost use Rattle.manager.specs.Refusals.{firstRefusal, tableCauses, mapCauses, pageCauses, writeCauses, transferCauses, outOfSpace, isRight, isMapped, placeOf, mappingOf};
+ghost use Rattle.manager.specs.Refusals.{firstRefusal, refusalPlace, tableCauses, mapCauses, pageCauses, writeCauses, transferCauses, outOfSpace, isRight, isMapped, placeOf, mappingOf};
 ghost use Rattle.mapping.specs.Lookup.{lookup};
 use super::records::RECORD_WORDS;
 use super::records::records_keep_rules;
@@ -10,6 +10,23 @@ use board::Board;
 use mapping::Found;
 use mapping::Mapping;
 use mapping::MappingList;
+
+// The refusals' numbers in the order in which they are tested.
+const ORDER: [u8; 10] = [1, 2, 3, 4, 5, 6, 7, 8, 9, 10];
+
+// The place of a refusal in the order, past its end where it is not listed.
+pub fn place(number: u8) -> usize
+    ensures { λ r. ⌜ r ≡ refusalPlace number ⌝ }
+{
+    let mut i = 0;
+    while i < 10 {
+        if ORDER[i] == number {
+            return i;
+        }
+        i += 1;
+    }
+    i
+}
 
 // Of what every call is lent.
 pub fn tables_refusal(board: Board, list: MappingList, records: &[u32], protections: &[u8]) -> u8
