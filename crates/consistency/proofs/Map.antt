@@ -19,6 +19,7 @@ use Rattle.mapping.proofs.Laws.{append-length, append-rules, mappingOf-append-s
 use Rattle.manager.specs.Calls.{commitUnmap}
 use Rattle.manager.specs.Refusals.{firstRefusal, mapCauses, placeOf}
 use Rattle.manager.specs.Tables.{tables, lengthsRight, refill}
+use Rattle.manager.specs.Theorems.{WellFormed}
 use Rattle.manager.proofs.AcceptedLaws.{map-accepted}
 use Rattle.manager.proofs.CauseLaws.{mapped-found}
 use Rattle.machine.specs.Refusals.{storeLengths, causes}
@@ -39,6 +40,16 @@ replaced-cases P g i j a x y same other = go (eqb i x) (eqb j y) refl refl
     go true true p q = same (eqb-true i x p) (eqb-true j y q)
     go true false p q = other (λ _ e. eqb-false j y q e)
     go false t p q = other (λ e _. eqb-false i x p e)
+
+-- what an accepted map tells of its mapping
+pub map-clear : (b : Board) (st : State) (m : Mapping) → firstRefusal (causes b st (map (m .space) (m .page) (m .frame) (m .rights))) ≡ 0
+    → WellFormed b (st .tables) × InRange b m × (lookup (st .tables .list) (m .space) (m .page) ≡ Nothing) × (st .tables .list .count < capacity)
+unfolding causes mapCauses
+map-clear b st m e =
+    let call = map (m .space) (m .page) (m .frame) (m .rights) in
+    let lengths = and-left (lengthsRight b (st .tables)) (storeLengths b (st .store)) (and-left _ true (lengths-clear b st call e)) in
+    map-accepted b (st .tables) m
+    (none-refused (mapCauses b (st .tables) (m .space) (m .page) (m .frame) (m .rights)) (ap not lengths, (ap not (tables-clear b st call e), clear b st call e .1 .1)))
 
 module _ (b : Board) (st : State) (m : Cacheless) (inv : Invariant b st m) where
   -- another list that has its length and keeps the rules
@@ -79,13 +90,8 @@ module _ (b : Board) (st : State) (m : Cacheless) (inv : Invariant b st m) where
     map-kept = relisted (append (st .tables .list) mp) (replaced (m .frame) (mp .space) (mp .page) (some (mp .frame))) map-sound map-listed
 
   pub map-taken : (space page frame rights : ℕ) → firstRefusal (causes b st (map space page frame rights)) ≡ 0 → Taken b st m (map space page frame rights)
-  unfolding causes mapCauses accept accepted
-  map-taken space page frame rights e =
-      let call = map space page frame rights in
-      let mp : Mapping = record { space = space; page = page; frame = frame; rights = rights } in
-      let lengths = and-left (lengthsRight b (st .tables)) (storeLengths b (st .store)) (and-left _ true (lengths-clear b st call e)) in
-      let a = map-accepted b (st .tables) mp (none-refused (mapCauses b (st .tables) space page frame rights) (ap not lengths, (ap not (tables-clear b st call e), clear b st call e .1 .1))) in
-      (tt, map-kept mp (a .1) (a .2) (a .3))
+  unfolding accept accepted
+  map-taken space page frame rights e = let a = map-clear b st (record { space = space; page = page; frame = frame; rights = rights }) e in (tt, map-kept _ (a .1) (a .2) (a .3))
 
   -- ---- unmap
 

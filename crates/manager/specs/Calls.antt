@@ -1,5 +1,4 @@
 -- What each call plans, answers and leaves in the tables. A plan changes nothing; where it is no refusal, a commit carries it out.
-use mathlib.Core.List.{List}
 use Prim.Native.Nat.{ℕ, zero, suc}
 use Rattle.board.specs.declared.Board.{Board}
 use Rattle.board.specs.Board.{colourOf}
@@ -17,7 +16,7 @@ use Rattle.manager.specs.declared.Plan.the-variants as step-plan
 use Rattle.manager.specs.declared.ListPlan.{ListPlan}
 use Rattle.manager.specs.declared.ListPlan.the-variants as list-plan
 use Rattle.manager.specs.Answers.{Outcome, refused, accepted}
-use Rattle.manager.specs.Refusals.{Cause, firstRefusal, placeOf, mappingOf, mapCauses, pageCauses, writeCauses, transferCauses}
+use Rattle.manager.specs.Refusals.{firstRefusal, placeOf, mappingOf, mapCauses, pageCauses, writeCauses, transferCauses}
 use Rattle.manager.specs.Tables.{Tables, tables, recordAt, putRecord, refill}
 
 -- ---- steps of a frame's record

@@ -1,0 +1,4 @@
+-- The proofs of the demands.
+pub mod Answers
+pub mod Kept
+pub mod Theorem

@@ -1,0 +1,111 @@
+-- The three demands, over the machine's `step` at every call, with any numbers and any content of what is lent.
+use mathlib.Core.Bool.{true, false}
+use mathlib.Core.List.{List, List·Memᴰ}
+use mathlib.Core.Logic.{_↔_, _⊎_, _≢_}
+use mathlib.Core.Option.{Option, none, some}
+use mathlib.Core.Path.{_≡_}
+use Prim.Native.Nat.{ℕ, _≤_, _<_}
+use lib.ListN.{length, getD}
+use Rattle.board.specs.declared.Board.{Board}
+use Rattle.board.specs.Board.{Regular, board01, colourOf}
+use Rattle.page_model.specs.Record.{stateOf}
+use Rattle.page_model.specs.Step.{operations, firstTwo}
+use Rattle.page_model.specs.Table as table
+use Rattle.page_model.specs.Table.{cellAt}
+use Rattle.page_model.specs.Theorems.{Idle}
+use Rattle.mapping.specs.Entry.{capacity, readWrite, mappingAt}
+use Rattle.manager.specs.Answers.{Outcome, refused, accepted}
+use Rattle.manager.specs.Calls.{noOps}
+use Rattle.manager.specs.Refusals.{Cause, isRight}
+use Rattle.manager.specs.Tables.{Tables, tables, recordAt, protectionAt, tabulate}
+use Rattle.manager.specs.Theorems.{First, WellFormed}
+use Rattle.cache.specs.Tag.{tagsKeepRules}
+use Rattle.machine.specs.Refusals.{causes}
+use Rattle.machine.specs.State.{State, state, Call, map, unmap, read, write, deviceRead, deviceWrite, evict, lentBuffer}
+use Rattle.machine.specs.Step.{answer, result, frameOf, step}
+use Rattle.consistency.specs.Demand3.{isRefused, Demand3}
+
+-- ---- 1. The answer to each call is a result, or the one refusal that the listed conditions and their order give; a refusal orders nothing
+-- and changes nothing.
+
+-- no cause applies, and the call is accepted
+abbrev pub Accepted : Board → State → Call → Type 0
+Accepted b st call = ((c : Cause) → List·Memᴰ c (causes b st call) → c .applies ≡ false) × (isRefused (step b st call .answer) ≡ false)
+
+-- n is the first cause that applies; the answer is this number, with no order and no word, and everything lent is as it was
+abbrev pub Refused : Board → State → Call → ℕ → Type 0
+Refused b st call n = First (causes b st call) n × (step b st call ≡ result (answer (refused n) none (lentBuffer call)) st)
+
+abbrev pub Demand1 : Board → Type 0
+Demand1 b = (st : State) (call : Call) → Accepted b st call ⊎ ((n : ℕ) × Refused b st call n)
+
+-- ---- 2. Orders, page states and protections are those of the page model. An access passes without a stop exactly if its right allows it
+-- and the model would order nothing and alter nothing.
+
+-- a step of the page model on a frame
+pub record FrameStep : Type 0 where
+  pub frame : ℕ
+  pub step : table.Step
+
+-- the one that a call makes, if any
+abbrev pub stepOf : Board → State → Call → Option FrameStep
+stepOf b st (map space page frame rights) = none
+stepOf b st (unmap space page) = none
+stepOf b st (read space page offset) = some (record { frame = frameOf st space page; step = table.read (colourOf b page) })
+stepOf b st (write space page offset word) = some (record { frame = frameOf st space page; step = table.write (colourOf b page) })
+stepOf b st (deviceRead frame buffer) = some (record { frame = frame; step = table.deviceRead })
+stepOf b st (deviceWrite frame buffer) = some (record { frame = frame; step = table.deviceWrite })
+stepOf b st (evict line) = none
+
+-- the orders are the table's, in order and on this frame; each of its colours is in the state of its cell, and other frames are as they were
+pub record Stepped (b : Board) (before after : Tables) (o : Outcome) (f : ℕ) (s : table.Step) : Type 0 where
+  pub few : length (operations (b .colours) s (recordAt (before .records) f)) ≤ 2
+  pub orders : o ≡ accepted f (firstTwo (operations (b .colours) s (recordAt (before .records) f)))
+  pub states : (k : ℕ) → k < b .colours → stateOf (recordAt (after .records) f) k ≡ cellAt s k (stateOf (recordAt (before .records) f) k) .next
+  pub others : (g : ℕ) → g ≢ f → recordAt (after .records) g ≡ recordAt (before .records) g
+
+-- a call that makes no step orders nothing and leaves every record
+abbrev pub Modelled : Board → Tables → Tables → Outcome → Option FrameStep → Type 0
+Modelled b before after o none = (o ≡ accepted 0 noOps) × (after .records ≡ before .records)
+Modelled b before after o (some s) = Stepped b before after o (s .frame) (s .step)
+
+-- what an accepted call leaves
+pub record Left (b : Board) (st : State) (call : Call) (after : State) (o : Outcome) : Type 0 where
+  pub tables-kept : WellFormed b (after .tables)
+  pub tags-kept : tagsKeepRules b (after .store .tags) ≡ true
+  pub modelled : Modelled b (st .tables) (after .tables) o (stepOf b st call)
+  -- the whole buffer of protections is what list and records give, whatever it held before
+  pub protections : after .tables .protections ≡ tabulate capacity (protectionAt b (after .tables .list) (after .tables .records))
+  pub unread :
+      (ps : List ℕ) → length ps ≡ length (st .tables .protections)
+      → step b (state (tables (st .tables .list) (st .tables .records) ps) (st .store)) call ≡ step b st call
+  -- and of the byte that lies there for a listed mapping:
+  pub read-passes :
+      (i : ℕ) → i < after .tables .list .count
+      → let m = mappingAt (after .tables .list) i in
+      (1 ≤ getD (after .tables .protections) i 0)
+      ↔ ((isRight (m .rights) ≡ true) × Idle (b .colours) (table.read (colourOf b (m .page))) (recordAt (after .tables .records) (m .frame)))
+  pub write-passes :
+      (i : ℕ) → i < after .tables .list .count
+      → let m = mappingAt (after .tables .list) i in
+      (2 ≤ getD (after .tables .protections) i 0)
+      ↔ ((m .rights ≡ readWrite) × Idle (b .colours) (table.write (colourOf b (m .page))) (recordAt (after .tables .records) (m .frame)))
+
+abbrev pub Demand2 : Board → Type 0
+Demand2 b =
+    (st : State) (call : Call) → isRefused (step b st call .answer) ≡ false
+    → Left b st call (step b st call .after) (step b st call .answer .outcome)
+
+-- ---- 3. Over any list of calls from the start, every accepted read finds what memory without a cache would give, and once every line has
+-- been evicted memory equals that memory word for word: `Demand3`.
+
+-- ---- all three, of every regular board, and so of document 01's
+
+abbrev pub Demands : Board → Type 0
+Demands b = Demand1 b × Demand2 b × Demand3 b
+
+abbrev pub EveryBoard : Type 0
+EveryBoard = (b : Board) → Regular b → Demands b
+
+abbrev pub Board01 : Type 0
+Board01 = Demands board01
