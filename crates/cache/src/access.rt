@@ -25,8 +25,8 @@ pub fn read_word(
     ensures state { λ _. ⌜ store (now (memory .exit)) (now (words .exit)) (now (tags .exit)) ≡ access board frame colour offset (store (now (memory .entry)) (now (words .entry)) (now (tags .entry))) ⌝ }
 {
     access(board, memory, words, tags, frame, colour, offset);
-    let at = board::cache_at(board, colour, offset);
-    words[at]
+    let from = board::cache_at(board, colour, offset);
+    words[from]
 }
 
 // Writes the word, after the access that it takes, and makes its line dirty.
