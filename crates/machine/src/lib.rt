@@ -7,10 +7,8 @@ ghost use mathlib.Core.List.{[]};
 ghost use mathlib.Core.Option.{none};
 ghost use Rattle.board.specs.Board.{board01};
 ghost use Rattle.manager.specs.Answers.{outcome};
-ghost use Rattle.manager.specs.Tables.{tables};
-ghost use Rattle.cache.specs.Store.{store};
 ghost use Rattle.machine.specs.State as call;
-ghost use Rattle.machine.specs.State.{state};
+ghost use Rattle.machine.specs.State.{machineOf};
 ghost use Rattle.machine.specs.Step.{answer, result, step};
 ghost use Rattle.machine.specs.Plans.{loaded};
 use board::BOARD01;
@@ -38,8 +36,11 @@ pub fn map(
     tags: &[u8],
     m: Mapping,
 ) -> Listed
-    ensures { λ r. ⌜ result (answer (outcome (r .answer)) none []) (state (tables (r .list) (now (records .entry)) (now (protections .exit))) (store (now (memory .entry)) (now (words .entry)) (now (tags .entry))))
-        ≡ step board01 (state (tables list (now (records .entry)) (now (protections .entry))) (store (now (memory .entry)) (now (words .entry)) (now (tags .entry)))) (call.map (m .space) (m .page) (m .frame) (m .rights)) ⌝ }
+    ensures { λ r. ⌜ result (answer (outcome (r .answer)) none [])
+        (machineOf (r .list) (now (records .entry)) (now (protections .exit)) (now (memory .entry)) (now (words .entry)) (now (tags .entry)))
+        ≡ step board01
+        (machineOf list (now (records .entry)) (now (protections .entry)) (now (memory .entry)) (now (words .entry)) (now (tags .entry)))
+        (call.map (m .space) (m .page) (m .frame) (m .rights)) ⌝ }
 {
     let plan = plans::plan_map(BOARD01, list, records, protections, memory, words, tags, m);
     match plan {
@@ -65,8 +66,11 @@ pub fn unmap(
     space: u8,
     page: u16,
 ) -> Listed
-    ensures { λ r. ⌜ result (answer (outcome (r .answer)) none []) (state (tables (r .list) (now (records .entry)) (now (protections .exit))) (store (now (memory .entry)) (now (words .entry)) (now (tags .entry))))
-        ≡ step board01 (state (tables list (now (records .entry)) (now (protections .entry))) (store (now (memory .entry)) (now (words .entry)) (now (tags .entry)))) (call.unmap space page) ⌝ }
+    ensures { λ r. ⌜ result (answer (outcome (r .answer)) none [])
+        (machineOf (r .list) (now (records .entry)) (now (protections .exit)) (now (memory .entry)) (now (words .entry)) (now (tags .entry)))
+        ≡ step board01
+        (machineOf list (now (records .entry)) (now (protections .entry)) (now (memory .entry)) (now (words .entry)) (now (tags .entry)))
+        (call.unmap space page) ⌝ }
 {
     let plan = plans::plan_unmap(
         BOARD01,
@@ -103,8 +107,11 @@ pub fn read(
     page: u16,
     offset: usize,
 ) -> Loaded
-    ensures { λ r. ⌜ result (loaded r) (state (tables list (now (records .exit)) (now (protections .exit))) (store (now (memory .exit)) (now (words .exit)) (now (tags .exit))))
-        ≡ step board01 (state (tables list (now (records .entry)) (now (protections .entry))) (store (now (memory .entry)) (now (words .entry)) (now (tags .entry)))) (call.read space page offset) ⌝ }
+    ensures { λ r. ⌜ result (loaded r)
+        (machineOf list (now (records .exit)) (now (protections .exit)) (now (memory .exit)) (now (words .exit)) (now (tags .exit)))
+        ≡ step board01
+        (machineOf list (now (records .entry)) (now (protections .entry)) (now (memory .entry)) (now (words .entry)) (now (tags .entry)))
+        (call.read space page offset) ⌝ }
 {
     let plan = plans::plan_read(
         BOARD01,
@@ -154,8 +161,11 @@ pub fn write(
     offset: usize,
     word: u32,
 ) -> Answer
-    ensures { λ r. ⌜ result (answer (outcome r) none []) (state (tables list (now (records .exit)) (now (protections .exit))) (store (now (memory .exit)) (now (words .exit)) (now (tags .exit))))
-        ≡ step board01 (state (tables list (now (records .entry)) (now (protections .entry))) (store (now (memory .entry)) (now (words .entry)) (now (tags .entry)))) (call.write space page offset word) ⌝ }
+    ensures { λ r. ⌜ result (answer (outcome r) none [])
+        (machineOf list (now (records .exit)) (now (protections .exit)) (now (memory .exit)) (now (words .exit)) (now (tags .exit)))
+        ≡ step board01
+        (machineOf list (now (records .entry)) (now (protections .entry)) (now (memory .entry)) (now (words .entry)) (now (tags .entry)))
+        (call.write space page offset word) ⌝ }
 {
     let plan = plans::plan_write(
         BOARD01,
@@ -204,8 +214,11 @@ pub fn device_read(
     buffer: &mut [u32],
     frame: u8,
 ) -> Answer
-    ensures { λ r. ⌜ result (answer (outcome r) none (now (buffer .exit))) (state (tables list (now (records .exit)) (now (protections .exit))) (store (now (memory .exit)) (now (words .entry)) (now (tags .exit))))
-        ≡ step board01 (state (tables list (now (records .entry)) (now (protections .entry))) (store (now (memory .entry)) (now (words .entry)) (now (tags .entry)))) (call.deviceRead frame (now (buffer .entry))) ⌝ }
+    ensures { λ r. ⌜ result (answer (outcome r) none (now (buffer .exit)))
+        (machineOf list (now (records .exit)) (now (protections .exit)) (now (memory .exit)) (now (words .entry)) (now (tags .exit)))
+        ≡ step board01
+        (machineOf list (now (records .entry)) (now (protections .entry)) (now (memory .entry)) (now (words .entry)) (now (tags .entry)))
+        (call.deviceRead frame (now (buffer .entry))) ⌝ }
 {
     let plan = plans::plan_device_read(
         BOARD01,
@@ -242,8 +255,11 @@ pub fn device_write(
     buffer: &[u32],
     frame: u8,
 ) -> Answer
-    ensures { λ r. ⌜ result (answer (outcome r) none []) (state (tables list (now (records .exit)) (now (protections .exit))) (store (now (memory .exit)) (now (words .entry)) (now (tags .exit))))
-        ≡ step board01 (state (tables list (now (records .entry)) (now (protections .entry))) (store (now (memory .entry)) (now (words .entry)) (now (tags .entry)))) (call.deviceWrite frame (now (buffer .entry))) ⌝ }
+    ensures { λ r. ⌜ result (answer (outcome r) none [])
+        (machineOf list (now (records .exit)) (now (protections .exit)) (now (memory .exit)) (now (words .entry)) (now (tags .exit)))
+        ≡ step board01
+        (machineOf list (now (records .entry)) (now (protections .entry)) (now (memory .entry)) (now (words .entry)) (now (tags .entry)))
+        (call.deviceWrite frame (now (buffer .entry))) ⌝ }
 {
     let plan = plans::plan_device_write(
         BOARD01,
@@ -279,8 +295,11 @@ pub fn evict(
     tags: &mut [u8],
     line: usize,
 ) -> Answer
-    ensures { λ r. ⌜ result (answer (outcome r) none []) (state (tables list (now (records .entry)) (now (protections .exit))) (store (now (memory .exit)) (now (words .entry)) (now (tags .exit))))
-        ≡ step board01 (state (tables list (now (records .entry)) (now (protections .entry))) (store (now (memory .entry)) (now (words .entry)) (now (tags .entry)))) (call.evict line) ⌝ }
+    ensures { λ r. ⌜ result (answer (outcome r) none [])
+        (machineOf list (now (records .entry)) (now (protections .exit)) (now (memory .exit)) (now (words .entry)) (now (tags .exit)))
+        ≡ step board01
+        (machineOf list (now (records .entry)) (now (protections .entry)) (now (memory .entry)) (now (words .entry)) (now (tags .entry)))
+        (call.evict line) ⌝ }
 {
     let refusal = plans::evict_refusal(
         BOARD01,

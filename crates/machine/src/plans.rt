@@ -12,7 +12,7 @@ ghost use Rattle.manager.specs.Refusals.{firstRefusal, placeOf, mappingOf};
 ghost use Rattle.cache.specs.Store.{store};
 ghost use Rattle.machine.specs.Refusals.{causes};
 ghost use Rattle.machine.specs.State as call;
-ghost use Rattle.machine.specs.State.{state};
+ghost use Rattle.machine.specs.State.{machineOf};
 ghost use Rattle.machine.specs.Plans.{planStep, planPlace, storeCauses, accessCauses, earlier, withStep, withPlace};
 use board::Board;
 use manager::ListPlan;
@@ -32,7 +32,9 @@ pub fn plan_map(
     m: Mapping,
 ) -> ListPlan
     requires { ⌜ Regular board ⌝ }
-    ensures { λ r. ⌜ r ≡ planPlace board (state (tables list (now (records .entry)) (now (protections .entry))) (store (now (memory .entry)) (now (words .entry)) (now (tags .entry)))) (call.map (m .space) (m .page) (m .frame) (m .rights)) (list .count) ⌝ }
+    ensures { λ r. ⌜ r ≡ planPlace board
+        (machineOf list (now (records .entry)) (now (protections .entry)) (now (memory .entry)) (now (words .entry)) (now (tags .entry)))
+        (call.map (m .space) (m .page) (m .frame) (m .rights)) (list .count) ⌝ }
 {
     let own = store_refusal(board, memory, words, tags);
     let plan = manager::plan_map(board, list, records, protections, m);
@@ -52,7 +54,9 @@ pub fn plan_unmap(
     page: u16,
 ) -> ListPlan
     requires { ⌜ Regular board ⌝ }
-    ensures { λ r. ⌜ r ≡ planPlace board (state (tables list (now (records .entry)) (now (protections .entry))) (store (now (memory .entry)) (now (words .entry)) (now (tags .entry)))) (call.unmap space page) (placeOf (lookup list space page)) ⌝ }
+    ensures { λ r. ⌜ r ≡ planPlace board
+        (machineOf list (now (records .entry)) (now (protections .entry)) (now (memory .entry)) (now (words .entry)) (now (tags .entry)))
+        (call.unmap space page) (placeOf (lookup list space page)) ⌝ }
 {
     let own = store_refusal(board, memory, words, tags);
     let plan = manager::plan_unmap(board, list, records, protections, space, page);
@@ -73,7 +77,10 @@ pub fn plan_read(
     offset: usize,
 ) -> Plan
     requires { ⌜ Regular board ⌝ }
-    ensures { λ r. ⌜ r ≡ planStep board (state (tables list (now (records .entry)) (now (protections .entry))) (store (now (memory .entry)) (now (words .entry)) (now (tags .entry)))) (call.read space page offset) (changeOf board (tables list (now (records .entry)) (now (protections .entry))) (mappingOf list space page .frame) (step.read (colourOf board page))) ⌝ }
+    ensures { λ r. ⌜ r ≡ planStep board
+        (machineOf list (now (records .entry)) (now (protections .entry)) (now (memory .entry)) (now (words .entry)) (now (tags .entry)))
+        (call.read space page offset)
+        (changeOf board (tables list (now (records .entry)) (now (protections .entry))) (mappingOf list space page .frame) (step.read (colourOf board page))) ⌝ }
 {
     let own = access_refusal(board, memory, words, tags, board.page, offset);
     let plan = manager::plan_read(board, list, records, protections, space, page);
@@ -94,7 +101,10 @@ pub fn plan_write(
     offset: usize,
 ) -> Plan
     requires { ⌜ Regular board ⌝ }
-    ensures { λ r. ⌜ r ≡ planStep board (state (tables list (now (records .entry)) (now (protections .entry))) (store (now (memory .entry)) (now (words .entry)) (now (tags .entry)))) (call.write space page offset 0) (changeOf board (tables list (now (records .entry)) (now (protections .entry))) (mappingOf list space page .frame) (step.write (colourOf board page))) ⌝ }
+    ensures { λ r. ⌜ r ≡ planStep board
+        (machineOf list (now (records .entry)) (now (protections .entry)) (now (memory .entry)) (now (words .entry)) (now (tags .entry)))
+        (call.write space page offset 0)
+        (changeOf board (tables list (now (records .entry)) (now (protections .entry))) (mappingOf list space page .frame) (step.write (colourOf board page))) ⌝ }
 {
     let own = access_refusal(board, memory, words, tags, board.page, offset);
     let plan = manager::plan_write(board, list, records, protections, space, page);
@@ -114,7 +124,10 @@ pub fn plan_device_read(
     frame: u8,
 ) -> Plan
     requires { ⌜ Regular board ⌝ }
-    ensures { λ r. ⌜ r ≡ planStep board (state (tables list (now (records .entry)) (now (protections .entry))) (store (now (memory .entry)) (now (words .entry)) (now (tags .entry)))) (call.deviceRead frame (now (buffer .entry))) (changeOf board (tables list (now (records .entry)) (now (protections .entry))) frame step.deviceRead) ⌝ }
+    ensures { λ r. ⌜ r ≡ planStep board
+        (machineOf list (now (records .entry)) (now (protections .entry)) (now (memory .entry)) (now (words .entry)) (now (tags .entry)))
+        (call.deviceRead frame (now (buffer .entry)))
+        (changeOf board (tables list (now (records .entry)) (now (protections .entry))) frame step.deviceRead) ⌝ }
 {
     let own = transfer_refusal(board, memory, words, tags, buffer);
     let plan = manager::plan_device_read(board, list, records, protections, frame);
@@ -134,7 +147,10 @@ pub fn plan_device_write(
     frame: u8,
 ) -> Plan
     requires { ⌜ Regular board ⌝ }
-    ensures { λ r. ⌜ r ≡ planStep board (state (tables list (now (records .entry)) (now (protections .entry))) (store (now (memory .entry)) (now (words .entry)) (now (tags .entry)))) (call.deviceWrite frame (now (buffer .entry))) (changeOf board (tables list (now (records .entry)) (now (protections .entry))) frame step.deviceWrite) ⌝ }
+    ensures { λ r. ⌜ r ≡ planStep board
+        (machineOf list (now (records .entry)) (now (protections .entry)) (now (memory .entry)) (now (words .entry)) (now (tags .entry)))
+        (call.deviceWrite frame (now (buffer .entry)))
+        (changeOf board (tables list (now (records .entry)) (now (protections .entry))) frame step.deviceWrite) ⌝ }
 {
     let own = transfer_refusal(board, memory, words, tags, buffer);
     let plan = manager::plan_device_write(board, list, records, protections, frame);
@@ -153,7 +169,9 @@ pub fn evict_refusal(
     line: usize,
 ) -> u8
     requires { ⌜ Regular board ⌝ }
-    ensures { λ r. ⌜ r ≡ firstRefusal (causes board (state (tables list (now (records .entry)) (now (protections .entry))) (store (now (memory .entry)) (now (words .entry)) (now (tags .entry)))) (call.evict line)) ⌝ }
+    ensures { λ r. ⌜ r ≡ firstRefusal (causes board
+        (machineOf list (now (records .entry)) (now (protections .entry)) (now (memory .entry)) (now (words .entry)) (now (tags .entry)))
+        (call.evict line)) ⌝ }
 {
     let own = access_refusal(board, memory, words, tags, board::lines(board), line);
     let managers = manager::refusals::tables_refusal(board, list, records, protections);

@@ -2,8 +2,7 @@
 use mathlib.Core.Path.{refl, sym, ap, _∙_}
 use Rattle.board.specs.Board.{board01}
 use Rattle.manager.specs.Tables.{tables, refill}
-use Rattle.cache.specs.Store.{store}
-use Rattle.machine.specs.State.{State, state, evict}
+use Rattle.machine.specs.State.{State, machineOf, evict}
 use Rattle.machine.proofs.StepLaws.{step-refused, evict-ready, made, evict-made}
 use borrow.Author.Needs.{needs}
 use Rattle.board.proofs.Geometry.{board01-regular}
@@ -12,7 +11,7 @@ use Rattle.machine.proofs.evict.Tie as tie
 
 -- what the call is lent
 abbrev St : tie.Start → State
-St s = state (tables (s .args .list) (s .args .records .now) (s .args .protections .now)) (store (s .args .memory .now) (s .args .words .now) (s .args .tags .now))
+St s = machineOf (s .args .list) (s .args .records .now) (s .args .protections .now) (s .args .memory .now) (s .args .words .now) (s .args .tags .now)
 
 evict-refusal-requires : tie.Need-evict-refusal-requires
 evict-refusal-requires c κs = board01-regular

@@ -3,8 +3,7 @@ use mathlib.Core.Path.{refl, sym, ap, _∙_}
 use Rattle.board.specs.Board.{board01}
 use Rattle.mapping.specs.declared.MappingList.{MappingList}
 use Rattle.manager.specs.Tables.{tables}
-use Rattle.cache.specs.Store.{store}
-use Rattle.machine.specs.State.{State, state, map}
+use Rattle.machine.specs.State.{State, machineOf, map}
 use Rattle.machine.proofs.StepLaws.{placed-place, placed-refusal, step-refused, made, map-made}
 use borrow.Author.Needs.{needs}
 use Rattle.board.proofs.Geometry.{board01-regular}
@@ -13,7 +12,7 @@ use Rattle.machine.proofs.map.Tie as tie
 
 -- what the call is lent
 abbrev St : tie.Start → State
-St s = state (tables (s .args .list) (s .args .records .now) (s .args .protections .now)) (store (s .args .memory .now) (s .args .words .now) (s .args .tags .now))
+St s = machineOf (s .args .list) (s .args .records .now) (s .args .protections .now) (s .args .memory .now) (s .args .words .now) (s .args .tags .now)
 
 plan-map-requires : tie.Need-plan-map-requires
 plan-map-requires c κs = board01-regular

@@ -3,8 +3,7 @@ use mathlib.Core.Path.{refl, sym, ap, _∙_}
 use Rattle.board.specs.Board.{board01}
 use Rattle.mapping.specs.declared.MappingList.{MappingList}
 use Rattle.manager.specs.Tables.{tables}
-use Rattle.cache.specs.Store.{store}
-use Rattle.machine.specs.State.{State, state, unmap}
+use Rattle.machine.specs.State.{State, machineOf, unmap}
 use Rattle.machine.proofs.StepLaws.{placed-place, placed-refusal, step-refused, made, unmap-made}
 use Rattle.manager.specs.Calls.{commitUnmap}
 use borrow.Author.Needs.{needs}
@@ -14,7 +13,7 @@ use Rattle.machine.proofs.unmap.Tie as tie
 
 -- what the call is lent
 abbrev St : tie.Start → State
-St s = state (tables (s .args .list) (s .args .records .now) (s .args .protections .now)) (store (s .args .memory .now) (s .args .words .now) (s .args .tags .now))
+St s = machineOf (s .args .list) (s .args .records .now) (s .args .protections .now) (s .args .memory .now) (s .args .words .now) (s .args .tags .now)
 
 plan-unmap-requires : tie.Need-plan-unmap-requires
 plan-unmap-requires c κs = board01-regular

@@ -4,15 +4,13 @@ use Prim.Native.Nat.{ℕ, _<_}
 use Rattle.board.specs.Board.{board01, colourOf}
 use Rattle.board.proofs.Geometry.{board01-regular, colourOf-lt}
 use Rattle.cache.specs.Cache.{writeWord}
-use Rattle.machine.specs.State.{State, state, write}
+use Rattle.machine.specs.State.{State, machineOf, write}
 use Rattle.machine.specs.Step.{frameOf}
 use Rattle.machine.proofs.StepLaws.{planned-step, planned-refusal, step-refused, Ready, write-ready, write-any, afterOps, made, write-made}
 use Rattle.page_model.specs.Table as table
 use Rattle.manager.specs.declared.Change.{Change}
 use Rattle.manager.specs.Calls.{changeOf}
 use Rattle.manager.specs.Refusals.{firstRefusal}
-use Rattle.manager.specs.Tables.{tables}
-use Rattle.cache.specs.Store.{store}
 use Rattle.machine.specs.Refusals.{causes}
 use borrow.Author.Needs.{needs}
 use Rattle.machine.proofs.write.Statement.{statement}
@@ -20,7 +18,7 @@ use Rattle.machine.proofs.write.Tie as tie
 
 -- what the call is lent
 abbrev St : tie.Start → State
-St s = state (tables (s .args .list) (s .args .records .now) (s .args .protections .now)) (store (s .args .memory .now) (s .args .words .now) (s .args .tags .now))
+St s = machineOf (s .args .list) (s .args .records .now) (s .args .protections .now) (s .args .memory .now) (s .args .words .now) (s .args .tags .now)
 
 -- the change is the one that the call makes
 planned-by : (c : tie.After-plan2) → let s = c .before .before .before .before .before .before .before .before .before .before .before .before .before in

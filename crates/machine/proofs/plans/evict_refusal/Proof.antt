@@ -2,9 +2,7 @@
 use mathlib.Core.Path.{sym, ap, ap₂, _∙_}
 use Prim.Native.Nat.{ℕ}
 use Rattle.manager.specs.Refusals.{firstRefusal}
-use Rattle.manager.specs.Tables.{tables}
-use Rattle.cache.specs.Store.{store}
-use Rattle.machine.specs.State.{State, state}
+use Rattle.machine.specs.State.{State, machineOf}
 use Rattle.machine.specs.Plans.{accessCauses, earlier}
 use Rattle.machine.proofs.MergeLaws.{evict-merge}
 use borrow.Author.Needs.{needs}
@@ -13,7 +11,7 @@ use Rattle.machine.proofs.plans.evict_refusal.Tie as tie
 
 -- what the function is lent
 abbrev St : tie.Start → State
-St s = state (tables (s .args .list) (s .args .records .now) (s .args .protections .now)) (store (s .args .memory .now) (s .args .words .now) (s .args .tags .now))
+St s = machineOf (s .args .list) (s .args .records .now) (s .args .protections .now) (s .args .memory .now) (s .args .words .now) (s .args .tags .now)
 
 lines-requires : tie.Need-lines-requires
 lines-requires c κs = search needs

@@ -1,8 +1,6 @@
 -- `machine::plan_write` meets its contract.
 use mathlib.Core.Path.{ap₂, _∙_}
-use Rattle.manager.specs.Tables.{tables}
-use Rattle.cache.specs.Store.{store}
-use Rattle.machine.specs.State.{State, state}
+use Rattle.machine.specs.State.{State, machineOf}
 use Rattle.machine.specs.Plans.{withStep}
 use Rattle.machine.proofs.MergeLaws.{write-merge, withStep-merged}
 use borrow.Author.Needs.{needs}
@@ -11,7 +9,7 @@ use Rattle.machine.proofs.plans.plan_write.Tie as tie
 
 -- what the function is lent
 abbrev St : tie.Start → State
-St s = state (tables (s .args .list) (s .args .records .now) (s .args .protections .now)) (store (s .args .memory .now) (s .args .words .now) (s .args .tags .now))
+St s = machineOf (s .args .list) (s .args .records .now) (s .args .protections .now) (s .args .memory .now) (s .args .words .now) (s .args .tags .now)
 
 access-refusal-requires : tie.Need-access-refusal-requires
 access-refusal-requires c κs = search needs
