@@ -1,50 +1,53 @@
 -- What a plan tells of a call: where it is a refusal, the call's answer; where it is a change, what the call is ready for and what it leaves.
-use mathlib.Core.Path.{_≡_, refl, sym, ap, _∙_}
+-- Each law is over any call of its shape.
+use mathlib.Core.Path.{_≡_, refl, sym, ap, subst, subst⁻¹, _∙_}
 use mathlib.Core.Bool.{true, _&&_}
-use mathlib.Core.List.{List, [], _++_}
-use mathlib.Core.Option.{Option, none, some}
+use mathlib.Core.List.{List, [], _∷_, _++_}
+use mathlib.Core.Option.{Option, none}
 use Prim.Native.Nat.{ℕ, zero, suc, _<_}
 use native.Mathlib.Omega.{arith}
 use borrow.Author.Tests.{not-false, leb-false, eqb-true}
+use lib.Dec.{eqb}
 use lib.ListN.{length}
 use Rattle.bits.proofs.Tautology.{and-left, and-right}
 use Rattle.board.specs.declared.Board.{Board}
-use Rattle.board.specs.Board.{lines, colourOf}
+use Rattle.board.specs.Board.{Regular, lines, colourOf}
+use Rattle.board.proofs.Geometry.{colourOf-lt}
 use Rattle.page_model.specs.Step.{OpBelow}
 use Rattle.page_model.specs.Table as table
 use Rattle.page_model.proofs.Theorems.{operations-below}
-use Rattle.mapping.specs.Lookup.{lookup}
+use Rattle.mapping.specs.declared.MappingList.{MappingList}
 use Rattle.manager.specs.declared.Change.{Change}
 use Rattle.manager.specs.declared.Plan.the-variants as step-plan
 use Rattle.manager.specs.declared.ListPlan.the-variants as list-plan
 use Rattle.manager.specs.Answers.{Outcome, refused, accepted}
-use Rattle.manager.specs.Calls.{noOps, planned, placed, changeOf, commitChange, commitMap, commitUnmap}
-use Rattle.manager.specs.Refusals.{firstRefusal, placeOf}
-use Rattle.manager.specs.Tables.{Tables, lengthsRight, rulesKept, recordAt, refill}
+use Rattle.manager.specs.Calls.{noOps, planned, placed, changeOf, commitChange}
+use Rattle.manager.specs.Refusals.{Cause, firstRefusal, spaceCause, frameCause, unmappedCause}
+use Rattle.manager.specs.Tables.{Tables, tables, lengthsRight, rulesKept, recordAt}
 use Rattle.manager.proofs.CauseLaws.{NoneApplies, numbered, none-applies, mapped-range}
-use Rattle.cache.specs.Cache as hardware
 use Rattle.cache.specs.Store.{Store, WellFormed}
 use Rattle.cache.specs.Tag.{tagsKeepRules}
-use Rattle.machine.specs.Refusals.{storeLengths, bufferRight, lentCauses, ownCauses, causes}
+use Rattle.machine.specs.Refusals.{storeLengths, bufferRight, lentCauses, offsetCause, ownCauses, causes}
 use Rattle.machine.specs.State.{State, state, Call, map, unmap, read, write, deviceRead, deviceWrite, evict, Result, lentBuffer}
-use Rattle.machine.specs.Step.{answer, result, carryOut, frameOf, accept, step}
-use Rattle.machine.proofs.StoreLaws.{well-formed}
+use Rattle.machine.specs.Step.{answer, result, carryOut, listed, stepped, frameOf, accept, step}
+use Rattle.machine.specs.Plans.{planStep, planPlace}
+use Rattle.machine.proofs.StoreLaws.{AccessReady, TransferReady, well-formed}
 
 -- ---- a plan that was made
 
-pub planned-step : (n : ℕ) (change made : Change) → planned n change ≡ step-plan.Step made → (n ≡ 0) × (change ≡ made)
+planned-step : (n : ℕ) (change made : Change) → planned n change ≡ step-plan.Step made → (n ≡ 0) × (change ≡ made)
 planned-step zero change made e = (refl, cc)
 planned-step (suc n) change made e = absurd (let z : _≡_ {A = ℕ} 0 1 = cc in omega arith)
 
-pub planned-refusal : (n k : ℕ) (change : Change) → planned n change ≡ step-plan.Refused k → (n ≡ k) × (n ≡ 0 → ⊥)
+planned-refusal : (n k : ℕ) (change : Change) → planned n change ≡ step-plan.Refused k → (n ≡ k) × (n ≡ 0 → ⊥)
 planned-refusal zero k change e = absurd (let z : _≡_ {A = ℕ} 0 1 = cc in omega arith)
 planned-refusal (suc n) k change e = (cc, λ z. omega arith)
 
-pub placed-place : (n place made : ℕ) → placed n place ≡ list-plan.Place made → (n ≡ 0) × (place ≡ made)
+placed-place : (n place made : ℕ) → placed n place ≡ list-plan.Place made → (n ≡ 0) × (place ≡ made)
 placed-place zero place made e = (refl, cc)
 placed-place (suc n) place made e = absurd (let z : _≡_ {A = ℕ} 0 1 = cc in omega arith)
 
-pub placed-refusal : (n k place : ℕ) → placed n place ≡ list-plan.Refused k → (n ≡ k) × (n ≡ 0 → ⊥)
+placed-refusal : (n k place : ℕ) → placed n place ≡ list-plan.Refused k → (n ≡ k) × (n ≡ 0 → ⊥)
 placed-refusal zero k place e = absurd (let z : _≡_ {A = ℕ} 0 1 = cc in omega arith)
 placed-refusal (suc n) k place e = (cc, λ z. omega arith)
 
@@ -114,51 +117,72 @@ ready b st f s wf hf =
     let below = operations-below (b .colours) s (recordAt (st .tables .records) f) in
     (wf, hf, below .1, below .2)
 
+-- an access to an offset of a page: any call whose own causes begin with those of the space, the offset and the mapping
+module _ (b : Board) (st : State) (call : Call) (space page offset : ℕ) (rest : List Cause)
+    (own : ownCauses b st call ≡ spaceCause space page ∷ offsetCause (b .page) offset ∷ unmappedCause (st .tables .list) space page ∷ rest)
+    (s : table.Step) where
+  pub access-ready : firstRefusal (causes b st call) ≡ 0 → Ready b st (changeOf b (st .tables) (frameOf st space page) s) × (offset < b .page)
+  unfolding lentCauses
+  access-ready e =
+      let n = subst (λ (cs : List Cause). NoneApplies (lentCauses b st call ++ cs)) own (clear b st call e) in
+      let m = mapped-range b (st .tables) (tables-clear b st call e) space page (not-false _ (n .1 .1 .1 .1 .0)) in
+      (ready b st (frameOf st space page) s (store-clear b st call e) (m .frame-lt), leb-false (b .page) offset (n .1 .1 .1 .0))
+
+  -- with the change that the plan tells, and the page's colour
+  pub access-requires : Regular b → {change : Change} {colour : ℕ} → planStep b st call (changeOf b (st .tables) (frameOf st space page) s) ≡ step-plan.Step change
+      → colour ≡ colourOf b page → AccessReady b (st .store) (change .frame) (change .ops) colour offset
+  access-requires reg {change} p e =
+      let q = planned-step _ _ change p in
+      let r = subst (λ (m : Change). Ready b st m × (offset < b .page)) (q .1) (access-ready (q .0)) in
+      (r .0 .0, r .0 .1, r .0 .2, r .0 .3, subst⁻¹ (λ (k : ℕ). k < b .colours) e (colourOf-lt b reg page), r .1, reg)
+
+-- a transfer of a frame: any call whose own causes begin with the frame's, and of which a buffer is tested
+module _ (b : Board) (st : State) (call : Call) (frame : ℕ) (buffer : List ℕ) (rest : List Cause) (own : ownCauses b st call ≡ frameCause b frame ∷ rest)
+    (tested : bufferRight b call ≡ eqb (length buffer) (b .page)) (s : table.Step) where
+  pub transfer-ready : firstRefusal (causes b st call) ≡ 0 → Ready b st (changeOf b (st .tables) frame s) × (length buffer ≡ b .page)
+  unfolding lentCauses
+  transfer-ready e =
+      let n = subst (λ (cs : List Cause). NoneApplies (lentCauses b st call ++ cs)) own (clear b st call e) in
+      let l = and-right (lengthsRight b (st .tables) && storeLengths b (st .store)) _ (lengths-clear b st call e) in
+      (ready b st frame s (store-clear b st call e) (leb-false (b .frames) frame (n .1 .1 .0)), eqb-true (length buffer) (b .page) (sym tested ∙ l))
+
+  -- with the change that the plan tells
+  pub transfer-requires : Regular b → {change : Change} → planStep b st call (changeOf b (st .tables) frame s) ≡ step-plan.Step change
+      → TransferReady b (st .store) (change .frame) (change .ops) buffer
+  transfer-requires reg {change} p =
+      let q = planned-step _ _ change p in
+      let r = subst (λ (m : Change). Ready b st m × (length buffer ≡ b .page)) (q .1) (transfer-ready (q .0)) in
+      (r .0 .0, r .0 .1, r .0 .2, r .0 .3, r .1, reg)
+
+-- each call's, by its causes
 module _ (b : Board) (st : State) where
   pub read-ready : (space page offset : ℕ) → firstRefusal (causes b st (read space page offset)) ≡ 0
       → Ready b st (changeOf b (st .tables) (frameOf st space page) (table.read (colourOf b page))) × (offset < b .page)
-  unfolding lentCauses ownCauses
-  read-ready space page offset e =
-      let n = clear b st (read space page offset) e in
-      let wf = store-clear b st (read space page offset) e in
-      let m = mapped-range b (st .tables) (tables-clear b st (read space page offset) e) space page (not-false _ (n .1 .1 .1 .1 .0)) in
-      (ready b st (frameOf st space page) (table.read (colourOf b page)) wf (m .frame-lt), leb-false (b .page) offset (n .1 .1 .1 .0))
+  unfolding ownCauses
+  read-ready space page offset = access-ready b st (read space page offset) space page offset [] refl (table.read (colourOf b page))
 
   pub write-ready : (space page offset word : ℕ) → firstRefusal (causes b st (write space page offset word)) ≡ 0
       → Ready b st (changeOf b (st .tables) (frameOf st space page) (table.write (colourOf b page))) × (offset < b .page)
-  unfolding lentCauses ownCauses
-  write-ready space page offset word e =
-      let n = clear b st (write space page offset word) e in
-      let wf = store-clear b st (write space page offset word) e in
-      let m = mapped-range b (st .tables) (tables-clear b st (write space page offset word) e) space page (not-false _ (n .1 .1 .1 .1 .0)) in
-      (ready b st (frameOf st space page) (table.write (colourOf b page)) wf (m .frame-lt), leb-false (b .page) offset (n .1 .1 .1 .0))
+  unfolding ownCauses
+  write-ready space page offset word = access-ready b st (write space page offset word) space page offset _ refl (table.write (colourOf b page))
 
   pub deviceRead-ready : (frame : ℕ) (buffer : List ℕ) → firstRefusal (causes b st (deviceRead frame buffer)) ≡ 0
       → Ready b st (changeOf b (st .tables) frame table.deviceRead) × (length buffer ≡ b .page)
-  unfolding lentCauses ownCauses
-  deviceRead-ready frame buffer e =
-      let n = clear b st (deviceRead frame buffer) e in (
-        ready b st frame table.deviceRead (store-clear b st (deviceRead frame buffer) e) (leb-false (b .frames) frame (n .1 .1 .0)),
-        eqb-true (length buffer) (b .page) (and-right (lengthsRight b (st .tables) && storeLengths b (st .store)) _ (lengths-clear b st (deviceRead frame buffer) e)),
-      )
+  unfolding ownCauses
+  deviceRead-ready frame buffer = transfer-ready b st (deviceRead frame buffer) frame buffer [] refl refl table.deviceRead
 
   pub deviceWrite-ready : (frame : ℕ) (buffer : List ℕ) → firstRefusal (causes b st (deviceWrite frame buffer)) ≡ 0
       → Ready b st (changeOf b (st .tables) frame table.deviceWrite) × (length buffer ≡ b .page)
-  unfolding lentCauses ownCauses
-  deviceWrite-ready frame buffer e =
-      let n = clear b st (deviceWrite frame buffer) e in (
-        ready b st frame table.deviceWrite (store-clear b st (deviceWrite frame buffer) e) (leb-false (b .frames) frame (n .1 .1 .0)),
-        eqb-true (length buffer) (b .page) (and-right (lengthsRight b (st .tables) && storeLengths b (st .store)) _ (lengths-clear b st (deviceWrite frame buffer) e)),
-      )
+  unfolding ownCauses
+  deviceWrite-ready frame buffer = transfer-ready b st (deviceWrite frame buffer) frame buffer [] refl refl table.deviceWrite
 
   pub evict-ready : (line : ℕ) → firstRefusal (causes b st (evict line)) ≡ 0 → WellFormed b (st .store) × (line < lines b)
   unfolding lentCauses ownCauses
   evict-ready line e = (store-clear b st (evict line) e, leb-false (lines b) line (clear b st (evict line) e .1 .1 .0))
 
--- ---- what an accepted call leaves, of the change that was planned
+-- ---- what a call answers and leaves, by the parts of its answer and of what is left
 
--- a result, by its parts
-pub made : {o o′ : Outcome} {w w′ : Option ℕ} {l l′ : List ℕ} {t t′ : Tables} {s s′ : Store} → o ≡ o′ → w ≡ w′ → l ≡ l′ → t ≡ t′ → s ≡ s′
+made : {o o′ : Outcome} {w w′ : Option ℕ} {l l′ : List ℕ} {t t′ : Tables} {s s′ : Store} → o ≡ o′ → w ≡ w′ → l ≡ l′ → t ≡ t′ → s ≡ s′
     → result (answer o w l) (state t s) ≡ result (answer o′ w′ l′) (state t′ s′)
 made eo ew el et es = λ i. result (answer (eo i) (ew i) (el i)) (state (et i) (es i))
 
@@ -166,75 +190,63 @@ made eo ew el et es = λ i. result (answer (eo i) (ew i) (el i)) (state (et i) (
 abbrev pub afterOps : Board → State → Change → Store
 afterOps b st change = carryOut b (accepted (change .frame) (change .ops)) (st .store)
 
-module _ (b : Board) (st : State) (change : Change) where
-  pub read-made : (space page offset : ℕ) → firstRefusal (causes b st (read space page offset)) ≡ 0
-      → changeOf b (st .tables) (frameOf st space page) (table.read (colourOf b page)) ≡ change
-      → result (answer (accepted (change .frame) (change .ops)) (some (hardware.readWord b (change .frame) (colourOf b page) offset (afterOps b st change))) [])
-      (state (commitChange b (st .tables) (change .frame) (change .next)) (hardware.access b (change .frame) (colourOf b page) offset (afterOps b st change)))
-      ≡ step b st (read space page offset)
-  unfolding accept
-  read-made space page offset e ch =
-      ap (λ (m : Change).
-      result (answer (accepted (m .frame) (m .ops)) (some (hardware.readWord b (m .frame) (colourOf b page) offset (afterOps b st m))) [])
-      (state (commitChange b (st .tables) (m .frame) (m .next)) (hardware.access b (m .frame) (colourOf b page) offset (afterOps b st m)))) (sym ch)
-      ∙ step-accepted b st (read space page offset) e
+module _ (b : Board) (st : State) (call : Call) where
+  -- the plan was a refusal
+  pub planned-refused : (change : Change) {k : ℕ} → planStep b st call change ≡ step-plan.Refused k
+      → result (answer (refused k) none (lentBuffer call)) st ≡ step b st call
+  planned-refused change {k} p = step-refused b st call k (planned-refusal _ k change p)
 
-  pub write-made : (space page offset word : ℕ) → firstRefusal (causes b st (write space page offset word)) ≡ 0
-      → changeOf b (st .tables) (frameOf st space page) (table.write (colourOf b page)) ≡ change
-      → result (answer (accepted (change .frame) (change .ops)) none [])
-      (state (commitChange b (st .tables) (change .frame) (change .next)) (hardware.writeWord b (change .frame) (colourOf b page) offset word (afterOps b st change)))
-      ≡ step b st (write space page offset word)
-  unfolding accept
-  write-made space page offset word e ch =
-      ap (λ (m : Change).
-      result (answer (accepted (m .frame) (m .ops)) none [])
-      (state (commitChange b (st .tables) (m .frame) (m .next)) (hardware.writeWord b (m .frame) (colourOf b page) offset word (afterOps b st m)))) (sym ch)
-      ∙ step-accepted b st (write space page offset word) e
+  -- the plan was a change, of a call that is a step of a frame's record
+  pub stepped-made : (change : Change) (word : ℕ → Store → Option ℕ) (buffer : ℕ → Store → List ℕ) (access : ℕ → Store → Store)
+      → accept b st call ≡ stepped b st change (word (change .frame)) (buffer (change .frame)) (access (change .frame))
+      → {told : Change} → planStep b st call change ≡ step-plan.Step told
+      → {w : Option ℕ} {l : List ℕ} {t : Tables} {s : Store}
+      → w ≡ word (told .frame) (afterOps b st told)
+      → l ≡ buffer (told .frame) (afterOps b st told)
+      → t ≡ commitChange b (st .tables) (told .frame) (told .next)
+      → s ≡ access (told .frame) (afterOps b st told)
+      → result (answer (accepted (told .frame) (told .ops)) w l) (state t s) ≡ step b st call
+  stepped-made change word buffer access a {told} p ew el et es =
+      let q = planned-step _ change told p in
+      made refl ew el et es
+      ∙ ap (λ (m : Change). stepped b st m (word (m .frame)) (buffer (m .frame)) (access (m .frame))) (sym (q .1))
+      ∙ sym a
+      ∙ step-accepted b st call (q .0)
 
-  pub deviceRead-made : (frame : ℕ) (buffer : List ℕ) → firstRefusal (causes b st (deviceRead frame buffer)) ≡ 0
-      → changeOf b (st .tables) frame table.deviceRead ≡ change
-      → result (answer (accepted (change .frame) (change .ops)) none (hardware.deviceRead b (change .frame) (afterOps b st change)))
-      (state (commitChange b (st .tables) (change .frame) (change .next)) (afterOps b st change))
-      ≡ step b st (deviceRead frame buffer)
-  unfolding accept
-  deviceRead-made frame buffer e ch =
-      ap (λ (m : Change).
-      result (answer (accepted (m .frame) (m .ops)) none (hardware.deviceRead b (m .frame) (afterOps b st m)))
-      (state (commitChange b (st .tables) (m .frame) (m .next)) (afterOps b st m))) (sym ch)
-      ∙ step-accepted b st (deviceRead frame buffer) e
+  -- and makes an access through a page's colour
+  pub access-made : (change : Change) (colour : ℕ) (word : ℕ → ℕ → Store → Option ℕ) (access : ℕ → ℕ → Store → Store)
+      → accept b st call ≡ stepped b st change (word (change .frame) colour) (λ s. []) (access (change .frame) colour)
+      → {told : Change} → planStep b st call change ≡ step-plan.Step told
+      → {k : ℕ} {w : Option ℕ} {t : Tables} {s : Store}
+      → k ≡ colour
+      → w ≡ word (told .frame) k (afterOps b st told)
+      → t ≡ commitChange b (st .tables) (told .frame) (told .next)
+      → s ≡ access (told .frame) k (afterOps b st told)
+      → result (answer (accepted (told .frame) (told .ops)) w []) (state t s) ≡ step b st call
+  access-made change colour word access a {told} p ek ew et es =
+      stepped-made change (λ f. word f colour) (λ f s. []) (λ f. access f colour) a p
+      (ew ∙ ap (λ (k : ℕ). word (told .frame) k (afterOps b st told)) ek) refl et
+      (es ∙ ap (λ (k : ℕ). access (told .frame) k (afterOps b st told)) ek)
 
-  pub deviceWrite-made : (frame : ℕ) (buffer : List ℕ) → firstRefusal (causes b st (deviceWrite frame buffer)) ≡ 0
-      → changeOf b (st .tables) frame table.deviceWrite ≡ change
-      → result (answer (accepted (change .frame) (change .ops)) none [])
-      (state (commitChange b (st .tables) (change .frame) (change .next)) (hardware.deviceWrite b (change .frame) buffer (afterOps b st change)))
-      ≡ step b st (deviceWrite frame buffer)
-  unfolding accept
-  deviceWrite-made frame buffer e ch =
-      ap (λ (m : Change).
-      result (answer (accepted (m .frame) (m .ops)) none [])
-      (state (commitChange b (st .tables) (m .frame) (m .next)) (hardware.deviceWrite b (m .frame) buffer (afterOps b st m)))) (sym ch)
-      ∙ step-accepted b st (deviceWrite frame buffer) e
+  -- the plan of the list was a refusal
+  pub placed-refused : (place : ℕ) {k : ℕ} → planPlace b st call place ≡ list-plan.Refused k
+      → {o : Outcome} {l : MappingList} → o ≡ refused k → l ≡ st .tables .list
+      → result (answer o none (lentBuffer call)) (state (tables l (st .tables .records) (st .tables .protections)) (st .store)) ≡ step b st call
+  placed-refused place {k} p eo el =
+      made eo refl refl (ap (λ (l : MappingList). tables l (st .tables .records) (st .tables .protections)) el) refl
+      ∙ step-refused b st call k (placed-refusal _ k place p)
 
--- a write's refusal does not look at the word
-pub write-any : (b : Board) (st : State) (space page offset word : ℕ)
-    → firstRefusal (causes b st (write space page offset 0)) ≡ firstRefusal (causes b st (write space page offset word))
-unfolding causes
-write-any b st space page offset word = refl
+  -- an accepted call without orders
+  pub listed-made : (t : Tables) (s : Store) → accept b st call ≡ listed t s → firstRefusal (causes b st call) ≡ 0
+      → {o : Outcome} {t′ : Tables} {s′ : Store} → o ≡ accepted 0 noOps → t′ ≡ t → s′ ≡ s → result (answer o none []) (state t′ s′) ≡ step b st call
+  listed-made t s a e eo et es = made eo refl refl et es ∙ sym a ∙ step-accepted b st call e
 
-module _ (b : Board) (st : State) where
-  pub map-made : (space page frame rights : ℕ) → firstRefusal (causes b st (map space page frame rights)) ≡ 0
-      → result (answer (accepted 0 noOps) none []) (state (commitMap b (st .tables) (record { space = space; page = page; frame = frame; rights = rights })) (st .store))
-      ≡ step b st (map space page frame rights)
-  unfolding accept
-  map-made space page frame rights e = step-accepted b st (map space page frame rights) e
-
-  pub unmap-made : (space page : ℕ) → firstRefusal (causes b st (unmap space page)) ≡ 0
-      → result (answer (accepted 0 noOps) none []) (state (commitUnmap b (st .tables) (placeOf (lookup (st .tables .list) space page))) (st .store))
-      ≡ step b st (unmap space page)
-  unfolding accept
-  unmap-made space page e = step-accepted b st (unmap space page) e
-
-  pub evict-made : (line : ℕ) → firstRefusal (causes b st (evict line)) ≡ 0
-      → result (answer (accepted 0 noOps) none []) (state (refill b (st .tables)) (hardware.evict b line (st .store))) ≡ step b st (evict line)
-  unfolding accept
-  evict-made line e = step-accepted b st (evict line) e
+  -- the plan of the list was a place, at which the tables change
+  pub placed-made : (commit : ℕ → Tables) (place : ℕ) → accept b st call ≡ listed (commit place) (st .store)
+      → {told : ℕ} → planPlace b st call place ≡ list-plan.Place told
+      → {o : Outcome} {l l′ : MappingList} {records protections : List ℕ} → o ≡ accepted 0 noOps → l ≡ l′ → tables l′ records protections ≡ commit told
+      → result (answer o none []) (state (tables l records protections) (st .store)) ≡ step b st call
+  placed-made commit place a {told} p {records = records} {protections = protections} eo el et =
+      let q = placed-place _ place told p in
+      listed-made (commit place) (st .store) a (q .0) eo
+      (ap (λ (l : MappingList). tables l records protections) el ∙ et ∙ ap commit (sym (q .1))) refl

@@ -1,6 +1,7 @@
 -- Laws of the refusals in memory, cache words and tags, and of what the orders leave of them.
-use mathlib.Core.Path.{_≡_, ap₂}
+use mathlib.Core.Path.{_≡_, ap₂, subst⁻¹}
 use mathlib.Core.Bool.{true, false, _&&_, and-false}
+use mathlib.Core.List.{List}
 use Prim.Native.Nat.{ℕ, _<_}
 use borrow.Author.Tests.{eq-eqb, eqb-true}
 use lib.Dec.{eqb}
@@ -47,6 +48,19 @@ module _ (b : Board) (s : Store) where
         tags-rules = r;
       }
 
+-- ---- a frame's operations, and the access after them
+
+-- what `load` and `put` require
+abbrev pub AccessReady : Board → Store → ℕ → Ops → ℕ → ℕ → Type 0
+AccessReady b s f ops colour offset =
+    WellFormed b s × (f < b .frames) × OpBelow (b .colours) (ops .first) × OpBelow (b .colours) (ops .second) × (colour < b .colours) × (offset < b .page)
+    × Regular b
+
+-- what `send` and `receive` require
+abbrev pub TransferReady : Board → Store → ℕ → Ops → List ℕ → Type 0
+TransferReady b s f ops buffer =
+    WellFormed b s × (f < b .frames) × OpBelow (b .colours) (ops .first) × OpBelow (b .colours) (ops .second) × (length buffer ≡ b .page) × Regular b
+
 -- an operation on a frame leaves a store of its lengths, whose tags keep the rules
 pub operate-kept : (b : Board) → Regular b → (f : ℕ) → f < b .frames → (op : Op) → OpBelow (b .colours) op → (s : Store) → WellFormed b s
     → WellFormed b (operate b (operationOn f op) s)
@@ -60,3 +74,9 @@ pub carryOut-kept : (b : Board) → Regular b → (f : ℕ) → f < b .frames �
     → (s : Store) → WellFormed b s → WellFormed b (carryOut b (accepted f ops) s)
 unfolding carryOut
 carryOut-kept b reg f hf ops first second s wf = operate-kept b reg f hf (ops .second) second _ (operate-kept b reg f hf (ops .first) first s wf)
+
+-- so an access may follow them
+pub access-follows : (b : Board) (f : ℕ) (ops : Ops) (colour offset : ℕ) {s s′ : Store} → AccessReady b s f ops colour offset → s′ ≡ carryOut b (accepted f ops) s
+    → WellFormed b s′ × (f < b .frames) × (colour < b .colours) × (offset < b .page) × Regular b
+access-follows b f ops colour offset r e =
+    (subst⁻¹ (WellFormed b) e (carryOut-kept b (r .6) f (r .1) ops (r .2) (r .3) _ (r .0)), r .1, r .4, r .5, r .6)

@@ -1,30 +1,43 @@
 -- `machine::device_write` meets its contract.
-use mathlib.Core.Path.{_≡_, refl, sym, subst, _∙_}
-use lib.ListN.{length}
+use mathlib.Core.Path.{_≡_, refl, sym, _∙_}
+use mathlib.Core.List.{[]}
+use mathlib.Core.Option.{none}
+use borrow.Author.Needs.{needs}
 use Rattle.board.specs.Board.{board01}
-use Rattle.machine.specs.State.{State, machineOf, deviceWrite}
-use Rattle.machine.proofs.StepLaws.{planned-step, planned-refusal, step-refused, Ready, deviceWrite-ready, made, deviceWrite-made}
+use Rattle.board.proofs.Geometry.{board01-regular}
 use Rattle.page_model.specs.Table as table
 use Rattle.manager.specs.declared.Change.{Change}
+use Rattle.manager.specs.declared.Plan.the-variants as step-plan
 use Rattle.manager.specs.Calls.{changeOf}
-use Rattle.manager.specs.Refusals.{firstRefusal}
-use Rattle.machine.specs.Refusals.{causes}
-use borrow.Author.Needs.{needs}
-use Rattle.board.proofs.Geometry.{board01-regular}
+use Rattle.cache.specs.Cache as hardware
+use Rattle.machine.specs.Refusals.{ownCauses}
+use Rattle.machine.specs.State.{State, machineOf, Call, deviceWrite}
+use Rattle.machine.specs.Step.{accept}
+use Rattle.machine.specs.Plans.{planStep}
+use Rattle.machine.proofs.StepLaws.{transfer-requires, planned-refused, stepped-made}
 use Rattle.machine.proofs.device_write.Statement.{statement}
 use Rattle.machine.proofs.device_write.Tie as tie
 
--- what the call is lent
+-- what the call is lent, the call, and the change that it makes
 abbrev St : tie.Start → State
 St s = machineOf (s .args .list) (s .args .records .now) (s .args .protections .now) (s .args .memory .now) (s .args .words .now) (s .args .tags .now)
 
--- the change is the one that the call makes
-planned-by : (c : tie.After-plan2) → let s = c .before .before .before .before .before .before .before .before .before .before .before .before .before in
-    (firstRefusal (causes board01 (St s) (deviceWrite (s .args .frame) (s .args .buffer .now))) ≡ 0) × (changeOf board01 (St s .tables) (s .args .frame) table.deviceWrite ≡ c .plan2 .given .0 .0)
-planned-by c =
-    let s = c .before .before .before .before .before .before .before .before .before .before .before .before .before in
-    let p = planned-step _ _ (c .plan2 .given .0 .0) (sym (c .before .before .plan-device-write .ensures) ∙ c .plan2 .given .1) in
-    p
+abbrev asked : tie.Start → Call
+asked s = deviceWrite (s .args .frame) (s .args .buffer .now)
+
+abbrev change : tie.Start → Change
+change s = changeOf board01 (St s .tables) (s .args .frame) table.deviceWrite
+
+-- the places that the proof goes back to
+abbrev start-of : tie.After-plan-device-write → tie.Start
+start-of c = c .before .before .before .before .before .before .before .before .before .before .before
+
+abbrev plan-of : tie.After-commit-change → tie.After-plan2
+plan-of c = c .before .before .before .before .before .before
+
+-- the plan is that change
+planned-by : (c : tie.After-plan2) → let s = start-of (c .before .before) in planStep board01 (St s) (asked s) (change s) ≡ step-plan.Step (c .plan2 .given .0 .0)
+planned-by c = sym (c .before .before .plan-device-write .ensures) ∙ c .plan2 .given .1
 
 plan-device-write-requires : tie.Need-plan-device-write-requires
 plan-device-write-requires c κs = board01-regular
@@ -42,12 +55,12 @@ cast-receive : tie.Need-cast-receive
 cast-receive c = search needs
 
 receive-requires : tie.Need-receive-requires
+unfolding ownCauses
 receive-requires c κs =
-    let at = c .before .before .before .before .before .before .before .before .before .before .before .before in
-    let s = at .before .before .before .before .before .before .before .before .before .before .before .before .before in
-    let p = planned-by at in
-    let r = subst (λ (m : Change). Ready board01 (St s) m × (length (s .args .buffer .now) ≡ board01 .page)) (p .1) (deviceWrite-ready board01 (St s) (s .args .frame) (s .args .buffer .now) (p .0)) in
-    (r .0 .0, r .0 .1, r .0 .2, r .0 .3, r .1, board01-regular)
+    let commit = c .before .before .before .before .before .before in
+    let at = plan-of commit in
+    let s = start-of (at .before .before) in
+    transfer-requires board01 (St s) (asked s) (s .args .frame) (s .args .buffer .now) [] refl refl table.deviceWrite board01-regular (planned-by at)
 
 same-length : tie.Need-same-length
 same-length c = search needs
@@ -63,8 +76,9 @@ same-length-4 c = search needs
 
 returns : tie.Need-returns
 returns c =
-    let s = c .before .before .before .before .before .before .before .before .before .before .before .before .before .before in
-    step-refused board01 (St s) (deviceWrite (s .args .frame) (s .args .buffer .now)) _ (planned-refusal _ _ _ (sym (c .before .before .before .plan-device-write .ensures) ∙ c .before .plan .given .1))
+    let plan = c .before .before .before in
+    let s = start-of plan in
+    planned-refused board01 (St s) (asked s) (change s) (sym (plan .plan-device-write .ensures) ∙ c .before .plan .given .1)
 
 same-length-5 : tie.Need-same-length-5
 same-length-5 c = search needs
@@ -79,13 +93,14 @@ same-length-8 : tie.Need-same-length-8
 same-length-8 c = search needs
 
 returns-2 : tie.Need-returns-2
+unfolding accept
 returns-2 c =
-    let at = c .before .before .before .before .before .before .before .before .before .before .before .before .before .before .before .before .before in
-    let s = at .before .before .before .before .before .before .before .before .before .before .before .before .before in
-    let m = at .plan2 .given .0 .0 in
-    let p = planned-by at in
-    made refl refl refl (c .before .before .before .before .before .before .before .before .before .before .before .commit-change .ensures) (c .before .before .before .before .receive .ensures)
-    ∙ deviceWrite-made board01 (St s) m (s .args .frame) (s .args .buffer .now) (p .0) (p .1)
+    let receive = c .before .before .before .before in
+    let commit = receive .before .before .before .before .before .before .before in
+    let at = plan-of commit in
+    let s = start-of (at .before .before) in
+    stepped-made board01 (St s) (asked s) (change s) (λ f x. none) (λ f x. []) (λ f. hardware.deviceWrite board01 f (s .args .buffer .now)) refl
+    (planned-by at) refl refl (commit .commit-change .ensures) (receive .receive .ensures)
 
 pub device-write-spec : {M : Type 1} → statement M
 device-write-spec =

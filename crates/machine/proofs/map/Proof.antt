@@ -1,18 +1,28 @@
 -- `machine::map` meets its contract.
-use mathlib.Core.Path.{refl, sym, ap, _∙_}
-use Rattle.board.specs.Board.{board01}
-use Rattle.mapping.specs.declared.MappingList.{MappingList}
-use Rattle.manager.specs.Tables.{tables}
-use Rattle.machine.specs.State.{State, machineOf, map}
-use Rattle.machine.proofs.StepLaws.{placed-place, placed-refusal, step-refused, made, map-made}
+use mathlib.Core.Path.{refl, sym, _∙_}
+use Prim.Native.Nat.{ℕ}
 use borrow.Author.Needs.{needs}
+use Rattle.board.specs.Board.{board01}
 use Rattle.board.proofs.Geometry.{board01-regular}
+use Rattle.manager.specs.Calls.{commitMap}
+use Rattle.machine.specs.State.{State, machineOf, Call, map}
+use Rattle.machine.specs.Step.{accept}
+use Rattle.machine.proofs.StepLaws.{placed-refused, placed-made}
 use Rattle.machine.proofs.map.Statement.{statement}
 use Rattle.machine.proofs.map.Tie as tie
 
--- what the call is lent
+-- what the call is lent, the call, and the place that it takes
 abbrev St : tie.Start → State
 St s = machineOf (s .args .list) (s .args .records .now) (s .args .protections .now) (s .args .memory .now) (s .args .words .now) (s .args .tags .now)
+
+abbrev asked : tie.Start → Call
+asked s = map (s .args .m .space) (s .args .m .page) (s .args .m .frame) (s .args .m .rights)
+
+abbrev place : tie.Start → ℕ
+place s = s .args .list .count
+
+abbrev start-of : tie.After-plan-map → tie.Start
+start-of c = c .before .before .before .before .before .before .before
 
 plan-map-requires : tie.Need-plan-map-requires
 plan-map-requires c κs = board01-regular
@@ -37,18 +47,22 @@ same-length c = search needs
 
 returns : tie.Need-returns
 returns c =
-    let s = c .before .before .before .before .before .before .before .before .before .before .before in
-    made (c .refused-as .ensures .0) refl refl (ap (λ (l : MappingList). tables l (s .args .records .now) (s .args .protections .now)) (c .refused-as .ensures .1)) refl
-    ∙ step-refused board01 (St s) (map (s .args .m .space) (s .args .m .page) (s .args .m .frame) (s .args .m .rights)) _ (placed-refusal _ _ _ (sym (c .before .before .before .before .plan-map .ensures) ∙ c .before .before .plan .given .1))
+    let plan = c .before .before .before .before in
+    let s = start-of plan in
+    placed-refused board01 (St s) (asked s) (place s) (sym (plan .plan-map .ensures) ∙ c .before .before .plan .given .1) (c .refused-as .ensures .0) (c .refused-as .ensures .1)
 
 same-length-2 : tie.Need-same-length-2
 same-length-2 c = search needs
 
 returns-2 : tie.Need-returns-2
+unfolding accept
 returns-2 c =
-    let s = c .before .before .before .before .before .before .before .before .before .before .before .before .before .before in
-    made (c .listed-as .ensures .0) refl refl (ap (λ (l : MappingList). tables l (s .args .records .now) (c .before .before .before .commit-map .last .1 .1 .1 .0)) (c .listed-as .ensures .1) ∙ c .before .before .before .commit-map .ensures) refl
-    ∙ map-made board01 (St s) (s .args .m .space) (s .args .m .page) (s .args .m .frame) (s .args .m .rights) (placed-place _ _ _ (sym (c .before .before .before .before .before .before .before .plan-map .ensures) ∙ c .before .before .before .before .before .enum-told .given .1) .0)
+    let commit = c .before .before .before in
+    let told = commit .before .before in
+    let plan = told .before .before in
+    let s = start-of plan in
+    placed-made board01 (St s) (asked s) (λ at. commitMap board01 (St s .tables) (s .args .m)) (place s) refl (sym (plan .plan-map .ensures) ∙ told .enum-told .given .1)
+    (c .listed-as .ensures .0) (c .listed-as .ensures .1) (commit .commit-map .ensures)
 
 pub map-spec : {M : Type 1} → statement M
 map-spec =

@@ -1,33 +1,43 @@
 -- `machine::read` meets its contract.
-use mathlib.Core.Path.{_≡_, refl, sym, ap, subst, subst⁻¹, _∙_}
+use mathlib.Core.Path.{_≡_, refl, sym, ap, _∙_}
+use mathlib.Core.List.{[]}
 use mathlib.Core.Option.{some}
-use Prim.Native.Nat.{ℕ, _<_}
+use borrow.Author.Needs.{needs}
 use Rattle.board.specs.Board.{board01, colourOf}
-use Rattle.board.proofs.Geometry.{board01-regular, colourOf-lt}
-use Rattle.cache.specs.Cache.{readWord, access}
-use Rattle.machine.specs.State.{State, machineOf, read}
-use Rattle.machine.specs.Step.{frameOf}
-use Rattle.machine.proofs.StepLaws.{planned-step, planned-refusal, step-refused, Ready, read-ready, afterOps, made, read-made}
+use Rattle.board.proofs.Geometry.{board01-regular}
 use Rattle.page_model.specs.Table as table
 use Rattle.manager.specs.declared.Change.{Change}
+use Rattle.manager.specs.declared.Plan.the-variants as step-plan
 use Rattle.manager.specs.Calls.{changeOf}
-use Rattle.manager.specs.Refusals.{firstRefusal}
-use Rattle.machine.specs.Refusals.{causes}
-use borrow.Author.Needs.{needs}
+use Rattle.cache.specs.Cache as hardware
+use Rattle.machine.specs.Refusals.{ownCauses}
+use Rattle.machine.specs.State.{State, machineOf, Call, read}
+use Rattle.machine.specs.Step.{frameOf, accept}
+use Rattle.machine.specs.Plans.{planStep}
+use Rattle.machine.proofs.StepLaws.{access-requires, planned-refused, access-made}
 use Rattle.machine.proofs.read.Statement.{statement}
 use Rattle.machine.proofs.read.Tie as tie
 
--- what the call is lent
+-- what the call is lent, the call, and the change that it makes
 abbrev St : tie.Start → State
 St s = machineOf (s .args .list) (s .args .records .now) (s .args .protections .now) (s .args .memory .now) (s .args .words .now) (s .args .tags .now)
 
--- the change is the one that the call makes
-planned-by : (c : tie.After-plan2) → let s = c .before .before .before .before .before .before .before .before .before .before .before .before .before in
-    (firstRefusal (causes board01 (St s) (read (s .args .space) (s .args .page) (s .args .offset))) ≡ 0) × (changeOf board01 (St s .tables) (frameOf (St s) (s .args .space) (s .args .page)) (table.read (colourOf board01 (s .args .page))) ≡ c .plan2 .given .0 .0)
-planned-by c =
-    let s = c .before .before .before .before .before .before .before .before .before .before .before .before .before in
-    let p = planned-step _ _ (c .plan2 .given .0 .0) (sym (c .before .before .plan-read .ensures) ∙ c .plan2 .given .1) in
-    p
+abbrev asked : tie.Start → Call
+asked s = read (s .args .space) (s .args .page) (s .args .offset)
+
+abbrev change : tie.Start → Change
+change s = changeOf board01 (St s .tables) (frameOf (St s) (s .args .space) (s .args .page)) (table.read (colourOf board01 (s .args .page)))
+
+-- the places that the proof goes back to
+abbrev start-of : tie.After-plan-read → tie.Start
+start-of c = c .before .before .before .before .before .before .before .before .before .before .before
+
+abbrev plan-of : tie.After-commit-change → tie.After-plan2
+plan-of c = c .before .before .before .before .before .before
+
+-- the plan is that change
+planned-by : (c : tie.After-plan2) → let s = start-of (c .before .before) in planStep board01 (St s) (asked s) (change s) ≡ step-plan.Step (c .plan2 .given .0 .0)
+planned-by c = sym (c .before .before .plan-read .ensures) ∙ c .plan2 .given .1
 
 plan-read-requires : tie.Need-plan-read-requires
 plan-read-requires c κs = board01-regular
@@ -48,12 +58,14 @@ cast-load : tie.Need-cast-load
 cast-load c = search needs
 
 load-requires : tie.Need-load-requires
+unfolding ownCauses
 load-requires c κs =
-    let at = c .before .before .before .before .before .before .before .before .before .before .before .before .before .before in
-    let s = at .before .before .before .before .before .before .before .before .before .before .before .before .before in
-    let p = planned-by at in
-    let r = subst (λ (m : Change). Ready board01 (St s) m × (s .args .offset < board01 .page)) (p .1) (read-ready board01 (St s) (s .args .space) (s .args .page) (s .args .offset) (p .0)) in
-    (r .0 .0, r .0 .1, r .0 .2, r .0 .3, subst⁻¹ (λ (k : ℕ). k < board01 .colours) (c .before .before .before .colour-of .ensures .0) (colourOf-lt board01 board01-regular _), r .1, board01-regular)
+    let colour = c .before .before .before in
+    let commit = colour .before .before .before .before .before in
+    let at = plan-of commit in
+    let s = start-of (at .before .before) in
+    access-requires board01 (St s) (asked s) (s .args .space) (s .args .page) (s .args .offset) [] refl (table.read (colourOf board01 (s .args .page)))
+    board01-regular (planned-by at) (colour .colour-of .ensures .0)
 
 same-length : tie.Need-same-length
 same-length c = search needs
@@ -72,8 +84,9 @@ same-length-5 c = search needs
 
 returns : tie.Need-returns
 returns c =
-    let s = c .before .before .before .before .before .before .before .before .before .before .before .before .before .before in
-    step-refused board01 (St s) (read (s .args .space) (s .args .page) (s .args .offset)) _ (planned-refusal _ _ _ (sym (c .before .before .before .plan-read .ensures) ∙ c .before .plan .given .1))
+    let plan = c .before .before .before in
+    let s = start-of plan in
+    planned-refused board01 (St s) (asked s) (change s) (sym (plan .plan-read .ensures) ∙ c .before .plan .given .1)
 
 same-length-6 : tie.Need-same-length-6
 same-length-6 c = search needs
@@ -91,14 +104,16 @@ same-length-10 : tie.Need-same-length-10
 same-length-10 c = search needs
 
 returns-2 : tie.Need-returns-2
+unfolding accept
 returns-2 c =
-    let at = c .before .before .before .before .before .before .before .before .before .before .before .before .before .before .before .before .before .before .before .before .before in
-    let s = at .before .before .before .before .before .before .before .before .before .before .before .before .before in
-    let m = at .plan2 .given .0 .0 in
-    let p = planned-by at in
-    made refl (ap some (c .before .before .before .before .before .before .load .ensures .0 ∙ ap (λ (k : ℕ). readWord board01 (m .frame) k (s .args .offset) (afterOps board01 (St s) m)) (c .before .before .before .before .before .before .before .before .before .before .colour-of .ensures .0))) refl (c .before .before .before .before .before .before .before .before .before .before .before .before .before .before .before .commit-change .ensures)
-    (c .before .before .before .before .before .before .load .ensures .1 ∙ ap (λ (k : ℕ). access board01 (m .frame) k (s .args .offset) (afterOps board01 (St s) m)) (c .before .before .before .before .before .before .before .before .before .before .colour-of .ensures .0))
-    ∙ read-made board01 (St s) m (s .args .space) (s .args .page) (s .args .offset) (p .0) (p .1)
+    let load = c .before .before .before .before .before .before in
+    let colour = load .before .before .before .before in
+    let commit = colour .before .before .before .before .before in
+    let at = plan-of commit in
+    let s = start-of (at .before .before) in
+    access-made board01 (St s) (asked s) (change s) (colourOf board01 (s .args .page))
+    (λ f k x. some (hardware.readWord board01 f k (s .args .offset) x)) (λ f k. hardware.access board01 f k (s .args .offset)) refl
+    (planned-by at) (colour .colour-of .ensures .0) (ap some (load .load .ensures .0)) (commit .commit-change .ensures) (load .load .ensures .1)
 
 pub read-spec : {M : Type 1} → statement M
 read-spec =

@@ -1,19 +1,30 @@
 -- `machine::unmap` meets its contract.
-use mathlib.Core.Path.{refl, sym, ap, _∙_}
-use Rattle.board.specs.Board.{board01}
-use Rattle.mapping.specs.declared.MappingList.{MappingList}
-use Rattle.manager.specs.Tables.{tables}
-use Rattle.machine.specs.State.{State, machineOf, unmap}
-use Rattle.machine.proofs.StepLaws.{placed-place, placed-refusal, step-refused, made, unmap-made}
-use Rattle.manager.specs.Calls.{commitUnmap}
+use mathlib.Core.Path.{refl, sym, _∙_}
+use Prim.Native.Nat.{ℕ}
 use borrow.Author.Needs.{needs}
+use Rattle.board.specs.Board.{board01}
 use Rattle.board.proofs.Geometry.{board01-regular}
+use Rattle.mapping.specs.Lookup.{lookup}
+use Rattle.manager.specs.Calls.{commitUnmap}
+use Rattle.manager.specs.Refusals.{placeOf}
+use Rattle.machine.specs.State.{State, machineOf, Call, unmap}
+use Rattle.machine.specs.Step.{accept}
+use Rattle.machine.proofs.StepLaws.{placed-refused, placed-made}
 use Rattle.machine.proofs.unmap.Statement.{statement}
 use Rattle.machine.proofs.unmap.Tie as tie
 
--- what the call is lent
+-- what the call is lent, the call, and the place that it takes
 abbrev St : tie.Start → State
 St s = machineOf (s .args .list) (s .args .records .now) (s .args .protections .now) (s .args .memory .now) (s .args .words .now) (s .args .tags .now)
+
+abbrev asked : tie.Start → Call
+asked s = unmap (s .args .space) (s .args .page)
+
+abbrev place : tie.Start → ℕ
+place s = placeOf (lookup (s .args .list) (s .args .space) (s .args .page))
+
+abbrev start-of : tie.After-plan-unmap → tie.Start
+start-of c = c .before .before .before .before .before .before .before
 
 plan-unmap-requires : tie.Need-plan-unmap-requires
 plan-unmap-requires c κs = board01-regular
@@ -38,20 +49,22 @@ same-length c = search needs
 
 returns : tie.Need-returns
 returns c =
-    let s = c .before .before .before .before .before .before .before .before .before .before .before in
-    made (c .refused-as .ensures .0) refl refl (ap (λ (l : MappingList). tables l (s .args .records .now) (s .args .protections .now)) (c .refused-as .ensures .1)) refl
-    ∙ step-refused board01 (St s) (unmap (s .args .space) (s .args .page)) _ (placed-refusal _ _ _ (sym (c .before .before .before .before .plan-unmap .ensures) ∙ c .before .before .plan .given .1))
+    let plan = c .before .before .before .before in
+    let s = start-of plan in
+    placed-refused board01 (St s) (asked s) (place s) (sym (plan .plan-unmap .ensures) ∙ c .before .before .plan .given .1) (c .refused-as .ensures .0) (c .refused-as .ensures .1)
 
 same-length-2 : tie.Need-same-length-2
 same-length-2 c = search needs
 
 returns-2 : tie.Need-returns-2
+unfolding accept
 returns-2 c =
-    let s = c .before .before .before .before .before .before .before .before .before .before .before .before .before .before .before in
-    let p = placed-place _ _ _ (sym (c .before .before .before .before .before .before .before .before .plan-unmap .ensures) ∙ c .before .before .before .before .before .before .plan2 .given .1) in
-    made (c .listed-as .ensures .0) refl refl
-    (ap (λ (l : MappingList). tables l (s .args .records .now) (c .before .before .before .commit-unmap .last .1 .1 .1 .0)) (c .listed-as .ensures .1) ∙ c .before .before .before .commit-unmap .ensures ∙ ap (commitUnmap board01 (St s .tables)) (sym (p .1))) refl
-    ∙ unmap-made board01 (St s) (s .args .space) (s .args .page) (p .0)
+    let commit = c .before .before .before in
+    let told = commit .before .before .before in
+    let plan = told .before .before in
+    let s = start-of plan in
+    placed-made board01 (St s) (asked s) (commitUnmap board01 (St s .tables)) (place s) refl (sym (plan .plan-unmap .ensures) ∙ told .plan2 .given .1)
+    (c .listed-as .ensures .0) (c .listed-as .ensures .1) (commit .commit-unmap .ensures)
 
 pub unmap-spec : {M : Type 1} → statement M
 unmap-spec =

@@ -1,32 +1,43 @@
 -- `machine::write` meets its contract.
-use mathlib.Core.Path.{_≡_, refl, sym, ap, subst, subst⁻¹, _∙_}
-use Prim.Native.Nat.{ℕ, _<_}
+use mathlib.Core.Path.{_≡_, refl, sym, _∙_}
+use mathlib.Core.Option.{none}
+use borrow.Author.Needs.{needs}
 use Rattle.board.specs.Board.{board01, colourOf}
-use Rattle.board.proofs.Geometry.{board01-regular, colourOf-lt}
-use Rattle.cache.specs.Cache.{writeWord}
-use Rattle.machine.specs.State.{State, machineOf, write}
-use Rattle.machine.specs.Step.{frameOf}
-use Rattle.machine.proofs.StepLaws.{planned-step, planned-refusal, step-refused, Ready, write-ready, write-any, afterOps, made, write-made}
+use Rattle.board.proofs.Geometry.{board01-regular}
 use Rattle.page_model.specs.Table as table
 use Rattle.manager.specs.declared.Change.{Change}
+use Rattle.manager.specs.declared.Plan.the-variants as step-plan
 use Rattle.manager.specs.Calls.{changeOf}
-use Rattle.manager.specs.Refusals.{firstRefusal}
-use Rattle.machine.specs.Refusals.{causes}
-use borrow.Author.Needs.{needs}
+use Rattle.cache.specs.Cache as hardware
+use Rattle.machine.specs.Refusals.{ownCauses, causes}
+use Rattle.machine.specs.State.{State, machineOf, Call, write}
+use Rattle.machine.specs.Step.{frameOf, accept}
+use Rattle.machine.specs.Plans.{planStep}
+use Rattle.machine.proofs.StepLaws.{access-requires, planned-refused, access-made}
 use Rattle.machine.proofs.write.Statement.{statement}
 use Rattle.machine.proofs.write.Tie as tie
 
--- what the call is lent
+-- what the call is lent, the call, and the change that it makes
 abbrev St : tie.Start → State
 St s = machineOf (s .args .list) (s .args .records .now) (s .args .protections .now) (s .args .memory .now) (s .args .words .now) (s .args .tags .now)
 
--- the change is the one that the call makes
-planned-by : (c : tie.After-plan2) → let s = c .before .before .before .before .before .before .before .before .before .before .before .before .before in
-    (firstRefusal (causes board01 (St s) (write (s .args .space) (s .args .page) (s .args .offset) (s .args .word))) ≡ 0) × (changeOf board01 (St s .tables) (frameOf (St s) (s .args .space) (s .args .page)) (table.write (colourOf board01 (s .args .page))) ≡ c .plan2 .given .0 .0)
-planned-by c =
-    let s = c .before .before .before .before .before .before .before .before .before .before .before .before .before in
-    let p = planned-step _ _ (c .plan2 .given .0 .0) (sym (c .before .before .plan-write .ensures) ∙ c .plan2 .given .1) in
-    (sym (write-any board01 (St s) (s .args .space) (s .args .page) (s .args .offset) (s .args .word)) ∙ p .0, p .1)
+abbrev asked : tie.Start → Call
+asked s = write (s .args .space) (s .args .page) (s .args .offset) (s .args .word)
+
+abbrev change : tie.Start → Change
+change s = changeOf board01 (St s .tables) (frameOf (St s) (s .args .space) (s .args .page)) (table.write (colourOf board01 (s .args .page)))
+
+-- the places that the proof goes back to
+abbrev start-of : tie.After-plan-write → tie.Start
+start-of c = c .before .before .before .before .before .before .before .before .before .before .before
+
+abbrev plan-of : tie.After-commit-change → tie.After-plan2
+plan-of c = c .before .before .before .before .before .before
+
+-- the plan is that change
+planned-by : (c : tie.After-plan2) → let s = start-of (c .before .before) in planStep board01 (St s) (asked s) (change s) ≡ step-plan.Step (c .plan2 .given .0 .0)
+unfolding causes
+planned-by c = sym (c .before .before .plan-write .ensures) ∙ c .plan2 .given .1
 
 plan-write-requires : tie.Need-plan-write-requires
 plan-write-requires c κs = board01-regular
@@ -47,12 +58,14 @@ cast-put : tie.Need-cast-put
 cast-put c = search needs
 
 put-requires : tie.Need-put-requires
+unfolding ownCauses
 put-requires c κs =
-    let at = c .before .before .before .before .before .before .before .before .before .before .before .before .before .before in
-    let s = at .before .before .before .before .before .before .before .before .before .before .before .before .before in
-    let p = planned-by at in
-    let r = subst (λ (m : Change). Ready board01 (St s) m × (s .args .offset < board01 .page)) (p .1) (write-ready board01 (St s) (s .args .space) (s .args .page) (s .args .offset) (s .args .word) (p .0)) in
-    (r .0 .0, r .0 .1, r .0 .2, r .0 .3, subst⁻¹ (λ (k : ℕ). k < board01 .colours) (c .before .before .before .colour-of .ensures .0) (colourOf-lt board01 board01-regular _), r .1, board01-regular)
+    let colour = c .before .before .before in
+    let commit = colour .before .before .before .before .before in
+    let at = plan-of commit in
+    let s = start-of (at .before .before) in
+    access-requires board01 (St s) (asked s) (s .args .space) (s .args .page) (s .args .offset) _ refl (table.write (colourOf board01 (s .args .page)))
+    board01-regular (planned-by at) (colour .colour-of .ensures .0)
 
 same-length : tie.Need-same-length
 same-length c = search needs
@@ -70,9 +83,11 @@ same-length-5 : tie.Need-same-length-5
 same-length-5 c = search needs
 
 returns : tie.Need-returns
+unfolding causes
 returns c =
-    let s = c .before .before .before .before .before .before .before .before .before .before .before .before .before .before in
-    step-refused board01 (St s) (write (s .args .space) (s .args .page) (s .args .offset) (s .args .word)) _ (let r = planned-refusal _ _ _ (sym (c .before .before .before .plan-write .ensures) ∙ c .before .plan .given .1) in (sym (write-any board01 (St s) (s .args .space) (s .args .page) (s .args .offset) (s .args .word)) ∙ r .0, λ z. r .1 (write-any board01 (St s) (s .args .space) (s .args .page) (s .args .offset) (s .args .word) ∙ z)))
+    let plan = c .before .before .before in
+    let s = start-of plan in
+    planned-refused board01 (St s) (asked s) (change s) (sym (plan .plan-write .ensures) ∙ c .before .plan .given .1)
 
 same-length-6 : tie.Need-same-length-6
 same-length-6 c = search needs
@@ -90,14 +105,16 @@ same-length-10 : tie.Need-same-length-10
 same-length-10 c = search needs
 
 returns-2 : tie.Need-returns-2
+unfolding accept
 returns-2 c =
-    let at = c .before .before .before .before .before .before .before .before .before .before .before .before .before .before .before .before .before .before .before .before .before in
-    let s = at .before .before .before .before .before .before .before .before .before .before .before .before .before in
-    let m = at .plan2 .given .0 .0 in
-    let p = planned-by at in
-    made refl refl refl (c .before .before .before .before .before .before .before .before .before .before .before .before .before .before .before .commit-change .ensures)
-    (c .before .before .before .before .before .before .put .ensures ∙ ap (λ (k : ℕ). writeWord board01 (m .frame) k (s .args .offset) (s .args .word) (afterOps board01 (St s) m)) (c .before .before .before .before .before .before .before .before .before .before .colour-of .ensures .0))
-    ∙ write-made board01 (St s) m (s .args .space) (s .args .page) (s .args .offset) (s .args .word) (p .0) (p .1)
+    let put = c .before .before .before .before .before .before in
+    let colour = put .before .before .before .before in
+    let commit = colour .before .before .before .before .before in
+    let at = plan-of commit in
+    let s = start-of (at .before .before) in
+    access-made board01 (St s) (asked s) (change s) (colourOf board01 (s .args .page))
+    (λ f k x. none) (λ f k. hardware.writeWord board01 f k (s .args .offset) (s .args .word)) refl
+    (planned-by at) (colour .colour-of .ensures .0) refl (commit .commit-change .ensures) (put .put .ensures)
 
 pub write-spec : {M : Type 1} → statement M
 write-spec =
