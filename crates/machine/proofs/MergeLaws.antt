@@ -1,47 +1,50 @@
--- The machine's own refusal and the manager's, and the earlier of the two: for each call it is the first of all its causes.
-use mathlib.Core.Path.{_≡_, refl, sym, ap, _∙_}
-use mathlib.Core.Bool.{Bool, true, false, not, cond, _&&_}
-use mathlib.Core.List.{List}
-use Prim.Native.Nat.{ℕ, zero, suc, _≤_, _<_}
+-- The machine's own refusal and the manager's, and the earlier of the two: it is the first of all causes of a call, where those are the causes
+-- of both in the order of their numbers.
+use mathlib.Core.Path.{_≡_, refl, sym, ap, ap₂, _∙_}
+use mathlib.Core.Bool.{Bool, true, false, not, cond, _&&_, and-assoc}
+use mathlib.Core.List.{List, [], _∷_, _++_}
+use Prim.Native.Nat.{ℕ, zero, suc, _≤_}
 use native.Mathlib.Omega.{arith}
 use native.Mathlib.Nat.{suc-min-suc}
-use borrow.Author.Tests.{eqb-true}
-use lib.Dec.{eqb, leb}
-use lib.ListN.{length}
+use borrow.Author.Tests.{ltb-true, ltb-false}
+use lib.Dec.{ltb}
 use Rattle.bits.proofs.Tautology.{and-left, and-right}
 use Rattle.board.specs.declared.Board.{Board}
-use Rattle.board.specs.Board.{lines}
 use Rattle.manager.specs.declared.Change.{Change}
+use Rattle.manager.specs.declared.Plan.{Plan}
 use Rattle.manager.specs.declared.Plan.the-variants as step-plan
+use Rattle.manager.specs.declared.ListPlan.{ListPlan}
 use Rattle.manager.specs.declared.ListPlan.the-variants as list-plan
 use Rattle.manager.specs.Calls.{planned, placed}
-use Rattle.manager.specs.Refusals.{firstRefusal, tableCauses, mapCauses, pageCauses, writeCauses, transferCauses, outOfSpace, isRight, isMapped, mappingOf}
+use Rattle.manager.specs.Refusals.{Cause, firstRefusal, tableCauses}
 use Rattle.manager.specs.Tables.{lengthsRight, rulesKept}
-use Rattle.mapping.specs.Entry.{capacity, readOnly}
 use Rattle.cache.specs.Tag.{tagsKeepRules}
-use Rattle.machine.specs.Plans.{storeCauses, accessCauses, earlier, withStep, withPlace}
-use Rattle.machine.specs.Refusals.{storeLengths, causes}
-use Rattle.machine.specs.State.{State, map, unmap, read, write, deviceRead, deviceWrite, evict}
+use Rattle.machine.specs.Plans.{storeCauses, earlier, withStep, withPlace, planStep, planPlace}
+use Rattle.machine.specs.Refusals.{storeLengths, bufferRight, ownCauses, causes}
+use Rattle.machine.specs.State.{State, Call}
 
 -- ---- the earlier of two
 
-pub earlier-own : (m n : ℕ) → n ≡ 0 → m ≡ earlier m n
-unfolding earlier
-earlier-own zero n e = sym e
-earlier-own (suc m) zero e = refl
-earlier-own (suc m) (suc n) e = absurd (omega arith)
+-- a refusal is none, or at least a number
+abbrev pub AtLeast : ℕ → ℕ → Type 0
+AtLeast k n = (n ≡ 0 → ⊥) → k ≤ n
 
-pub earlier-less : (m n : ℕ) → (m ≡ 0 → ⊥) → m < n → m ≡ earlier m n
+pub earlier-first : (m n : ℕ) → (m ≡ 0 → ⊥) → AtLeast m n → m ≡ earlier m n
 unfolding earlier
-earlier-less zero n h l = absurd (h refl)
-earlier-less (suc m) zero h l = absurd (omega arith)
-earlier-less (suc m) (suc n) h l = omega arith
+earlier-first zero n h l = absurd (h refl)
+earlier-first (suc m) zero h l = refl
+earlier-first (suc m) (suc n) h l = let k = l (λ z. omega arith) in omega arith
 
-pub earlier-more : (m n : ℕ) → (n ≡ 0 → ⊥) → n ≤ m → n ≡ earlier m n
+pub earlier-second : (m n : ℕ) → (n ≡ 0 → ⊥) → AtLeast n m → n ≡ earlier m n
 unfolding earlier
-earlier-more zero n h l = refl
-earlier-more (suc m) zero h l = absurd (h refl)
-earlier-more (suc m) (suc n) h l = omega arith
+earlier-second zero n h l = refl
+earlier-second (suc m) zero h l = absurd (h refl)
+earlier-second (suc m) (suc n) h l = let k = l (λ z. omega arith) in omega arith
+
+earlier-none : (m : ℕ) → m ≡ earlier m 0
+unfolding earlier
+earlier-none zero = refl
+earlier-none (suc m) = refl
 
 -- a refusal of the machine's own beside a plan that is none
 pub withStep-own : (own : ℕ) (change : Change) → (own ≡ 0 → ⊥) → step-plan.Refused own ≡ withStep own (step-plan.Step change)
@@ -54,134 +57,125 @@ unfolding withPlace
 withPlace-own zero place h = absurd (h refl)
 withPlace-own (suc own) place h = refl
 
--- a plan beside a refusal is planned by the earlier, which is the first of all causes
-pub withStep-merged : (m n : ℕ) {k : ℕ} (change : Change) → k ≡ earlier m n → withStep m (planned n change) ≡ planned k change
+-- a plan beside a refusal is planned by the earlier
+withStep-earlier : (m n : ℕ) (change : Change) → withStep m (planned n change) ≡ planned (earlier m n) change
 unfolding withStep
-withStep-merged m n change e = go m n ∙ ap (λ (k : ℕ). planned k change) (sym e)
-  where
-    go : (m n : ℕ) → withStep m (planned n change) ≡ planned (earlier m n) change
-    go zero zero = refl
-    go zero (suc n) = refl
-    go (suc m) zero = refl
-    go (suc m) (suc n) = rw suc-min-suc
+withStep-earlier zero zero change = refl
+withStep-earlier zero (suc n) change = refl
+withStep-earlier (suc m) zero change = refl
+withStep-earlier (suc m) (suc n) change = rw suc-min-suc
 
-pub withPlace-merged : (m n : ℕ) {k : ℕ} (place : ℕ) → k ≡ earlier m n → withPlace m (placed n place) ≡ placed k place
+withPlace-earlier : (m n place : ℕ) → withPlace m (placed n place) ≡ placed (earlier m n) place
 unfolding withPlace
-withPlace-merged m n place e = go m n ∙ ap (λ (k : ℕ). placed k place) (sym e)
+withPlace-earlier zero zero place = refl
+withPlace-earlier zero (suc n) place = refl
+withPlace-earlier (suc m) zero place = refl
+withPlace-earlier (suc m) (suc n) place = rw suc-min-suc
+
+-- ---- causes whose numbers rise
+
+-- from above a number on
+abbrev pub rising : ℕ → List Cause → Bool
+rising n [] = true
+rising n (c ∷ cs) = ltb n (c .number) && rising (c .number) cs
+
+at-least : (k n : ℕ) (applies : Bool) (rest : ℕ) → k ≤ n → AtLeast n rest → AtLeast k (cond applies n rest)
+at-least k n true rest l h = λ z. l
+at-least k n false rest l h = λ z. let q = h z in omega arith
+
+rising-least : (n : ℕ) (cs : List Cause) → rising n cs ≡ true → AtLeast n (firstRefusal cs)
+unfolding firstRefusal
+rising-least n [] r = λ z. absurd (z refl)
+rising-least n (c ∷ cs) r =
+    let l = ltb-true n (c .number) (and-left _ (rising (c .number) cs) r) in
+    at-least n (c .number) (c .applies) _ (omega arith) (rising-least (c .number) cs (and-right (ltb n (c .number)) _ r))
+
+-- two lists in one, in the order of their numbers: a cause with those after it among others, then each
+abbrev insert : Cause → List Cause → (List Cause → List Cause) → List Cause → List Cause
+insert c cs rest [] = c ∷ cs
+insert c cs rest (d ∷ ds) = cond (ltb (c .number) (d .number)) (c ∷ rest (d ∷ ds)) (d ∷ insert c cs rest ds)
+
+abbrev pub merge : List Cause → List Cause → List Cause
+merge [] ds = ds
+merge (c ∷ cs) ds = insert c cs (merge cs) ds
+
+-- a cause of either that stands first
+cause-first : (k : ℕ) (applies : Bool) (m n : ℕ) → (k ≡ 0 → ⊥) → AtLeast k n → cond applies k (earlier m n) ≡ earlier (cond applies k m) n
+cause-first k true m n h l = earlier-first k n h l
+cause-first k false m n h l = refl
+
+cause-second : (k : ℕ) (applies : Bool) (m n : ℕ) → (k ≡ 0 → ⊥) → AtLeast k m → cond applies k (earlier m n) ≡ earlier m (cond applies k n)
+cause-second k true m n h l = earlier-second m k h l
+cause-second k false m n h l = refl
+
+-- a cause of both
+cause-both : (k : ℕ) (a c : Bool) (m n : ℕ) → (k ≡ 0 → ⊥) → AtLeast k m → AtLeast k n
+    → cond (not (a && c)) k (earlier m n) ≡ earlier (cond (not c) k m) (cond (not a) k n)
+cause-both k true c m n h hm hn = cause-first k (not c) m n h hn
+cause-both k false c m n h hm hn = earlier-second (cond (not c) k m) k h (at-least k k (not c) m (omega arith) hm)
+
+inserted : (c : Cause) (cs : List Cause) (rest : List Cause → List Cause) (m : ℕ) → rising m (c ∷ cs) ≡ true
+    → ((k : ℕ) (ds : List Cause) → rising k ds ≡ true → firstRefusal (rest ds) ≡ earlier (firstRefusal cs) (firstRefusal ds))
+    → (n : ℕ) (ds : List Cause) → rising n ds ≡ true → firstRefusal (insert c cs rest ds) ≡ earlier (firstRefusal (c ∷ cs)) (firstRefusal ds)
+unfolding firstRefusal
+inserted c cs rest m rc ih n [] rd = earlier-none (firstRefusal (c ∷ cs))
+inserted c cs rest m rc ih n (d ∷ ds) rd =
+    test (ltb (c .number) (d .number)) refl (ih n (d ∷ ds) rd) (inserted c cs rest m rc ih (d .number) ds (and-right (ltb n (d .number)) _ rd))
   where
-    go : (m n : ℕ) → withPlace m (placed n place) ≡ placed (earlier m n) place
-    go zero zero = refl
-    go zero (suc n) = refl
-    go (suc m) zero = refl
-    go (suc m) (suc n) = rw suc-min-suc
+    test : (t : Bool) → ltb (c .number) (d .number) ≡ t
+        → firstRefusal (rest (d ∷ ds)) ≡ earlier (firstRefusal cs) (firstRefusal (d ∷ ds))
+        → firstRefusal (insert c cs rest ds) ≡ earlier (firstRefusal (c ∷ cs)) (firstRefusal ds)
+        → firstRefusal (cond t (c ∷ rest (d ∷ ds)) (d ∷ insert c cs rest ds)) ≡ earlier (firstRefusal (c ∷ cs)) (firstRefusal (d ∷ ds))
+    test true e first second =
+        let l = ltb-true (c .number) (d .number) e in
+        let above = ltb-true m (c .number) (and-left _ (rising (c .number) cs) rc) in
+        let after = rising-least (d .number) ds (and-right (ltb n (d .number)) _ rd) in
+        ap (λ (k : ℕ). cond (c .applies) (c .number) k) first
+        ∙ cause-first (c .number) (c .applies) _ _ (λ z. omega arith) (at-least (c .number) (d .number) (d .applies) _ (omega arith) after)
+    test false e first second =
+        let l = ltb-false (c .number) (d .number) e in
+        let above = ltb-true n (d .number) (and-left _ (rising (d .number) ds) rd) in
+        let after = rising-least (c .number) cs (and-right (ltb m (c .number)) _ rc) in
+        ap (λ (k : ℕ). cond (d .applies) (d .number) k) second
+        ∙ cause-second (d .number) (d .applies) _ _ (λ z. omega arith) (at-least (d .number) (c .number) (c .applies) _ l after)
 
--- ---- a law of any number of tests, computed at all their values
+-- the first of the merged causes is the earlier
+merged : (m n : ℕ) (cs ds : List Cause) → rising m cs ≡ true → rising n ds ≡ true
+    → firstRefusal (merge cs ds) ≡ earlier (firstRefusal cs) (firstRefusal ds)
+unfolding firstRefusal earlier
+merged m n [] ds rc rd = refl
+merged m n (c ∷ cs) ds rc rd =
+    inserted c cs (merge cs) m rc (λ k es re. merged (c .number) k cs es (and-right (ltb m (c .number)) _ rc) re) n ds rd
 
-abbrev Test : ℕ → Type 0
-Test zero = Bool
-Test (suc n) = Bool → Test n
+-- ---- a call's refusal
 
-abbrev computed : (n : ℕ) → Test n → Bool
-computed zero p = p
-computed (suc n) p = computed n (p true) && computed n (p false)
+-- the causes in what is lent, of the lengths and the rules of the tables, and of the store with a buffer, before others
+lent : (l r k d t : Bool) (m n o : ℕ) → o ≡ earlier m n → AtLeast 2 m → AtLeast 2 n
+    → cond (not (l && k && d)) 1 (cond (not (r && t)) 2 o) ≡ earlier (cond (not (k && d)) 1 (cond (not t) 2 m)) (cond (not l) 1 (cond (not r) 2 n))
+lent l r k d t m n o e hm hn =
+    ap₂ (λ (x : Bool) (y : ℕ). cond (not x) 1 (cond (not (r && t)) 2 y)) (and-assoc l k d) e
+    ∙ ap (λ (y : ℕ). cond (not (l && (k && d))) 1 y) (cause-both 2 r t m n (λ z. omega arith) hm hn)
+    ∙ cause-both 1 l (k && d) _ _ (λ z. omega arith) (at-least 1 2 (not t) m (omega arith) hm) (at-least 1 2 (not r) n (omega arith) hn)
 
-abbrev Always : (n : ℕ) → Test n → Type 0
-Always zero p = p ≡ true
-Always (suc n) p = (a : Bool) → Always n (p a)
+-- any call whose own causes are the machine's and the manager's, merged
+module _ (b : Board) (st : State) (call : Call) (mine managers : List Cause) (rm : rising 2 mine ≡ true) (rn : rising 2 managers ≡ true)
+    (own : ownCauses b st call ≡ merge mine managers) where
+  pub causes-merged : firstRefusal (causes b st call)
+      ≡ earlier (firstRefusal (storeCauses b (st .store) (bufferRight b call) ++ mine)) (firstRefusal (tableCauses b (st .tables) ++ managers))
+  unfolding firstRefusal causes storeCauses tableCauses
+  causes-merged =
+      lent (lengthsRight b (st .tables)) (rulesKept b (st .tables)) (storeLengths b (st .store)) (bufferRight b call) (tagsKeepRules b (st .store .tags)) _ _ _
+      (ap firstRefusal own ∙ merged 2 2 mine managers rm rn) (rising-least 2 mine rm) (rising-least 2 managers rn)
 
-law : (n : ℕ) (p : Test n) → computed n p ≡ true → Always n p
-law zero p e = e
-law (suc n) p e = elim [ true ↦ law n (p true) (and-left _ (computed n (p false)) e) | false ↦ law n (p false) (and-right (computed n (p true)) _ e) ]
+  -- a plan that stands beside the machine's own refusal is the call's
+  pub step-merged : (change : Change) {refusal : ℕ} {plan with : Plan} → with ≡ withStep refusal plan
+      → refusal ≡ firstRefusal (storeCauses b (st .store) (bufferRight b call) ++ mine)
+      → plan ≡ planned (firstRefusal (tableCauses b (st .tables) ++ managers)) change
+      → with ≡ planStep b st call change
+  step-merged change ew er ep = ew ∙ ap₂ withStep er ep ∙ withStep-earlier _ _ change ∙ ap (λ (k : ℕ). planned k change) (sym causes-merged)
 
--- ---- each call
-
-module _ (b : Board) (st : State) where
-  pub map-merge : (space page frame rights : ℕ)
-      → firstRefusal (causes b st (map space page frame rights))
-      ≡ earlier (firstRefusal (storeCauses b (st .store) true)) (firstRefusal (mapCauses b (st .tables) space page frame rights))
-  unfolding firstRefusal causes storeCauses mapCauses earlier
-  map-merge space page frame rights =
-      eqb-true _ _
-      (law 9
-      (λ l k r t o f g m n.
-      eqb (cond (not (l && k && true)) 1 (cond (not (r && t)) 2 (cond o 3 (cond f 4 (cond (not g) 5 (cond m 7 (cond n 9 0)))))))
-      (earlier (cond (not (k && true)) 1 (cond (not t) 2 0)) (cond (not l) 1 (cond (not r) 2 (cond o 3 (cond f 4 (cond (not g) 5 (cond m 7 (cond n 9 0)))))))))
-      refl (lengthsRight b (st .tables)) (storeLengths b (st .store)) (rulesKept b (st .tables)) (tagsKeepRules b (st .store .tags)) (outOfSpace space page)
-      (leb (b .frames) frame) (isRight rights) (isMapped (st .tables .list) space page) (eqb (st .tables .list .count) capacity))
-
-  pub unmap-merge : (space page : ℕ)
-      → firstRefusal (causes b st (unmap space page))
-      ≡ earlier (firstRefusal (storeCauses b (st .store) true)) (firstRefusal (pageCauses b (st .tables) space page))
-  unfolding firstRefusal causes storeCauses pageCauses earlier
-  unmap-merge space page =
-      eqb-true _ _
-      (law 6
-      (λ l k r t o m.
-      eqb (cond (not (l && k && true)) 1 (cond (not (r && t)) 2 (cond o 3 (cond (not m) 8 0))))
-      (earlier (cond (not (k && true)) 1 (cond (not t) 2 0)) (cond (not l) 1 (cond (not r) 2 (cond o 3 (cond (not m) 8 0))))))
-      refl (lengthsRight b (st .tables)) (storeLengths b (st .store)) (rulesKept b (st .tables)) (tagsKeepRules b (st .store .tags)) (outOfSpace space page)
-      (isMapped (st .tables .list) space page))
-
-  pub read-merge : (space page offset : ℕ)
-      → firstRefusal (causes b st (read space page offset))
-      ≡ earlier (firstRefusal (accessCauses b (st .store) (b .page) offset)) (firstRefusal (pageCauses b (st .tables) space page))
-  unfolding firstRefusal causes accessCauses pageCauses earlier
-  read-merge space page offset =
-      eqb-true _ _
-      (law 7
-      (λ l k r t o f m.
-      eqb (cond (not (l && k && true)) 1 (cond (not (r && t)) 2 (cond o 3 (cond f 6 (cond (not m) 8 0)))))
-      (earlier (cond (not (k && true)) 1 (cond (not t) 2 (cond f 6 0))) (cond (not l) 1 (cond (not r) 2 (cond o 3 (cond (not m) 8 0))))))
-      refl (lengthsRight b (st .tables)) (storeLengths b (st .store)) (rulesKept b (st .tables)) (tagsKeepRules b (st .store .tags)) (outOfSpace space page)
-      (leb (b .page) offset) (isMapped (st .tables .list) space page))
-
-  pub write-merge : (space page offset word : ℕ)
-      → firstRefusal (causes b st (write space page offset word))
-      ≡ earlier (firstRefusal (accessCauses b (st .store) (b .page) offset)) (firstRefusal (writeCauses b (st .tables) space page))
-  unfolding firstRefusal causes accessCauses writeCauses earlier
-  write-merge space page offset word =
-      eqb-true _ _
-      (law 8
-      (λ l k r t o f m w.
-      eqb (cond (not (l && k && true)) 1 (cond (not (r && t)) 2 (cond o 3 (cond f 6 (cond (not m) 8 (cond w 10 0))))))
-      (earlier (cond (not (k && true)) 1 (cond (not t) 2 (cond f 6 0))) (cond (not l) 1 (cond (not r) 2 (cond o 3 (cond (not m) 8 (cond w 10 0)))))))
-      refl (lengthsRight b (st .tables)) (storeLengths b (st .store)) (rulesKept b (st .tables)) (tagsKeepRules b (st .store .tags)) (outOfSpace space page)
-      (leb (b .page) offset) (isMapped (st .tables .list) space page) (eqb (mappingOf (st .tables .list) space page .rights) readOnly))
-
-  -- a transfer, either way
-  transfer-law : (buffer : Bool) (frame : ℕ)
-      → cond (not (lengthsRight b (st .tables) && storeLengths b (st .store) && buffer)) 1
-      (cond (not (rulesKept b (st .tables) && tagsKeepRules b (st .store .tags))) 2 (cond (leb (b .frames) frame) 4 0))
-      ≡ earlier (firstRefusal (storeCauses b (st .store) buffer)) (firstRefusal (transferCauses b (st .tables) frame))
-  unfolding firstRefusal storeCauses transferCauses earlier
-  transfer-law buffer frame =
-      eqb-true _ _
-      (law 6
-      (λ l k d r t f.
-      eqb (cond (not (l && k && d)) 1 (cond (not (r && t)) 2 (cond f 4 0)))
-      (earlier (cond (not (k && d)) 1 (cond (not t) 2 0)) (cond (not l) 1 (cond (not r) 2 (cond f 4 0)))))
-      refl (lengthsRight b (st .tables)) (storeLengths b (st .store)) buffer (rulesKept b (st .tables)) (tagsKeepRules b (st .store .tags)) (leb (b .frames) frame))
-
-  pub deviceRead-merge : (frame : ℕ) (buffer : List ℕ)
-      → firstRefusal (causes b st (deviceRead frame buffer))
-      ≡ earlier (firstRefusal (storeCauses b (st .store) (eqb (length buffer) (b .page)))) (firstRefusal (transferCauses b (st .tables) frame))
-  unfolding firstRefusal causes earlier
-  deviceRead-merge frame buffer = transfer-law (eqb (length buffer) (b .page)) frame
-
-  pub deviceWrite-merge : (frame : ℕ) (buffer : List ℕ)
-      → firstRefusal (causes b st (deviceWrite frame buffer))
-      ≡ earlier (firstRefusal (storeCauses b (st .store) (eqb (length buffer) (b .page)))) (firstRefusal (transferCauses b (st .tables) frame))
-  unfolding firstRefusal causes earlier
-  deviceWrite-merge frame buffer = transfer-law (eqb (length buffer) (b .page)) frame
-
-  pub evict-merge : (line : ℕ)
-      → firstRefusal (causes b st (evict line))
-      ≡ earlier (firstRefusal (accessCauses b (st .store) (lines b) line)) (firstRefusal (tableCauses b (st .tables)))
-  unfolding firstRefusal causes accessCauses tableCauses earlier
-  evict-merge line =
-      eqb-true _ _
-      (law 5
-      (λ l k r t f.
-      eqb (cond (not (l && k && true)) 1 (cond (not (r && t)) 2 (cond f 6 0)))
-      (earlier (cond (not (k && true)) 1 (cond (not t) 2 (cond f 6 0))) (cond (not l) 1 (cond (not r) 2 0))))
-      refl (lengthsRight b (st .tables)) (storeLengths b (st .store)) (rulesKept b (st .tables)) (tagsKeepRules b (st .store .tags)) (leb (lines b) line))
+  pub place-merged : (place : ℕ) {refusal : ℕ} {plan with : ListPlan} → with ≡ withPlace refusal plan
+      → refusal ≡ firstRefusal (storeCauses b (st .store) (bufferRight b call) ++ mine)
+      → plan ≡ placed (firstRefusal (tableCauses b (st .tables) ++ managers)) place
+      → with ≡ planPlace b st call place
+  place-merged place ew er ep = ew ∙ ap₂ withPlace er ep ∙ withPlace-earlier _ _ place ∙ ap (λ (k : ℕ). placed k place) (sym causes-merged)

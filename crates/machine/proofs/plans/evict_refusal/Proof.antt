@@ -1,11 +1,14 @@
 -- `machine::evict_refusal` meets its contract.
-use mathlib.Core.Path.{sym, ap, ap₂, _∙_}
+use mathlib.Core.Path.{refl, sym, ap, ap₂, _∙_}
+use mathlib.Core.List.{[], _∷_}
 use Prim.Native.Nat.{ℕ}
-use Rattle.manager.specs.Refusals.{firstRefusal}
-use Rattle.machine.specs.State.{State, machineOf}
-use Rattle.machine.specs.Plans.{accessCauses, earlier}
-use Rattle.machine.proofs.MergeLaws.{evict-merge}
 use borrow.Author.Needs.{needs}
+use Rattle.board.specs.Board as board-of
+use Rattle.manager.specs.Refusals.{firstRefusal, tableCauses}
+use Rattle.machine.specs.Refusals.{offsetCause, ownCauses}
+use Rattle.machine.specs.State.{State, machineOf, evict}
+use Rattle.machine.specs.Plans.{accessCauses, earlier}
+use Rattle.machine.proofs.MergeLaws.{causes-merged}
 use Rattle.machine.proofs.plans.evict_refusal.Statement.{statement}
 use Rattle.machine.proofs.plans.evict_refusal.Tie as tie
 
@@ -26,9 +29,14 @@ earlier-requires : tie.Need-earlier-requires
 earlier-requires c κs = search needs
 
 returns : tie.Need-returns
+unfolding ownCauses accessCauses tableCauses
 returns c =
-    let s = c .before .before .before .before .before .before .before .before .before in
-    c .earlier .ensures ∙ ap₂ earlier (c .before .before .access-refusal .ensures ∙ ap (λ (l : ℕ). firstRefusal (accessCauses (s .args .board) (St s .store) l (s .args .line))) (c .before .before .before .lines .ensures)) (c .before .tables-refusal .ensures) ∙ sym (evict-merge _ (St s) (s .args .line))
+    let lines = c .before .before .before in
+    let s = lines .before .before .before .before .before .before in
+    let own : ℕ → ℕ = λ l. firstRefusal (accessCauses (s .args .board) (St s .store) l (s .args .line)) in
+    c .earlier .ensures
+    ∙ ap₂ earlier (c .before .before .access-refusal .ensures ∙ ap own (lines .lines .ensures)) (c .before .tables-refusal .ensures)
+    ∙ sym (causes-merged (s .args .board) (St s) (evict (s .args .line)) (offsetCause (board-of.lines (s .args .board)) (s .args .line) ∷ []) [] refl refl refl)
 
 pub evict-refusal-spec : {M : Type 1} → statement M
 evict-refusal-spec =

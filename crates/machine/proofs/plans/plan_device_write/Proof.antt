@@ -1,9 +1,12 @@
 -- `machine::plan_device_write` meets its contract.
-use mathlib.Core.Path.{ap₂, _∙_}
-use Rattle.machine.specs.State.{State, machineOf}
-use Rattle.machine.specs.Plans.{withStep}
-use Rattle.machine.proofs.MergeLaws.{deviceWrite-merge, withStep-merged}
+use mathlib.Core.Path.{refl}
+use mathlib.Core.List.{[], _∷_}
 use borrow.Author.Needs.{needs}
+use Rattle.manager.specs.Refusals.{frameCause, transferCauses}
+use Rattle.machine.specs.Refusals.{ownCauses}
+use Rattle.machine.specs.State.{State, machineOf, deviceWrite}
+use Rattle.machine.specs.Plans.{storeCauses}
+use Rattle.machine.proofs.MergeLaws.{step-merged}
 use Rattle.machine.proofs.plans.plan_device_write.Statement.{statement}
 use Rattle.machine.proofs.plans.plan_device_write.Tie as tie
 
@@ -21,9 +24,12 @@ with-step-requires : tie.Need-with-step-requires
 with-step-requires c κs = search needs
 
 returns : tie.Need-returns
+unfolding ownCauses storeCauses transferCauses
 returns c =
     let s = c .before .before .before .before .before .before .before .before .before in
-    c .with-step .ensures ∙ ap₂ withStep (c .before .before .transfer-refusal .ensures) (c .before .plan-device-write .ensures) ∙ withStep-merged _ _ _ (deviceWrite-merge _ (St s) (s .args .frame) (s .args .buffer .now))
+    step-merged (s .args .board) (St s) (deviceWrite (s .args .frame) (s .args .buffer .now)) ([])
+    (frameCause (s .args .board) (s .args .frame) ∷ []) refl refl refl
+    _ (c .with-step .ensures) (c .before .before .transfer-refusal .ensures) (c .before .plan-device-write .ensures)
 
 pub plan-device-write-spec : {M : Type 1} → statement M
 plan-device-write-spec =

@@ -1,9 +1,12 @@
 -- `machine::plan_map` meets its contract.
-use mathlib.Core.Path.{ap₂, _∙_}
-use Rattle.machine.specs.State.{State, machineOf}
-use Rattle.machine.specs.Plans.{withPlace}
-use Rattle.machine.proofs.MergeLaws.{map-merge, withPlace-merged}
+use mathlib.Core.Path.{refl}
+use mathlib.Core.List.{[], _∷_}
 use borrow.Author.Needs.{needs}
+use Rattle.manager.specs.Refusals.{spaceCause, frameCause, rightsCause, mappedCause, fullCause, mapCauses}
+use Rattle.machine.specs.Refusals.{ownCauses}
+use Rattle.machine.specs.State.{State, machineOf, map}
+use Rattle.machine.specs.Plans.{storeCauses}
+use Rattle.machine.proofs.MergeLaws.{place-merged}
 use Rattle.machine.proofs.plans.plan_map.Statement.{statement}
 use Rattle.machine.proofs.plans.plan_map.Tie as tie
 
@@ -21,9 +24,12 @@ with-place-requires : tie.Need-with-place-requires
 with-place-requires c κs = search needs
 
 returns : tie.Need-returns
+unfolding ownCauses storeCauses mapCauses
 returns c =
     let s = c .before .before .before .before .before .before .before .before in
-    c .with-place .ensures ∙ ap₂ withPlace (c .before .before .store-refusal .ensures) (c .before .plan-map .ensures) ∙ withPlace-merged _ _ _ (map-merge _ (St s) (s .args .m .space) (s .args .m .page) (s .args .m .frame) (s .args .m .rights))
+    place-merged (s .args .board) (St s) (map (s .args .m .space) (s .args .m .page) (s .args .m .frame) (s .args .m .rights)) ([])
+    (spaceCause (s .args .m .space) (s .args .m .page) ∷ frameCause (s .args .board) (s .args .m .frame) ∷ rightsCause (s .args .m .rights) ∷ mappedCause (s .args .list) (s .args .m .space) (s .args .m .page) ∷ fullCause (s .args .list) ∷ []) refl refl refl
+    _ (c .with-place .ensures) (c .before .before .store-refusal .ensures) (c .before .plan-map .ensures)
 
 pub plan-map-spec : {M : Type 1} → statement M
 plan-map-spec =

@@ -1,9 +1,12 @@
 -- `machine::plan_unmap` meets its contract.
-use mathlib.Core.Path.{ap₂, _∙_}
-use Rattle.machine.specs.State.{State, machineOf}
-use Rattle.machine.specs.Plans.{withPlace}
-use Rattle.machine.proofs.MergeLaws.{unmap-merge, withPlace-merged}
+use mathlib.Core.Path.{refl}
+use mathlib.Core.List.{[], _∷_}
 use borrow.Author.Needs.{needs}
+use Rattle.manager.specs.Refusals.{spaceCause, unmappedCause, pageCauses}
+use Rattle.machine.specs.Refusals.{ownCauses}
+use Rattle.machine.specs.State.{State, machineOf, unmap}
+use Rattle.machine.specs.Plans.{storeCauses}
+use Rattle.machine.proofs.MergeLaws.{place-merged}
 use Rattle.machine.proofs.plans.plan_unmap.Statement.{statement}
 use Rattle.machine.proofs.plans.plan_unmap.Tie as tie
 
@@ -21,9 +24,12 @@ with-place-requires : tie.Need-with-place-requires
 with-place-requires c κs = search needs
 
 returns : tie.Need-returns
+unfolding ownCauses storeCauses pageCauses
 returns c =
     let s = c .before .before .before .before .before .before .before .before in
-    c .with-place .ensures ∙ ap₂ withPlace (c .before .before .store-refusal .ensures) (c .before .plan-unmap .ensures) ∙ withPlace-merged _ _ _ (unmap-merge _ (St s) (s .args .space) (s .args .page))
+    place-merged (s .args .board) (St s) (unmap (s .args .space) (s .args .page)) ([])
+    (spaceCause (s .args .space) (s .args .page) ∷ unmappedCause (s .args .list) (s .args .space) (s .args .page) ∷ []) refl refl refl
+    _ (c .with-place .ensures) (c .before .before .store-refusal .ensures) (c .before .plan-unmap .ensures)
 
 pub plan-unmap-spec : {M : Type 1} → statement M
 plan-unmap-spec =

@@ -1,9 +1,12 @@
 -- `machine::plan_write` meets its contract.
-use mathlib.Core.Path.{ap₂, _∙_}
-use Rattle.machine.specs.State.{State, machineOf}
-use Rattle.machine.specs.Plans.{withStep}
-use Rattle.machine.proofs.MergeLaws.{write-merge, withStep-merged}
+use mathlib.Core.Path.{refl}
+use mathlib.Core.List.{[], _∷_}
 use borrow.Author.Needs.{needs}
+use Rattle.manager.specs.Refusals.{spaceCause, unmappedCause, readOnlyCause, writeCauses}
+use Rattle.machine.specs.Refusals.{offsetCause, ownCauses}
+use Rattle.machine.specs.State.{State, machineOf, write}
+use Rattle.machine.specs.Plans.{accessCauses}
+use Rattle.machine.proofs.MergeLaws.{step-merged}
 use Rattle.machine.proofs.plans.plan_write.Statement.{statement}
 use Rattle.machine.proofs.plans.plan_write.Tie as tie
 
@@ -21,9 +24,12 @@ with-step-requires : tie.Need-with-step-requires
 with-step-requires c κs = search needs
 
 returns : tie.Need-returns
+unfolding ownCauses accessCauses writeCauses
 returns c =
     let s = c .before .before .before .before .before .before .before .before in
-    c .with-step .ensures ∙ ap₂ withStep (c .before .before .access-refusal .ensures) (c .before .plan-write .ensures) ∙ withStep-merged _ _ _ (write-merge _ (St s) (s .args .space) (s .args .page) (s .args .offset) 0)
+    step-merged (s .args .board) (St s) (write (s .args .space) (s .args .page) (s .args .offset) 0) (offsetCause (s .args .board .page) (s .args .offset) ∷ [])
+    (spaceCause (s .args .space) (s .args .page) ∷ unmappedCause (s .args .list) (s .args .space) (s .args .page) ∷ readOnlyCause (s .args .list) (s .args .space) (s .args .page) ∷ []) refl refl refl
+    _ (c .with-step .ensures) (c .before .before .access-refusal .ensures) (c .before .plan-write .ensures)
 
 pub plan-write-spec : {M : Type 1} → statement M
 plan-write-spec =
