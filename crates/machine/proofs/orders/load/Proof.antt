@@ -1,19 +1,26 @@
 -- `machine::load` meets its contract.
-use mathlib.Core.Path.{ap, subst⁻¹, _∙_}
-use Rattle.cache.specs.Store.{WellFormed}
-use Rattle.machine.proofs.StoreLaws.{carryOut-kept}
-use Rattle.cache.specs.Cache.{readWord, access}
+use mathlib.Core.Path.{ap, _∙_}
 use borrow.Author.Needs.{needs}
+use Rattle.cache.specs.Cache.{readWord, access}
+use Rattle.machine.proofs.StoreLaws.{access-follows}
 use Rattle.machine.proofs.orders.load.Statement.{statement}
 use Rattle.machine.proofs.orders.load.Tie as tie
+
+-- the places that the proof goes back to
+abbrev start-of : tie.After-carry-out → tie.Start
+start-of c = c .before .before .before .before .before .before .before
+
+abbrev orders-of : tie.After-read-word-arg3 → tie.After-carry-out
+orders-of c = c .before .before .before .before .before .before .before
 
 carry-out-requires : tie.Need-carry-out-requires
 carry-out-requires c κs = search needs
 
 read-word-requires : tie.Need-read-word-requires
 read-word-requires c κs =
-    let s = c .before .before .before .before .before .before .before .before .before .before .before .before .before .before in
-    (subst⁻¹ (WellFormed (s .args .board)) (c .before .before .before .before .before .before .before .carry-out .ensures) (carryOut-kept _ (s .pre .6) _ (s .pre .1) (s .args .ops) (s .pre .2) (s .pre .3) _ (s .pre .0)), s .pre .1, s .pre .4, s .pre .5, s .pre .6)
+    let orders = orders-of c in
+    let s = start-of orders in
+    access-follows (s .args .board) (s .args .frame) (s .args .ops) (s .args .colour) (s .args .offset) (s .pre) (orders .carry-out .ensures)
 
 same-length : tie.Need-same-length
 same-length c = search needs
@@ -26,9 +33,12 @@ same-length-3 c = search needs
 
 returns : tie.Need-returns
 returns c =
-    let s = c .before .before .before .before .before .before .before .before .before .before .before .before .before .before .before .before .before .before .before .before .before in (
-      c .before .before .before .before .before .before .read-word .ensures .0 ∙ ap (readWord (s .args .board) (s .args .frame) (s .args .colour) (s .args .offset)) (c .before .before .before .before .before .before .before .before .before .before .before .before .before .before .carry-out .ensures),
-      c .before .before .before .before .before .before .read-word .ensures .1 ∙ ap (access (s .args .board) (s .args .frame) (s .args .colour) (s .args .offset)) (c .before .before .before .before .before .before .before .before .before .before .before .before .before .before .carry-out .ensures),
+    let done = c .before .before .before .before .before .before in
+    let orders = orders-of (done .before) in
+    let s = start-of orders in
+    (
+      done .read-word .ensures .0 ∙ ap (readWord (s .args .board) (s .args .frame) (s .args .colour) (s .args .offset)) (orders .carry-out .ensures),
+      done .read-word .ensures .1 ∙ ap (access (s .args .board) (s .args .frame) (s .args .colour) (s .args .offset)) (orders .carry-out .ensures),
     )
 
 pub load-spec : {M : Type 1} → statement M

@@ -14,16 +14,18 @@ enum-known-op c = search needs
 
 flush-requires : tie.Need-flush-requires
 flush-requires c κs =
-    let s = c .before .before .before .before .before .before .before .before in
-    (s .pre .0, s .pre .1, subst (OpBelow (s .args .board .colours)) (c .before .before .before .op .given .1) (s .pre .2), s .pre .3)
+    let told = c .before .before .before in
+    let s = told .before .before .before .before .before in
+    (s .pre .0, s .pre .1, subst (OpBelow (s .args .board .colours)) (told .op .given .1) (s .pre .2), s .pre .3)
 
 enum-known-op-2 : tie.Need-enum-known-op-2
 enum-known-op-2 c = search needs
 
 purge-requires : tie.Need-purge-requires
 purge-requires c κs =
-    let s = c .before .before .before .before .before .before .before in
-    (s .pre .0 .tags-length, s .pre .1, subst (OpBelow (s .args .board .colours)) (c .before .before .op2 .given .1) (s .pre .2), s .pre .3)
+    let told = c .before .before in
+    let s = told .before .before .before .before .before in
+    (s .pre .0 .tags-length, s .pre .1, subst (OpBelow (s .args .board .colours)) (told .op2 .given .1) (s .pre .2), s .pre .3)
 
 returns : tie.Need-returns
 unfolding operate
@@ -37,14 +39,20 @@ same-length-2 c = search needs
 
 returns-2 : tie.Need-returns-2
 unfolding operate
-returns-2 c = rw (c .before .before .before .before .before .before .before .before .op .given .1) (c .before .before .before .before .flush .ensures)
+returns-2 c =
+    let done = c .before .before .before .before in
+    let told = done .before .before .before .before in
+    rw (told .op .given .1) (done .flush .ensures)
 
 same-length-3 : tie.Need-same-length-3
 same-length-3 c = search needs
 
 returns-3 : tie.Need-returns-3
 unfolding operate
-returns-3 c = rw (c .before .before .before .before .before .op2 .given .1) (c .before .before .purge .ensures _ _)
+returns-3 c =
+    let done = c .before .before in
+    let told = done .before .before .before in
+    rw (told .op2 .given .1) (done .purge .ensures _ _)
 
 pub operate-spec : {M : Type 1} → statement M
 operate-spec =

@@ -19,8 +19,10 @@ same-length-2 c = search needs
 
 returns : tie.Need-returns
 returns c =
-    let s = c .before .before .before .before .before .before .before .before .before .before .before .before .before .before .before in
-    c .before .before .device-write .ensures _ _ ∙ ap (deviceWrite (s .args .board) (s .args .frame) (s .args .buffer .now)) (c .before .before .before .before .before .before .before .before .carry-out .ensures)
+    let done = c .before .before in
+    let orders = done .before .before .before .before .before .before in
+    let s = orders .before .before .before .before .before .before .before in
+    done .device-write .ensures _ _ ∙ ap (deviceWrite (s .args .board) (s .args .frame) (s .args .buffer .now)) (orders .carry-out .ensures)
 
 pub receive-spec : {M : Type 1} → statement M
 receive-spec =

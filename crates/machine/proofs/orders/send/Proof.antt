@@ -22,8 +22,10 @@ same-length-3 c = search needs
 
 returns : tie.Need-returns
 returns c =
-    let s = c .before .before .before .before .before .before .before .before .before .before .before .before .before .before .before .before in
-    (c .before .before .before .before .before .before .before .before .before .carry-out .ensures, c .before .before .device-read .ensures _ _ ∙ ap (deviceRead (s .args .board) (s .args .frame)) (c .before .before .before .before .before .before .before .before .before .carry-out .ensures))
+    let done = c .before .before in
+    let orders = done .before .before .before .before .before .before .before in
+    let s = orders .before .before .before .before .before .before .before in
+    (orders .carry-out .ensures, done .device-read .ensures _ _ ∙ ap (deviceRead (s .args .board) (s .args .frame)) (orders .carry-out .ensures))
 
 pub send-spec : {M : Type 1} → statement M
 send-spec =

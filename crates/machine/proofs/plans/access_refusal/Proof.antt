@@ -20,11 +20,15 @@ S s = store (s .args .memory .now) (s .args .words .now) (s .args .tags .now)
 abbrev own : tie.Start → List Cause
 own s = (6 if leb (s .args .limit) (s .args .offset)) ∷ []
 
+abbrev start-of : tie.After-store-refusal → tie.Start
+start-of c = c .before .before .before .before
+
 -- past the store's causes it decides
-rest : (c : tie.Else1) → firstRefusal (own (c .before .before .before .before .before)) ≡ firstRefusal (accessCauses (c .before .before .before .before .before .args .board) (S (c .before .before .before .before .before)) (c .before .before .before .before .before .args .limit) (c .before .before .before .before .before .args .offset))
+rest : (c : tie.Else1) → let s = start-of (c .before) in
+    firstRefusal (own s) ≡ firstRefusal (accessCauses (s .args .board) (S s) (s .args .limit) (s .args .offset))
 unfolding accessCauses
 rest c =
-    let s = c .before .before .before .before .before in
+    let s = start-of (c .before) in
     refusal-rest (storeCauses (s .args .board) (S s) true) (own s) refl (sym (c .before .store-refusal .ensures) ∙ c .if1 .left)
 
 store-refusal-requires : tie.Need-store-refusal-requires
@@ -32,7 +36,10 @@ store-refusal-requires c κs = search needs
 
 returns : tie.Need-returns
 unfolding firstRefusal accessCauses
-returns c = c .before .store-refusal .ensures ∙ refusal-prefix (storeCauses (c .before .before .before .before .before .args .board) (S (c .before .before .before .before .before)) true) (own (c .before .before .before .before .before)) (λ z. c .if1 .taken (c .before .store-refusal .ensures ∙ z))
+returns c =
+    let s = start-of (c .before) in
+    let e = c .before .store-refusal .ensures in
+    e ∙ refusal-prefix (storeCauses (s .args .board) (S s) true) (own s) (λ z. c .if1 .taken (e ∙ z))
 
 returns-2 : tie.Need-returns-2
 unfolding firstRefusal accessCauses

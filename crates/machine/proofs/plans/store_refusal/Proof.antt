@@ -15,31 +15,43 @@ use Rattle.machine.proofs.plans.store_refusal.Tie as tie
 abbrev S : tie.Start → Store
 S s = store (s .args .memory .now) (s .args .words .now) (s .args .tags .now)
 
+abbrev start-of : tie.After-lines → tie.Start
+start-of c = c .before .before .before .before .before .before .before .before
+
 -- past the three tests the lengths are right
-lengths : (c : tie.Else3) → storeLengths (c .before .before .before .before .before .before .before .before .before .args .board) (S (c .before .before .before .before .before .before .before .before .before)) ≡ true
+lengths : (c : tie.Else3) → let s = start-of (c .before) in storeLengths (s .args .board) (S s) ≡ true
 lengths c =
-    lengths-right _ (S (c .before .before .before .before .before .before .before .before .before)) (c .before .before .before .before .if1 .left ∙ c .before .before .before .before .before .memory-words .ensures) (c .before .before .if2 .left ∙ c .before .before .before .cache-words .ensures) (c .if3 .left ∙ c .before .lines .ensures)
+    let words = c .before .before in
+    let memory = words .before .before in
+    lengths-right _ (S (start-of (c .before))) (memory .if1 .left ∙ memory .before .memory-words .ensures) (words .if2 .left ∙ words .before .cache-words .ensures)
+    (c .if3 .left ∙ c .before .lines .ensures)
 
 memory-words-requires : tie.Need-memory-words-requires
 memory-words-requires c κs = search needs
 
 returns : tie.Need-returns
 unfolding firstRefusal storeCauses
-returns c = let s = c .before .before .before .before .before in rw (lengths-memory (s .args .board) (S s) (ne-eqb _ _ (λ e. c .if1 .taken (e ∙ sym (c .before .memory-words .ensures)))))
+returns c =
+    let s = c .before .before .before .before .before in
+    rw (lengths-memory (s .args .board) (S s) (ne-eqb _ _ (λ e. c .if1 .taken (e ∙ sym (c .before .memory-words .ensures)))))
 
 cache-words-requires : tie.Need-cache-words-requires
 cache-words-requires c κs = search needs
 
 returns-2 : tie.Need-returns-2
 unfolding firstRefusal storeCauses
-returns-2 c = let s = c .before .before .before .before .before .before .before in rw (lengths-words (s .args .board) (S s) (ne-eqb _ _ (λ e. c .if2 .taken (e ∙ sym (c .before .cache-words .ensures)))))
+returns-2 c =
+    let s = c .before .before .before .before .before .before .before in
+    rw (lengths-words (s .args .board) (S s) (ne-eqb _ _ (λ e. c .if2 .taken (e ∙ sym (c .before .cache-words .ensures)))))
 
 lines-requires : tie.Need-lines-requires
 lines-requires c κs = search needs
 
 returns-3 : tie.Need-returns-3
 unfolding firstRefusal storeCauses
-returns-3 c = let s = c .before .before .before .before .before .before .before .before .before in rw (lengths-tags (s .args .board) (S s) (ne-eqb _ _ (λ e. c .if3 .taken (e ∙ sym (c .before .lines .ensures)))))
+returns-3 c =
+    let s = start-of (c .before) in
+    rw (lengths-tags (s .args .board) (S s) (ne-eqb _ _ (λ e. c .if3 .taken (e ∙ sym (c .before .lines .ensures)))))
 
 tags-keep-rules-requires : tie.Need-tags-keep-rules-requires
 tags-keep-rules-requires c κs = search needs
