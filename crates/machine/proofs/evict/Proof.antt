@@ -23,26 +23,11 @@ start-of c = c .before .before .before .before .before .before .before .before .
 accepted-by : (c : tie.Else1) → let s = start-of (c .before) in firstRefusal (causes board01 (St s) (evict (s .args .line))) ≡ 0
 accepted-by c = sym (c .before .evict-refusal .ensures) ∙ c .if1 .left
 
-evict-refusal-requires : tie.Need-evict-refusal-requires
-evict-refusal-requires c κs = board01-regular
-
-same-length : tie.Need-same-length
-same-length c = search needs
-
-same-length-2 : tie.Need-same-length-2
-same-length-2 c = search needs
-
-same-length-3 : tie.Need-same-length-3
-same-length-3 c = search needs
-
 returns : tie.Need-returns
 returns c =
     let s = start-of (c .before) in
     let e = c .before .evict-refusal .ensures in
     step-refused board01 (St s) (evict (s .args .line)) _ (sym e, λ z. c .if1 .taken (e ∙ z))
-
-refill-requires : tie.Need-refill-requires
-refill-requires c κs = board01-regular
 
 evict-requires : tie.Need-evict-requires
 evict-requires c κs =
@@ -50,18 +35,6 @@ evict-requires c κs =
     let s = start-of (at .before) in
     let r = evict-ready board01 (St s) (s .args .line) (accepted-by at) in
     (r .0, r .1, board01-regular)
-
-no-orders-requires : tie.Need-no-orders-requires
-no-orders-requires c κs = search needs
-
-same-length-4 : tie.Need-same-length-4
-same-length-4 c = search needs
-
-same-length-5 : tie.Need-same-length-5
-same-length-5 c = search needs
-
-same-length-6 : tie.Need-same-length-6
-same-length-6 c = search needs
 
 returns-2 : tie.Need-returns-2
 unfolding accept refill
@@ -76,16 +49,5 @@ returns-2 c =
 pub evict-spec : {M : Type 1} → statement M
 evict-spec =
     tie.close
-    (tie.spec
-    evict-refusal-requires
-    same-length
-    same-length-2
-    same-length-3
-    returns
-    refill-requires
-    evict-requires
-    no-orders-requires
-    same-length-4
-    same-length-5
-    same-length-6
-    returns-2)
+    (tie.spec (λ c κs. board01-regular) (λ c. search needs) (λ c. search needs) (λ c. search needs) returns (λ c κs. board01-regular) evict-requires
+    (λ c κs. search needs) (λ c. search needs) (λ c. search needs) (λ c. search needs) returns-2)

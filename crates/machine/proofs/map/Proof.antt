@@ -24,35 +24,11 @@ place s = s .args .list .count
 abbrev start-of : tie.After-plan-map → tie.Start
 start-of c = c .before .before .before .before .before .before .before
 
-plan-map-requires : tie.Need-plan-map-requires
-plan-map-requires c κs = board01-regular
-
-enum-known-plan : tie.Need-enum-known-plan
-enum-known-plan c = search needs
-
-refused-as-requires : tie.Need-refused-as-requires
-refused-as-requires c κs = search needs
-
-enum-told : tie.Need-enum-told
-enum-told c = search needs
-
-commit-map-requires : tie.Need-commit-map-requires
-commit-map-requires c κs = board01-regular
-
-listed-as-requires : tie.Need-listed-as-requires
-listed-as-requires c κs = search needs
-
-same-length : tie.Need-same-length
-same-length c = search needs
-
 returns : tie.Need-returns
 returns c =
     let plan = c .before .before .before .before in
     let s = start-of plan in
     placed-refused board01 (St s) (asked s) (place s) (sym (plan .plan-map .ensures) ∙ c .before .before .plan .given .1) (c .refused-as .ensures .0) (c .refused-as .ensures .1)
-
-same-length-2 : tie.Need-same-length-2
-same-length-2 c = search needs
 
 returns-2 : tie.Need-returns-2
 unfolding accept
@@ -67,14 +43,5 @@ returns-2 c =
 pub map-spec : {M : Type 1} → statement M
 map-spec =
     tie.close
-    (tie.spec
-    plan-map-requires
-    enum-known-plan
-    refused-as-requires
-    enum-told
-    commit-map-requires
-    listed-as-requires
-    same-length
-    returns
-    same-length-2
-    returns-2)
+    (tie.spec (λ c κs. board01-regular) (λ c. search needs) (λ c κs. search needs) (λ c. search needs) (λ c κs. board01-regular)
+    (λ c κs. search needs) (λ c. search needs) returns (λ c. search needs) returns-2)

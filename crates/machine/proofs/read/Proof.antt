@@ -39,24 +39,6 @@ plan-of c = c .before .before .before .before .before .before
 planned-by : (c : tie.After-plan2) → let s = start-of (c .before .before) in planStep board01 (St s) (asked s) (change s) ≡ step-plan.Step (c .plan2 .given .0 .0)
 planned-by c = sym (c .before .before .plan-read .ensures) ∙ c .plan2 .given .1
 
-plan-read-requires : tie.Need-plan-read-requires
-plan-read-requires c κs = board01-regular
-
-enum-known-plan : tie.Need-enum-known-plan
-enum-known-plan c = search needs
-
-enum-known-plan-2 : tie.Need-enum-known-plan-2
-enum-known-plan-2 c = search needs
-
-commit-change-requires : tie.Need-commit-change-requires
-commit-change-requires c κs = board01-regular
-
-colour-of-requires : tie.Need-colour-of-requires
-colour-of-requires c κs = board01-regular
-
-cast-load : tie.Need-cast-load
-cast-load c = search needs
-
 load-requires : tie.Need-load-requires
 unfolding ownCauses
 load-requires c κs =
@@ -67,41 +49,11 @@ load-requires c κs =
     access-requires board01 (St s) (asked s) (s .args .space) (s .args .page) (s .args .offset) [] refl (table.read (colourOf board01 (s .args .page)))
     board01-regular (planned-by at) (colour .colour-of .ensures .0)
 
-same-length : tie.Need-same-length
-same-length c = search needs
-
-same-length-2 : tie.Need-same-length-2
-same-length-2 c = search needs
-
-same-length-3 : tie.Need-same-length-3
-same-length-3 c = search needs
-
-same-length-4 : tie.Need-same-length-4
-same-length-4 c = search needs
-
-same-length-5 : tie.Need-same-length-5
-same-length-5 c = search needs
-
 returns : tie.Need-returns
 returns c =
     let plan = c .before .before .before in
     let s = start-of plan in
     planned-refused board01 (St s) (asked s) (change s) (sym (plan .plan-read .ensures) ∙ c .before .plan .given .1)
-
-same-length-6 : tie.Need-same-length-6
-same-length-6 c = search needs
-
-same-length-7 : tie.Need-same-length-7
-same-length-7 c = search needs
-
-same-length-8 : tie.Need-same-length-8
-same-length-8 c = search needs
-
-same-length-9 : tie.Need-same-length-9
-same-length-9 c = search needs
-
-same-length-10 : tie.Need-same-length-10
-same-length-10 c = search needs
 
 returns-2 : tie.Need-returns-2
 unfolding accept
@@ -118,23 +70,6 @@ returns-2 c =
 pub read-spec : {M : Type 1} → statement M
 read-spec =
     tie.close
-    (tie.spec
-    plan-read-requires
-    enum-known-plan
-    enum-known-plan-2
-    commit-change-requires
-    colour-of-requires
-    cast-load
-    load-requires
-    same-length
-    same-length-2
-    same-length-3
-    same-length-4
-    same-length-5
-    returns
-    same-length-6
-    same-length-7
-    same-length-8
-    same-length-9
-    same-length-10
-    returns-2)
+    (tie.spec (λ c κs. board01-regular) (λ c. search needs) (λ c. search needs) (λ c κs. board01-regular) (λ c κs. board01-regular)
+    (λ c. search needs) load-requires (λ c. search needs) (λ c. search needs) (λ c. search needs) (λ c. search needs) (λ c. search needs) returns
+    (λ c. search needs) (λ c. search needs) (λ c. search needs) (λ c. search needs) (λ c. search needs) returns-2)

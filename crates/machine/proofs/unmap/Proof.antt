@@ -26,35 +26,11 @@ place s = placeOf (lookup (s .args .list) (s .args .space) (s .args .page))
 abbrev start-of : tie.After-plan-unmap → tie.Start
 start-of c = c .before .before .before .before .before .before .before
 
-plan-unmap-requires : tie.Need-plan-unmap-requires
-plan-unmap-requires c κs = board01-regular
-
-enum-known-plan : tie.Need-enum-known-plan
-enum-known-plan c = search needs
-
-refused-as-requires : tie.Need-refused-as-requires
-refused-as-requires c κs = search needs
-
-enum-known-plan-2 : tie.Need-enum-known-plan-2
-enum-known-plan-2 c = search needs
-
-commit-unmap-requires : tie.Need-commit-unmap-requires
-commit-unmap-requires c κs = board01-regular
-
-listed-as-requires : tie.Need-listed-as-requires
-listed-as-requires c κs = search needs
-
-same-length : tie.Need-same-length
-same-length c = search needs
-
 returns : tie.Need-returns
 returns c =
     let plan = c .before .before .before .before in
     let s = start-of plan in
     placed-refused board01 (St s) (asked s) (place s) (sym (plan .plan-unmap .ensures) ∙ c .before .before .plan .given .1) (c .refused-as .ensures .0) (c .refused-as .ensures .1)
-
-same-length-2 : tie.Need-same-length-2
-same-length-2 c = search needs
 
 returns-2 : tie.Need-returns-2
 unfolding accept
@@ -69,14 +45,5 @@ returns-2 c =
 pub unmap-spec : {M : Type 1} → statement M
 unmap-spec =
     tie.close
-    (tie.spec
-    plan-unmap-requires
-    enum-known-plan
-    refused-as-requires
-    enum-known-plan-2
-    commit-unmap-requires
-    listed-as-requires
-    same-length
-    returns
-    same-length-2
-    returns-2)
+    (tie.spec (λ c κs. board01-regular) (λ c. search needs) (λ c κs. search needs) (λ c. search needs) (λ c κs. board01-regular)
+    (λ c κs. search needs) (λ c. search needs) returns (λ c. search needs) returns-2)

@@ -39,24 +39,6 @@ planned-by : (c : tie.After-plan2) → let s = start-of (c .before .before) in p
 unfolding causes
 planned-by c = sym (c .before .before .plan-write .ensures) ∙ c .plan2 .given .1
 
-plan-write-requires : tie.Need-plan-write-requires
-plan-write-requires c κs = board01-regular
-
-enum-known-plan : tie.Need-enum-known-plan
-enum-known-plan c = search needs
-
-enum-known-plan-2 : tie.Need-enum-known-plan-2
-enum-known-plan-2 c = search needs
-
-commit-change-requires : tie.Need-commit-change-requires
-commit-change-requires c κs = board01-regular
-
-colour-of-requires : tie.Need-colour-of-requires
-colour-of-requires c κs = board01-regular
-
-cast-put : tie.Need-cast-put
-cast-put c = search needs
-
 put-requires : tie.Need-put-requires
 unfolding ownCauses
 put-requires c κs =
@@ -67,42 +49,12 @@ put-requires c κs =
     access-requires board01 (St s) (asked s) (s .args .space) (s .args .page) (s .args .offset) _ refl (table.write (colourOf board01 (s .args .page)))
     board01-regular (planned-by at) (colour .colour-of .ensures .0)
 
-same-length : tie.Need-same-length
-same-length c = search needs
-
-same-length-2 : tie.Need-same-length-2
-same-length-2 c = search needs
-
-same-length-3 : tie.Need-same-length-3
-same-length-3 c = search needs
-
-same-length-4 : tie.Need-same-length-4
-same-length-4 c = search needs
-
-same-length-5 : tie.Need-same-length-5
-same-length-5 c = search needs
-
 returns : tie.Need-returns
 unfolding causes
 returns c =
     let plan = c .before .before .before in
     let s = start-of plan in
     planned-refused board01 (St s) (asked s) (change s) (sym (plan .plan-write .ensures) ∙ c .before .plan .given .1)
-
-same-length-6 : tie.Need-same-length-6
-same-length-6 c = search needs
-
-same-length-7 : tie.Need-same-length-7
-same-length-7 c = search needs
-
-same-length-8 : tie.Need-same-length-8
-same-length-8 c = search needs
-
-same-length-9 : tie.Need-same-length-9
-same-length-9 c = search needs
-
-same-length-10 : tie.Need-same-length-10
-same-length-10 c = search needs
 
 returns-2 : tie.Need-returns-2
 unfolding accept
@@ -119,23 +71,6 @@ returns-2 c =
 pub write-spec : {M : Type 1} → statement M
 write-spec =
     tie.close
-    (tie.spec
-    plan-write-requires
-    enum-known-plan
-    enum-known-plan-2
-    commit-change-requires
-    colour-of-requires
-    cast-put
-    put-requires
-    same-length
-    same-length-2
-    same-length-3
-    same-length-4
-    same-length-5
-    returns
-    same-length-6
-    same-length-7
-    same-length-8
-    same-length-9
-    same-length-10
-    returns-2)
+    (tie.spec (λ c κs. board01-regular) (λ c. search needs) (λ c. search needs) (λ c κs. board01-regular) (λ c κs. board01-regular)
+    (λ c. search needs) put-requires (λ c. search needs) (λ c. search needs) (λ c. search needs) (λ c. search needs) (λ c. search needs) returns
+    (λ c. search needs) (λ c. search needs) (λ c. search needs) (λ c. search needs) (λ c. search needs) returns-2)

@@ -15,21 +15,12 @@ start-of c = c .before .before .before .before .before .before
 abbrev first-of : tie.After-operate-arg4 → tie.After-operate
 first-of c = c .before .before .before .before .before .before
 
-operate-requires : tie.Need-operate-requires
-operate-requires c κs = search needs
-
 operate-requires-2 : tie.Need-operate-requires-2
 operate-requires-2 c κs =
     let first = first-of c in
     let s = start-of first in
     let kept = operate-kept _ (s .pre .4) _ (s .pre .1) (s .args .ops .first) (s .pre .2) _ (s .pre .0) in
     (subst⁻¹ (WellFormed (s .args .board)) (first .operate .ensures) kept, s .pre .1, s .pre .3, s .pre .4)
-
-same-length : tie.Need-same-length
-same-length c = search needs
-
-same-length-2 : tie.Need-same-length-2
-same-length-2 c = search needs
 
 returns : tie.Need-returns
 unfolding carryOut
@@ -40,5 +31,4 @@ returns c =
     second .operate2 .ensures ∙ ap (operate (s .args .board) (operationOn (s .args .frame) (s .args .ops .second))) (first .operate .ensures)
 
 pub carry-out-spec : {M : Type 1} → statement M
-carry-out-spec =
-    tie.close (tie.spec operate-requires operate-requires-2 same-length same-length-2 returns)
+carry-out-spec = tie.close (tie.spec (λ c κs. search needs) operate-requires-2 (λ c. search needs) (λ c. search needs) returns)

@@ -13,41 +13,20 @@ start-of c = c .before .before .before .before .before .before .before
 abbrev orders-of : tie.After-read-word-arg3 → tie.After-carry-out
 orders-of c = c .before .before .before .before .before .before .before
 
-carry-out-requires : tie.Need-carry-out-requires
-carry-out-requires c κs = search needs
-
 read-word-requires : tie.Need-read-word-requires
 read-word-requires c κs =
     let orders = orders-of c in
     let s = start-of orders in
     access-follows (s .args .board) (s .args .frame) (s .args .ops) (s .args .colour) (s .args .offset) (s .pre) (orders .carry-out .ensures)
 
-same-length : tie.Need-same-length
-same-length c = search needs
-
-same-length-2 : tie.Need-same-length-2
-same-length-2 c = search needs
-
-same-length-3 : tie.Need-same-length-3
-same-length-3 c = search needs
-
 returns : tie.Need-returns
 returns c =
     let done = c .before .before .before .before .before .before in
     let orders = orders-of (done .before) in
-    let s = start-of orders in
-    (
+    let s = start-of orders in (
       done .read-word .ensures .0 ∙ ap (readWord (s .args .board) (s .args .frame) (s .args .colour) (s .args .offset)) (orders .carry-out .ensures),
       done .read-word .ensures .1 ∙ ap (access (s .args .board) (s .args .frame) (s .args .colour) (s .args .offset)) (orders .carry-out .ensures),
     )
 
 pub load-spec : {M : Type 1} → statement M
-load-spec =
-    tie.close
-    (tie.spec
-    carry-out-requires
-    read-word-requires
-    same-length
-    same-length-2
-    same-length-3
-    returns)
+load-spec = tie.close (tie.spec (λ c κs. search needs) read-word-requires (λ c. search needs) (λ c. search needs) (λ c. search needs) returns)

@@ -6,20 +6,11 @@ use borrow.Author.Needs.{needs}
 use Rattle.machine.proofs.orders.operate.Statement.{statement}
 use Rattle.machine.proofs.orders.operate.Tie as tie
 
-enum-told : tie.Need-enum-told
-enum-told c = search needs
-
-enum-known-op : tie.Need-enum-known-op
-enum-known-op c = search needs
-
 flush-requires : tie.Need-flush-requires
 flush-requires c κs =
     let told = c .before .before .before in
     let s = told .before .before .before .before .before in
     (s .pre .0, s .pre .1, subst (OpBelow (s .args .board .colours)) (told .op .given .1) (s .pre .2), s .pre .3)
-
-enum-known-op-2 : tie.Need-enum-known-op-2
-enum-known-op-2 c = search needs
 
 purge-requires : tie.Need-purge-requires
 purge-requires c κs =
@@ -31,21 +22,12 @@ returns : tie.Need-returns
 unfolding operate
 returns c = rw (c .enum-told .given .1)
 
-same-length : tie.Need-same-length
-same-length c = search needs
-
-same-length-2 : tie.Need-same-length-2
-same-length-2 c = search needs
-
 returns-2 : tie.Need-returns-2
 unfolding operate
 returns-2 c =
     let done = c .before .before .before .before in
     let told = done .before .before .before .before in
     rw (told .op .given .1) (done .flush .ensures)
-
-same-length-3 : tie.Need-same-length-3
-same-length-3 c = search needs
 
 returns-3 : tie.Need-returns-3
 unfolding operate
@@ -57,15 +39,5 @@ returns-3 c =
 pub operate-spec : {M : Type 1} → statement M
 operate-spec =
     tie.close
-    (tie.spec
-    enum-told
-    enum-known-op
-    flush-requires
-    enum-known-op-2
-    purge-requires
-    returns
-    same-length
-    same-length-2
-    returns-2
-    same-length-3
-    returns-3)
+    (tie.spec (λ c. search needs) (λ c. search needs) flush-requires (λ c. search needs) purge-requires returns (λ c. search needs)
+    (λ c. search needs) returns-2 (λ c. search needs) returns-3)

@@ -13,23 +13,11 @@ start-of c = c .before .before .before .before .before .before .before
 abbrev orders-of : tie.After-write-word-arg3 → tie.After-carry-out
 orders-of c = c .before .before .before .before .before .before .before
 
-carry-out-requires : tie.Need-carry-out-requires
-carry-out-requires c κs = search needs
-
 write-word-requires : tie.Need-write-word-requires
 write-word-requires c κs =
     let orders = orders-of c in
     let s = start-of orders in
     access-follows (s .args .board) (s .args .frame) (s .args .ops) (s .args .colour) (s .args .offset) (s .pre) (orders .carry-out .ensures)
-
-same-length : tie.Need-same-length
-same-length c = search needs
-
-same-length-2 : tie.Need-same-length-2
-same-length-2 c = search needs
-
-same-length-3 : tie.Need-same-length-3
-same-length-3 c = search needs
 
 returns : tie.Need-returns
 returns c =
@@ -39,12 +27,4 @@ returns c =
     done .write-word .ensures ∙ ap (writeWord (s .args .board) (s .args .frame) (s .args .colour) (s .args .offset) (s .args .word)) (orders .carry-out .ensures)
 
 pub put-spec : {M : Type 1} → statement M
-put-spec =
-    tie.close
-    (tie.spec
-    carry-out-requires
-    write-word-requires
-    same-length
-    same-length-2
-    same-length-3
-    returns)
+put-spec = tie.close (tie.spec (λ c κs. search needs) write-word-requires (λ c. search needs) (λ c. search needs) (λ c. search needs) returns)

@@ -31,9 +31,6 @@ rest c =
     let s = start-of (c .before) in
     refusal-rest (storeCauses (s .args .board) (S s) true) (own s) refl (sym (c .before .store-refusal .ensures) ∙ c .if1 .left)
 
-store-refusal-requires : tie.Need-store-refusal-requires
-store-refusal-requires c κs = search needs
-
 returns : tie.Need-returns
 unfolding firstRefusal accessCauses
 returns c =
@@ -50,4 +47,5 @@ unfolding firstRefusal accessCauses
 returns-3 c = sym (ap (λ (t : Bool). cond t 6 0) (lt-leb _ _ (c .if2 .left))) ∙ rest (c .before)
 
 pub access-refusal-spec : {M : Type 1} → statement M
-access-refusal-spec = tie.close (tie.spec store-refusal-requires returns returns-2 returns-3)
+access-refusal-spec = tie.close
+    (tie.spec (λ c κs. search needs) returns returns-2 returns-3)

@@ -20,4 +20,5 @@ returns-4 : tie.Need-returns-4
 returns-4 c = earlier-second _ _ (c .before .if2 .left) (λ z. c .if3 .left)
 
 pub earlier-spec : {M : Type 1} → statement M
-earlier-spec = tie.close (tie.spec returns returns-2 returns-3 returns-4)
+earlier-spec = tie.close
+    (tie.spec returns returns-2 returns-3 returns-4)

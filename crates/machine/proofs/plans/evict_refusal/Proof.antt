@@ -16,18 +16,6 @@ use Rattle.machine.proofs.plans.evict_refusal.Tie as tie
 abbrev St : tie.Start → State
 St s = machineOf (s .args .list) (s .args .records .now) (s .args .protections .now) (s .args .memory .now) (s .args .words .now) (s .args .tags .now)
 
-lines-requires : tie.Need-lines-requires
-lines-requires c κs = search needs
-
-access-refusal-requires : tie.Need-access-refusal-requires
-access-refusal-requires c κs = search needs
-
-tables-refusal-requires : tie.Need-tables-refusal-requires
-tables-refusal-requires c κs = search needs
-
-earlier-requires : tie.Need-earlier-requires
-earlier-requires c κs = search needs
-
 returns : tie.Need-returns
 unfolding ownCauses accessCauses tableCauses
 returns c =
@@ -39,5 +27,4 @@ returns c =
     ∙ sym (causes-merged (s .args .board) (St s) (evict (s .args .line)) (offsetCause (board-of.lines (s .args .board)) (s .args .line) ∷ []) [] refl refl refl)
 
 pub evict-refusal-spec : {M : Type 1} → statement M
-evict-refusal-spec =
-    tie.close (tie.spec lines-requires access-refusal-requires tables-refusal-requires earlier-requires returns)
+evict-refusal-spec = tie.close (tie.spec (λ c κs. search needs) (λ c κs. search needs) (λ c κs. search needs) (λ c κs. search needs) returns)

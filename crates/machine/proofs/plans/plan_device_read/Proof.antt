@@ -14,24 +14,14 @@ use Rattle.machine.proofs.plans.plan_device_read.Tie as tie
 abbrev St : tie.Start → State
 St s = machineOf (s .args .list) (s .args .records .now) (s .args .protections .now) (s .args .memory .now) (s .args .words .now) (s .args .tags .now)
 
-transfer-refusal-requires : tie.Need-transfer-refusal-requires
-transfer-refusal-requires c κs = search needs
-
-plan-device-read-requires : tie.Need-plan-device-read-requires
-plan-device-read-requires c κs = search needs
-
-with-step-requires : tie.Need-with-step-requires
-with-step-requires c κs = search needs
-
 returns : tie.Need-returns
 unfolding ownCauses storeCauses transferCauses
 returns c =
     let s = c .before .before .before .before .before .before .before .before .before in
-    step-merged (s .args .board) (St s) (deviceRead (s .args .frame) (s .args .buffer .now)) ([])
-    (frameCause (s .args .board) (s .args .frame) ∷ []) refl refl refl
-    _ (c .with-step .ensures) (c .before .before .transfer-refusal .ensures) (c .before .plan-device-read .ensures)
+    let a = s .args in
+    step-merged (a .board) (St s) (deviceRead (a .frame) (a .buffer .now)) []
+    (frameCause (a .board) (a .frame) ∷ [])
+    refl refl refl _ (c .with-step .ensures) (c .before .before .transfer-refusal .ensures) (c .before .plan-device-read .ensures)
 
 pub plan-device-read-spec : {M : Type 1} → statement M
-plan-device-read-spec =
-    tie.close
-    (tie.spec transfer-refusal-requires plan-device-read-requires with-step-requires returns)
+plan-device-read-spec = tie.close (tie.spec (λ c κs. search needs) (λ c κs. search needs) (λ c κs. search needs) returns)

@@ -14,23 +14,14 @@ use Rattle.machine.proofs.plans.plan_unmap.Tie as tie
 abbrev St : tie.Start → State
 St s = machineOf (s .args .list) (s .args .records .now) (s .args .protections .now) (s .args .memory .now) (s .args .words .now) (s .args .tags .now)
 
-store-refusal-requires : tie.Need-store-refusal-requires
-store-refusal-requires c κs = search needs
-
-plan-unmap-requires : tie.Need-plan-unmap-requires
-plan-unmap-requires c κs = search needs
-
-with-place-requires : tie.Need-with-place-requires
-with-place-requires c κs = search needs
-
 returns : tie.Need-returns
 unfolding ownCauses storeCauses pageCauses
 returns c =
     let s = c .before .before .before .before .before .before .before .before in
-    place-merged (s .args .board) (St s) (unmap (s .args .space) (s .args .page)) ([])
-    (spaceCause (s .args .space) (s .args .page) ∷ unmappedCause (s .args .list) (s .args .space) (s .args .page) ∷ []) refl refl refl
-    _ (c .with-place .ensures) (c .before .before .store-refusal .ensures) (c .before .plan-unmap .ensures)
+    let a = s .args in
+    place-merged (a .board) (St s) (unmap (a .space) (a .page)) []
+    (spaceCause (a .space) (a .page) ∷ unmappedCause (a .list) (a .space) (a .page) ∷ [])
+    refl refl refl _ (c .with-place .ensures) (c .before .before .store-refusal .ensures) (c .before .plan-unmap .ensures)
 
 pub plan-unmap-spec : {M : Type 1} → statement M
-plan-unmap-spec =
-    tie.close (tie.spec store-refusal-requires plan-unmap-requires with-place-requires returns)
+plan-unmap-spec = tie.close (tie.spec (λ c κs. search needs) (λ c κs. search needs) (λ c κs. search needs) returns)

@@ -14,23 +14,14 @@ use Rattle.machine.proofs.plans.plan_write.Tie as tie
 abbrev St : tie.Start → State
 St s = machineOf (s .args .list) (s .args .records .now) (s .args .protections .now) (s .args .memory .now) (s .args .words .now) (s .args .tags .now)
 
-access-refusal-requires : tie.Need-access-refusal-requires
-access-refusal-requires c κs = search needs
-
-plan-write-requires : tie.Need-plan-write-requires
-plan-write-requires c κs = search needs
-
-with-step-requires : tie.Need-with-step-requires
-with-step-requires c κs = search needs
-
 returns : tie.Need-returns
 unfolding ownCauses accessCauses writeCauses
 returns c =
     let s = c .before .before .before .before .before .before .before .before in
-    step-merged (s .args .board) (St s) (write (s .args .space) (s .args .page) (s .args .offset) 0) (offsetCause (s .args .board .page) (s .args .offset) ∷ [])
-    (spaceCause (s .args .space) (s .args .page) ∷ unmappedCause (s .args .list) (s .args .space) (s .args .page) ∷ readOnlyCause (s .args .list) (s .args .space) (s .args .page) ∷ []) refl refl refl
-    _ (c .with-step .ensures) (c .before .before .access-refusal .ensures) (c .before .plan-write .ensures)
+    let a = s .args in
+    step-merged (a .board) (St s) (write (a .space) (a .page) (a .offset) 0) (offsetCause (a .board .page) (a .offset) ∷ [])
+    (spaceCause (a .space) (a .page) ∷ unmappedCause (a .list) (a .space) (a .page) ∷ readOnlyCause (a .list) (a .space) (a .page) ∷ [])
+    refl refl refl _ (c .with-step .ensures) (c .before .before .access-refusal .ensures) (c .before .plan-write .ensures)
 
 pub plan-write-spec : {M : Type 1} → statement M
-plan-write-spec =
-    tie.close (tie.spec access-refusal-requires plan-write-requires with-step-requires returns)
+plan-write-spec = tie.close (tie.spec (λ c κs. search needs) (λ c κs. search needs) (λ c κs. search needs) returns)

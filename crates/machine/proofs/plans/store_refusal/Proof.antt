@@ -26,17 +26,11 @@ lengths c =
     lengths-right _ (S (start-of (c .before))) (memory .if1 .left ∙ memory .before .memory-words .ensures) (words .if2 .left ∙ words .before .cache-words .ensures)
     (c .if3 .left ∙ c .before .lines .ensures)
 
-memory-words-requires : tie.Need-memory-words-requires
-memory-words-requires c κs = search needs
-
 returns : tie.Need-returns
 unfolding firstRefusal storeCauses
 returns c =
     let s = c .before .before .before .before .before in
     rw (lengths-memory (s .args .board) (S s) (ne-eqb _ _ (λ e. c .if1 .taken (e ∙ sym (c .before .memory-words .ensures)))))
-
-cache-words-requires : tie.Need-cache-words-requires
-cache-words-requires c κs = search needs
 
 returns-2 : tie.Need-returns-2
 unfolding firstRefusal storeCauses
@@ -44,17 +38,11 @@ returns-2 c =
     let s = c .before .before .before .before .before .before .before in
     rw (lengths-words (s .args .board) (S s) (ne-eqb _ _ (λ e. c .if2 .taken (e ∙ sym (c .before .cache-words .ensures)))))
 
-lines-requires : tie.Need-lines-requires
-lines-requires c κs = search needs
-
 returns-3 : tie.Need-returns-3
 unfolding firstRefusal storeCauses
 returns-3 c =
     let s = start-of (c .before) in
     rw (lengths-tags (s .args .board) (S s) (ne-eqb _ _ (λ e. c .if3 .taken (e ∙ sym (c .before .lines .ensures)))))
-
-tags-keep-rules-requires : tie.Need-tags-keep-rules-requires
-tags-keep-rules-requires c κs = search needs
 
 returns-4 : tie.Need-returns-4
 unfolding firstRefusal storeCauses
@@ -66,4 +54,6 @@ returns-5 c = rw (lengths (c .before .before), sym (c .before .tags-keep-rules .
 
 pub store-refusal-spec : {M : Type 1} → statement M
 store-refusal-spec =
-    tie.close (tie.spec memory-words-requires returns cache-words-requires returns-2 lines-requires returns-3 tags-keep-rules-requires returns-4 returns-5)
+    tie.close
+    (tie.spec (λ c κs. search needs) returns (λ c κs. search needs) returns-2 (λ c κs. search needs) returns-3 (λ c κs. search needs) returns-4
+    returns-5)

@@ -11,11 +11,9 @@ returns : tie.Need-returns
 unfolding firstRefusal storeCauses
 returns c = rw (ne-eqb _ _ (c .if1 .taken), and-false)
 
-store-refusal-requires : tie.Need-store-refusal-requires
-store-refusal-requires c κs = search needs
-
 returns-2 : tie.Need-returns-2
 returns-2 c = rw (eq-eqb _ _ (c .before .if1 .left)) (c .store-refusal .ensures)
 
 pub transfer-refusal-spec : {M : Type 1} → statement M
-transfer-refusal-spec = tie.close (tie.spec returns store-refusal-requires returns-2)
+transfer-refusal-spec = tie.close
+    (tie.spec returns (λ c κs. search needs) returns-2)

@@ -7,12 +7,6 @@ use borrow.Author.Needs.{needs}
 use Rattle.machine.proofs.plans.with_place.Statement.{statement}
 use Rattle.machine.proofs.plans.with_place.Tie as tie
 
-enum-known-plan : tie.Need-enum-known-plan
-enum-known-plan c = search needs
-
-enum-told : tie.Need-enum-told
-enum-told c = search needs
-
 returns : tie.Need-returns
 unfolding withPlace
 returns c = rw (c .before .enum-told .given .1) (withPlace-own _ _ (c .if1 .taken))
@@ -21,13 +15,9 @@ returns-2 : tie.Need-returns-2
 unfolding withPlace
 returns-2 c = rw (c .before .enum-told .given .1, c .if1 .left)
 
-earlier-requires : tie.Need-earlier-requires
-earlier-requires c κs = search needs
-
 returns-3 : tie.Need-returns-3
 unfolding withPlace
 returns-3 c = rw (c .before .before .plan .given .1) (ap made.Refused (c .earlier .ensures))
 
 pub with-place-spec : {M : Type 1} → statement M
-with-place-spec =
-    tie.close (tie.spec enum-known-plan enum-told returns returns-2 earlier-requires returns-3)
+with-place-spec = tie.close (tie.spec (λ c. search needs) (λ c. search needs) returns returns-2 (λ c κs. search needs) returns-3)
