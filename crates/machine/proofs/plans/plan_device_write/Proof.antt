@@ -4,22 +4,16 @@ use mathlib.Core.List.{[], _∷_}
 use borrow.Author.Needs.{needs}
 use Rattle.manager.specs.Refusals.{frameCause, transferCauses}
 use Rattle.machine.specs.Refusals.{ownCauses}
-use Rattle.machine.specs.State.{State, machineOf, deviceWrite}
 use Rattle.machine.specs.Plans.{storeCauses}
 use Rattle.machine.proofs.MergeLaws.{step-merged}
 use Rattle.machine.proofs.plans.plan_device_write.Statement.{statement}
 use Rattle.machine.proofs.plans.plan_device_write.Tie as tie
 
--- what the function is lent
-abbrev St : tie.Start → State
-St s = machineOf (s .args .list) (s .args .records .now) (s .args .protections .now) (s .args .memory .now) (s .args .words .now) (s .args .tags .now)
-
 returns : tie.Need-returns
 unfolding ownCauses storeCauses transferCauses
 returns c =
-    let s = c .before .before .before .before .before .before .before .before .before in
-    let a = s .args in
-    step-merged (a .board) (St s) (deviceWrite (a .frame) (a .buffer .now)) []
+    let a = c .before .before .before .before .before .before .before .before .before .args in
+    step-merged _ _ _ []
     (frameCause (a .board) (a .frame) ∷ [])
     refl refl refl _ (c .with-step .ensures) (c .before .before .transfer-refusal .ensures) (c .before .plan-device-write .ensures)
 

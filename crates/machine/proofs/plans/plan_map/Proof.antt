@@ -4,23 +4,17 @@ use mathlib.Core.List.{[], _∷_}
 use borrow.Author.Needs.{needs}
 use Rattle.manager.specs.Refusals.{spaceCause, frameCause, rightsCause, mappedCause, fullCause, mapCauses}
 use Rattle.machine.specs.Refusals.{ownCauses}
-use Rattle.machine.specs.State.{State, machineOf, map}
 use Rattle.machine.specs.Plans.{storeCauses}
 use Rattle.machine.proofs.MergeLaws.{place-merged}
 use Rattle.machine.proofs.plans.plan_map.Statement.{statement}
 use Rattle.machine.proofs.plans.plan_map.Tie as tie
 
--- what the function is lent
-abbrev St : tie.Start → State
-St s = machineOf (s .args .list) (s .args .records .now) (s .args .protections .now) (s .args .memory .now) (s .args .words .now) (s .args .tags .now)
-
 returns : tie.Need-returns
 unfolding ownCauses storeCauses mapCauses
 returns c =
-    let s = c .before .before .before .before .before .before .before .before in
-    let a = s .args in
+    let a = c .before .before .before .before .before .before .before .before .args in
     let m = a .m in
-    place-merged (a .board) (St s) (map (m .space) (m .page) (m .frame) (m .rights)) []
+    place-merged _ _ _ []
     (spaceCause (m .space) (m .page) ∷ frameCause (a .board) (m .frame) ∷ rightsCause (m .rights) ∷ mappedCause (a .list) (m .space) (m .page) ∷ fullCause (a .list) ∷ [])
     refl refl refl _ (c .with-place .ensures) (c .before .before .store-refusal .ensures) (c .before .plan-map .ensures)
 

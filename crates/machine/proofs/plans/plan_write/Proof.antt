@@ -4,22 +4,16 @@ use mathlib.Core.List.{[], _∷_}
 use borrow.Author.Needs.{needs}
 use Rattle.manager.specs.Refusals.{spaceCause, unmappedCause, readOnlyCause, writeCauses}
 use Rattle.machine.specs.Refusals.{offsetCause, ownCauses}
-use Rattle.machine.specs.State.{State, machineOf, write}
 use Rattle.machine.specs.Plans.{accessCauses}
 use Rattle.machine.proofs.MergeLaws.{step-merged}
 use Rattle.machine.proofs.plans.plan_write.Statement.{statement}
 use Rattle.machine.proofs.plans.plan_write.Tie as tie
 
--- what the function is lent
-abbrev St : tie.Start → State
-St s = machineOf (s .args .list) (s .args .records .now) (s .args .protections .now) (s .args .memory .now) (s .args .words .now) (s .args .tags .now)
-
 returns : tie.Need-returns
 unfolding ownCauses accessCauses writeCauses
 returns c =
-    let s = c .before .before .before .before .before .before .before .before in
-    let a = s .args in
-    step-merged (a .board) (St s) (write (a .space) (a .page) (a .offset) 0) (offsetCause (a .board .page) (a .offset) ∷ [])
+    let a = c .before .before .before .before .before .before .before .before .args in
+    step-merged _ _ _ (offsetCause (a .board .page) (a .offset) ∷ [])
     (spaceCause (a .space) (a .page) ∷ unmappedCause (a .list) (a .space) (a .page) ∷ readOnlyCause (a .list) (a .space) (a .page) ∷ [])
     refl refl refl _ (c .with-step .ensures) (c .before .before .access-refusal .ensures) (c .before .plan-write .ensures)
 
