@@ -118,63 +118,71 @@ ready b st f s wf hf =
     (wf, hf, below .1, below .2)
 
 -- an access to an offset of a page: any call whose own causes begin with those of the space, the offset and the mapping
-module _ (b : Board) (st : State) (call : Call) (space page offset : ℕ) (rest : List Cause)
-    (own : ownCauses b st call ≡ spaceCause space page ∷ offsetCause (b .page) offset ∷ unmappedCause (st .tables .list) space page ∷ rest)
-    (s : table.Step) where
-  pub access-ready : firstRefusal (causes b st call) ≡ 0 → Ready b st (changeOf b (st .tables) (frameOf st space page) s) × (offset < b .page)
-  unfolding lentCauses
-  access-ready e =
-      let n = subst (λ (cs : List Cause). NoneApplies (lentCauses b st call ++ cs)) own (clear b st call e) in
-      let m = mapped-range b (st .tables) (tables-clear b st call e) space page (not-false _ (n .1 .1 .1 .1 .0)) in
-      (ready b st (frameOf st space page) s (store-clear b st call e) (m .frame-lt), leb-false (b .page) offset (n .1 .1 .1 .0))
+pub access-ready : (b : Board) (st : State) (call : Call) (s : table.Step) (space page offset : ℕ) (rest : List Cause)
+    → ownCauses b st call ≡ spaceCause space page ∷ offsetCause (b .page) offset ∷ unmappedCause (st .tables .list) space page ∷ rest
+    → firstRefusal (causes b st call) ≡ 0
+    → Ready b st (changeOf b (st .tables) (frameOf st space page) s) × (offset < b .page)
+unfolding lentCauses
+access-ready b st call s space page offset rest own e =
+    let n = subst (λ (cs : List Cause). NoneApplies (lentCauses b st call ++ cs)) own (clear b st call e) in
+    let m = mapped-range b (st .tables) (tables-clear b st call e) space page (not-false _ (n .1 .1 .1 .1 .0)) in
+    (ready b st (frameOf st space page) s (store-clear b st call e) (m .frame-lt), leb-false (b .page) offset (n .1 .1 .1 .0))
 
-  -- with the change that the plan tells, and the page's colour
-  pub access-requires : Regular b → {change : Change} {colour : ℕ} → planStep b st call (changeOf b (st .tables) (frameOf st space page) s) ≡ step-plan.Step change
-      → colour ≡ colourOf b page → AccessReady b (st .store) (change .frame) (change .ops) colour offset
-  access-requires reg {change} p e =
-      let q = planned-step _ _ change p in
-      let r = subst (λ (m : Change). Ready b st m × (offset < b .page)) (q .1) (access-ready (q .0)) in
-      (r .0 .0, r .0 .1, r .0 .2, r .0 .3, subst⁻¹ (λ (k : ℕ). k < b .colours) e (colourOf-lt b reg page), r .1, reg)
+-- so the change that is told, and the page's colour, are what `load` and `put` require
+pub access-requires : (b : Board) (st : State) (call : Call) (s : table.Step) (space page offset : ℕ) (rest : List Cause) {change : Change} {colour : ℕ} → Regular b
+    → planStep b st call (changeOf b (st .tables) (frameOf st space page) s) ≡ step-plan.Step change
+    → ownCauses b st call ≡ spaceCause space page ∷ offsetCause (b .page) offset ∷ unmappedCause (st .tables .list) space page ∷ rest
+    → colour ≡ colourOf b page
+    → AccessReady b (st .store) (change .frame) (change .ops) colour offset
+access-requires b st call s space page offset rest {change} reg p own e =
+    let q = planned-step _ _ change p in
+    let r = subst (λ (m : Change). Ready b st m × (offset < b .page)) (q .1) (access-ready b st call s space page offset rest own (q .0)) in
+    (r .0 .0, r .0 .1, r .0 .2, r .0 .3, subst⁻¹ (λ (k : ℕ). k < b .colours) e (colourOf-lt b reg page), r .1, reg)
 
 -- a transfer of a frame: any call whose own causes begin with the frame's, and of which a buffer is tested
-module _ (b : Board) (st : State) (call : Call) (frame : ℕ) (buffer : List ℕ) (rest : List Cause) (own : ownCauses b st call ≡ frameCause b frame ∷ rest)
-    (tested : bufferRight b call ≡ eqb (length buffer) (b .page)) (s : table.Step) where
-  pub transfer-ready : firstRefusal (causes b st call) ≡ 0 → Ready b st (changeOf b (st .tables) frame s) × (length buffer ≡ b .page)
-  unfolding lentCauses
-  transfer-ready e =
-      let n = subst (λ (cs : List Cause). NoneApplies (lentCauses b st call ++ cs)) own (clear b st call e) in
-      let l = and-right (lengthsRight b (st .tables) && storeLengths b (st .store)) _ (lengths-clear b st call e) in
-      (ready b st frame s (store-clear b st call e) (leb-false (b .frames) frame (n .1 .1 .0)), eqb-true (length buffer) (b .page) (sym tested ∙ l))
+pub transfer-ready : (b : Board) (st : State) (call : Call) (s : table.Step) (frame : ℕ) (buffer : List ℕ) (rest : List Cause)
+    → ownCauses b st call ≡ frameCause b frame ∷ rest
+    → bufferRight b call ≡ eqb (length buffer) (b .page)
+    → firstRefusal (causes b st call) ≡ 0
+    → Ready b st (changeOf b (st .tables) frame s) × (length buffer ≡ b .page)
+unfolding lentCauses
+transfer-ready b st call s frame buffer rest own tested e =
+    let n = subst (λ (cs : List Cause). NoneApplies (lentCauses b st call ++ cs)) own (clear b st call e) in
+    let l = and-right (lengthsRight b (st .tables) && storeLengths b (st .store)) _ (lengths-clear b st call e) in
+    (ready b st frame s (store-clear b st call e) (leb-false (b .frames) frame (n .1 .1 .0)), eqb-true (length buffer) (b .page) (sym tested ∙ l))
 
-  -- with the change that the plan tells
-  pub transfer-requires : Regular b → {change : Change} → planStep b st call (changeOf b (st .tables) frame s) ≡ step-plan.Step change
-      → TransferReady b (st .store) (change .frame) (change .ops) buffer
-  transfer-requires reg {change} p =
-      let q = planned-step _ _ change p in
-      let r = subst (λ (m : Change). Ready b st m × (length buffer ≡ b .page)) (q .1) (transfer-ready (q .0)) in
-      (r .0 .0, r .0 .1, r .0 .2, r .0 .3, r .1, reg)
+-- so the change that is told is what `send` and `receive` require
+pub transfer-requires : (b : Board) (st : State) (call : Call) (s : table.Step) (frame : ℕ) (buffer : List ℕ) (rest : List Cause) {change : Change} → Regular b
+    → planStep b st call (changeOf b (st .tables) frame s) ≡ step-plan.Step change
+    → ownCauses b st call ≡ frameCause b frame ∷ rest
+    → bufferRight b call ≡ eqb (length buffer) (b .page)
+    → TransferReady b (st .store) (change .frame) (change .ops) buffer
+transfer-requires b st call s frame buffer rest {change} reg p own tested =
+    let q = planned-step _ _ change p in
+    let r = subst (λ (m : Change). Ready b st m × (length buffer ≡ b .page)) (q .1) (transfer-ready b st call s frame buffer rest own tested (q .0)) in
+    (r .0 .0, r .0 .1, r .0 .2, r .0 .3, r .1, reg)
 
--- each call's, by its causes
+-- each call's, for the theorems of consistency
 module _ (b : Board) (st : State) where
   pub read-ready : (space page offset : ℕ) → firstRefusal (causes b st (read space page offset)) ≡ 0
       → Ready b st (changeOf b (st .tables) (frameOf st space page) (table.read (colourOf b page))) × (offset < b .page)
   unfolding ownCauses
-  read-ready space page offset = access-ready b st (read space page offset) space page offset [] refl (table.read (colourOf b page))
+  read-ready space page offset = access-ready b st (read space page offset) (table.read (colourOf b page)) space page offset [] refl
 
   pub write-ready : (space page offset word : ℕ) → firstRefusal (causes b st (write space page offset word)) ≡ 0
       → Ready b st (changeOf b (st .tables) (frameOf st space page) (table.write (colourOf b page))) × (offset < b .page)
   unfolding ownCauses
-  write-ready space page offset word = access-ready b st (write space page offset word) space page offset _ refl (table.write (colourOf b page))
+  write-ready space page offset word = access-ready b st (write space page offset word) (table.write (colourOf b page)) space page offset _ refl
 
   pub deviceRead-ready : (frame : ℕ) (buffer : List ℕ) → firstRefusal (causes b st (deviceRead frame buffer)) ≡ 0
       → Ready b st (changeOf b (st .tables) frame table.deviceRead) × (length buffer ≡ b .page)
   unfolding ownCauses
-  deviceRead-ready frame buffer = transfer-ready b st (deviceRead frame buffer) frame buffer [] refl refl table.deviceRead
+  deviceRead-ready frame buffer = transfer-ready b st (deviceRead frame buffer) table.deviceRead frame buffer [] refl refl
 
   pub deviceWrite-ready : (frame : ℕ) (buffer : List ℕ) → firstRefusal (causes b st (deviceWrite frame buffer)) ≡ 0
       → Ready b st (changeOf b (st .tables) frame table.deviceWrite) × (length buffer ≡ b .page)
   unfolding ownCauses
-  deviceWrite-ready frame buffer = transfer-ready b st (deviceWrite frame buffer) frame buffer [] refl refl table.deviceWrite
+  deviceWrite-ready frame buffer = transfer-ready b st (deviceWrite frame buffer) table.deviceWrite frame buffer [] refl refl
 
   pub evict-ready : (line : ℕ) → firstRefusal (causes b st (evict line)) ≡ 0 → WellFormed b (st .store) × (line < lines b)
   unfolding lentCauses ownCauses
@@ -197,16 +205,16 @@ module _ (b : Board) (st : State) (call : Call) where
   planned-refused change {k} p = step-refused b st call k (planned-refusal _ k change p)
 
   -- the plan was a change, of a call that is a step of a frame's record
-  pub stepped-made : (change : Change) (word : ℕ → Store → Option ℕ) (buffer : ℕ → Store → List ℕ) (access : ℕ → Store → Store)
+  pub stepped-made : (change : Change) {told : Change} → planStep b st call change ≡ step-plan.Step told
+      → (word : ℕ → Store → Option ℕ) (buffer : ℕ → Store → List ℕ) (access : ℕ → Store → Store)
       → accept b st call ≡ stepped b st change (word (change .frame)) (buffer (change .frame)) (access (change .frame))
-      → {told : Change} → planStep b st call change ≡ step-plan.Step told
       → {w : Option ℕ} {l : List ℕ} {t : Tables} {s : Store}
       → w ≡ word (told .frame) (afterOps b st told)
       → l ≡ buffer (told .frame) (afterOps b st told)
       → t ≡ commitChange b (st .tables) (told .frame) (told .next)
       → s ≡ access (told .frame) (afterOps b st told)
       → result (answer (accepted (told .frame) (told .ops)) w l) (state t s) ≡ step b st call
-  stepped-made change word buffer access a {told} p ew el et es =
+  stepped-made change {told} p word buffer access a ew el et es =
       let q = planned-step _ change told p in
       made refl ew el et es
       ∙ ap (λ (m : Change). stepped b st m (word (m .frame)) (buffer (m .frame)) (access (m .frame))) (sym (q .1))
@@ -214,17 +222,17 @@ module _ (b : Board) (st : State) (call : Call) where
       ∙ step-accepted b st call (q .0)
 
   -- and makes an access through a page's colour
-  pub access-made : (change : Change) (colour : ℕ) (word : ℕ → ℕ → Store → Option ℕ) (access : ℕ → ℕ → Store → Store)
+  pub access-made : (change : Change) {told : Change} → planStep b st call change ≡ step-plan.Step told
+      → (colour : ℕ) (word : ℕ → ℕ → Store → Option ℕ) (access : ℕ → ℕ → Store → Store)
       → accept b st call ≡ stepped b st change (word (change .frame) colour) (λ s. []) (access (change .frame) colour)
-      → {told : Change} → planStep b st call change ≡ step-plan.Step told
       → {k : ℕ} {w : Option ℕ} {t : Tables} {s : Store}
       → k ≡ colour
       → w ≡ word (told .frame) k (afterOps b st told)
       → t ≡ commitChange b (st .tables) (told .frame) (told .next)
       → s ≡ access (told .frame) k (afterOps b st told)
       → result (answer (accepted (told .frame) (told .ops)) w []) (state t s) ≡ step b st call
-  access-made change colour word access a {told} p ek ew et es =
-      stepped-made change (λ f. word f colour) (λ f s. []) (λ f. access f colour) a p
+  access-made change {told} p colour word access a ek ew et es =
+      stepped-made change p (λ f. word f colour) (λ f s. []) (λ f. access f colour) a
       (ew ∙ ap (λ (k : ℕ). word (told .frame) k (afterOps b st told)) ek) refl et
       (es ∙ ap (λ (k : ℕ). access (told .frame) k (afterOps b st told)) ek)
 
@@ -237,16 +245,16 @@ module _ (b : Board) (st : State) (call : Call) where
       ∙ step-refused b st call k (placed-refusal _ k place p)
 
   -- an accepted call without orders
-  pub listed-made : (t : Tables) (s : Store) → accept b st call ≡ listed t s → firstRefusal (causes b st call) ≡ 0
+  pub listed-made : firstRefusal (causes b st call) ≡ 0 → (t : Tables) (s : Store) → accept b st call ≡ listed t s
       → {o : Outcome} {t′ : Tables} {s′ : Store} → o ≡ accepted 0 noOps → t′ ≡ t → s′ ≡ s → result (answer o none []) (state t′ s′) ≡ step b st call
-  listed-made t s a e eo et es = made eo refl refl et es ∙ sym a ∙ step-accepted b st call e
+  listed-made e t s a eo et es = made eo refl refl et es ∙ sym a ∙ step-accepted b st call e
 
   -- the plan of the list was a place, at which the tables change
-  pub placed-made : (commit : ℕ → Tables) (place : ℕ) → accept b st call ≡ listed (commit place) (st .store)
-      → {told : ℕ} → planPlace b st call place ≡ list-plan.Place told
+  pub placed-made : (place : ℕ) {told : ℕ} → planPlace b st call place ≡ list-plan.Place told
+      → (commit : ℕ → Tables) → accept b st call ≡ listed (commit place) (st .store)
       → {o : Outcome} {l l′ : MappingList} {records protections : List ℕ} → o ≡ accepted 0 noOps → l ≡ l′ → tables l′ records protections ≡ commit told
       → result (answer o none []) (state (tables l records protections) (st .store)) ≡ step b st call
-  placed-made commit place a {told} p {records = records} {protections = protections} eo el et =
+  placed-made place {told} p commit a {records = records} {protections = protections} eo el et =
       let q = placed-place _ place told p in
-      listed-made (commit place) (st .store) a (q .0) eo
+      listed-made (q .0) (commit place) (st .store) a eo
       (ap (λ (l : MappingList). tables l records protections) el ∙ et ∙ ap commit (sym (q .1))) refl

@@ -1,32 +1,16 @@
 -- `machine::device_read` meets its contract.
-use mathlib.Core.Path.{_≡_, refl, sym, _∙_}
+use mathlib.Core.Path.{refl, sym, _∙_}
 use mathlib.Core.List.{[]}
 use mathlib.Core.Option.{none}
 use borrow.Author.Needs.{needs}
 use Rattle.board.specs.Board.{board01}
 use Rattle.board.proofs.Geometry.{board01-regular}
-use Rattle.page_model.specs.Table as table
-use Rattle.manager.specs.declared.Change.{Change}
-use Rattle.manager.specs.declared.Plan.the-variants as step-plan
-use Rattle.manager.specs.Calls.{changeOf}
 use Rattle.cache.specs.Cache as hardware
 use Rattle.machine.specs.Refusals.{ownCauses}
-use Rattle.machine.specs.State.{State, machineOf, Call, deviceRead}
 use Rattle.machine.specs.Step.{accept}
-use Rattle.machine.specs.Plans.{planStep}
 use Rattle.machine.proofs.StepLaws.{transfer-requires, planned-refused, stepped-made}
 use Rattle.machine.proofs.device_read.Statement.{statement}
 use Rattle.machine.proofs.device_read.Tie as tie
-
--- what the call is lent, the call, and the change that it makes
-abbrev St : tie.Start → State
-St s = machineOf (s .args .list) (s .args .records .now) (s .args .protections .now) (s .args .memory .now) (s .args .words .now) (s .args .tags .now)
-
-abbrev asked : tie.Start → Call
-asked s = deviceRead (s .args .frame) (s .args .buffer .now)
-
-abbrev change : tie.Start → Change
-change s = changeOf board01 (St s .tables) (s .args .frame) table.deviceRead
 
 -- the places that the proof goes back to
 abbrev start-of : tie.After-plan-device-read → tie.Start
@@ -35,23 +19,20 @@ start-of c = c .before .before .before .before .before .before .before .before .
 abbrev plan-of : tie.After-commit-change → tie.After-plan2
 plan-of c = c .before .before .before .before .before .before
 
--- the plan is that change
-planned-by : (c : tie.After-plan2) → let s = start-of (c .before .before) in planStep board01 (St s) (asked s) (change s) ≡ step-plan.Step (c .plan2 .given .0 .0)
-planned-by c = sym (c .before .before .plan-device-read .ensures) ∙ c .plan2 .given .1
-
 send-requires : tie.Need-send-requires
 unfolding ownCauses
 send-requires c κs =
     let commit = c .before .before .before .before .before .before .before in
     let at = plan-of commit in
-    let s = start-of (at .before .before) in
-    transfer-requires board01 (St s) (asked s) (s .args .frame) (s .args .buffer .now) [] refl refl table.deviceRead board01-regular (planned-by at)
+    let plan = at .before .before in
+    let a = start-of plan .args in
+    transfer-requires board01 _ _ _ (a .frame) (a .buffer .now) [] board01-regular
+    (sym (plan .plan-device-read .ensures) ∙ at .plan2 .given .1) refl refl
 
 returns : tie.Need-returns
 returns c =
     let plan = c .before .before .before in
-    let s = start-of plan in
-    planned-refused board01 (St s) (asked s) (change s) (sym (plan .plan-device-read .ensures) ∙ c .before .plan .given .1)
+    planned-refused _ _ _ _ (sym (plan .plan-device-read .ensures) ∙ c .before .plan .given .1)
 
 returns-2 : tie.Need-returns-2
 unfolding accept
@@ -59,9 +40,10 @@ returns-2 c =
     let send = c .before .before .before .before .before .before in
     let commit = send .before .before .before .before .before .before .before .before in
     let at = plan-of commit in
-    let s = start-of (at .before .before) in
-    stepped-made board01 (St s) (asked s) (change s) (λ f x. none) (hardware.deviceRead board01) (λ f x. x) refl
-    (planned-by at) refl (send .send .ensures .1) (commit .commit-change .ensures) (send .send .ensures .0)
+    let plan = at .before .before in
+    stepped-made board01 _ _ _ (sym (plan .plan-device-read .ensures) ∙ at .plan2 .given .1)
+    (λ f x. none) (hardware.deviceRead board01) (λ f x. x) refl
+    refl (send .send .ensures .1) (commit .commit-change .ensures) (send .send .ensures .0)
 
 pub device-read-spec : {M : Type 1} → statement M
 device-read-spec =

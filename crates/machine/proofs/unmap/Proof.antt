@@ -1,36 +1,18 @@
 -- `machine::unmap` meets its contract.
 use mathlib.Core.Path.{refl, sym, _∙_}
-use Prim.Native.Nat.{ℕ}
 use borrow.Author.Needs.{needs}
 use Rattle.board.specs.Board.{board01}
 use Rattle.board.proofs.Geometry.{board01-regular}
-use Rattle.mapping.specs.Lookup.{lookup}
 use Rattle.manager.specs.Calls.{commitUnmap}
-use Rattle.manager.specs.Refusals.{placeOf}
-use Rattle.machine.specs.State.{State, machineOf, Call, unmap}
 use Rattle.machine.specs.Step.{accept}
 use Rattle.machine.proofs.StepLaws.{placed-refused, placed-made}
 use Rattle.machine.proofs.unmap.Statement.{statement}
 use Rattle.machine.proofs.unmap.Tie as tie
 
--- what the call is lent, the call, and the place that it takes
-abbrev St : tie.Start → State
-St s = machineOf (s .args .list) (s .args .records .now) (s .args .protections .now) (s .args .memory .now) (s .args .words .now) (s .args .tags .now)
-
-abbrev asked : tie.Start → Call
-asked s = unmap (s .args .space) (s .args .page)
-
-abbrev place : tie.Start → ℕ
-place s = placeOf (lookup (s .args .list) (s .args .space) (s .args .page))
-
-abbrev start-of : tie.After-plan-unmap → tie.Start
-start-of c = c .before .before .before .before .before .before .before
-
 returns : tie.Need-returns
 returns c =
     let plan = c .before .before .before .before in
-    let s = start-of plan in
-    placed-refused board01 (St s) (asked s) (place s) (sym (plan .plan-unmap .ensures) ∙ c .before .before .plan .given .1) (c .refused-as .ensures .0) (c .refused-as .ensures .1)
+    placed-refused _ _ _ _ (sym (plan .plan-unmap .ensures) ∙ c .before .before .plan .given .1) (c .refused-as .ensures .0) (c .refused-as .ensures .1)
 
 returns-2 : tie.Need-returns-2
 unfolding accept
@@ -38,8 +20,7 @@ returns-2 c =
     let commit = c .before .before .before in
     let told = commit .before .before .before in
     let plan = told .before .before in
-    let s = start-of plan in
-    placed-made board01 (St s) (asked s) (commitUnmap board01 (St s .tables)) (place s) refl (sym (plan .plan-unmap .ensures) ∙ told .plan2 .given .1)
+    placed-made _ _ _ _ (sym (plan .plan-unmap .ensures) ∙ told .plan2 .given .1) (commitUnmap board01 _) refl
     (c .listed-as .ensures .0) (c .listed-as .ensures .1) (commit .commit-unmap .ensures)
 
 pub unmap-spec : {M : Type 1} → statement M
