@@ -1,8 +1,9 @@
 -- How a call is planned: the machine's own refusal beside the manager's plan, of which the number that stands earlier is given.
-use mathlib.Core.Bool.{Bool, true, not, _&&_}
+use mathlib.Core.Bool.{Bool, true, not, cond, _&&_}
 use mathlib.Core.List.{List, [], _∷_, _++_}
 use mathlib.Core.Option.{none, some}
-use Prim.Native.Nat.{ℕ, zero, suc, min}
+use Prim.Native.Nat.{ℕ, zero, suc}
+use lib.Dec.{leb}
 use Rattle.board.specs.declared.Board.{Board}
 use Rattle.manager.specs.declared.Plan.{Plan}
 use Rattle.manager.specs.declared.Plan.the-variants as step-plan
@@ -11,7 +12,7 @@ use Rattle.manager.specs.declared.ListPlan.the-variants as list-plan
 use Rattle.manager.specs.Answers.{refused, accepted}
 use Rattle.manager.specs.declared.Change.{Change}
 use Rattle.manager.specs.Calls.{planned, placed}
-use Rattle.manager.specs.Refusals.{Cause, _if_, firstRefusal}
+use Rattle.manager.specs.Refusals.{Cause, _if_, firstRefusal, refusalPlace}
 use Rattle.cache.specs.Store.{Store}
 use Rattle.cache.specs.Tag.{tagsKeepRules}
 use Rattle.machine.specs.declared.Loaded.{Loaded}
@@ -29,11 +30,11 @@ unfoldable pub accessCauses : Board → Store → ℕ → ℕ → List Cause
 unfolding storeCauses
 accessCauses b s limit offset = storeCauses b s true ++ offsetCause limit offset ∷ []
 
--- of two refusals, each a number or 0 for none, the earlier: at this stage the numbers rise with their places
+-- of two refusals, each a number or 0 for none, the one whose place comes first
 unfoldable pub earlier : ℕ → ℕ → ℕ
 earlier zero n = n
 earlier (suc m) zero = suc m
-earlier (suc m) (suc n) = min (suc m) (suc n)
+earlier (suc m) (suc n) = cond (leb (refusalPlace (suc m)) (refusalPlace (suc n))) (suc m) (suc n)
 
 -- a plan beside a refusal
 unfoldable pub withStep : ℕ → Plan → Plan

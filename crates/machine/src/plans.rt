@@ -17,6 +17,7 @@ ghost use Rattle.machine.specs.Plans.{planStep, planPlace, storeCauses, 
 use board::Board;
 use manager::ListPlan;
 use manager::Plan;
+use manager::refusals::place;
 use mapping::Mapping;
 use mapping::MappingList;
 
@@ -257,7 +258,7 @@ fn with_place(own: u8, plan: ListPlan) -> ListPlan
     ListPlan::Refused(earlier(own, number))
 }
 
-// Of two refusals, 0 for none, the earlier.
+// Of two refusals, 0 for none, the one whose place comes first.
 fn earlier(own: u8, managers: u8) -> u8
     ensures { λ r. ⌜ r ≡ earlier own managers ⌝ }
 {
@@ -267,5 +268,9 @@ fn earlier(own: u8, managers: u8) -> u8
     if managers == 0 {
         return own;
     }
-    if own < managers { own } else { managers }
+    if place(own) <= place(managers) {
+        own
+    } else {
+        managers
+    }
 }

@@ -6,7 +6,6 @@ use mathlib.Core.Logic.{⊎-elim}
 use Prim.Native.Nat.{ℕ, zero, suc, _≤_, _<_}
 use native.Mathlib.Omega.{arith}
 use borrow.Author.Tests.{leb-true, ltb-true, eq-eqb, ne-eqb}
-use lib.Dec.{leb, ltb}
 use lib.ListN.{length, getD}
 use Rattle.bits.proofs.Tautology.{and-left, and-right}
 use Rattle.manager.specs.Refusals.{Cause, _if_, firstRefusal, refusalOrder, placeIn, refusalPlace, inOrder}
@@ -29,36 +28,31 @@ placeIn-none (m ∷ l) n h = rw (ne-eqb m n (h 0 (omega arith))) (ap suc (placeI
 -- ---- causes in the order
 
 module _ (n : ℕ) (d : Cause) (ds : List Cause) (o : inOrder n (d ∷ ds) ≡ true) where
-  here : leb n (refusalPlace (d .number)) ≡ true
+  pub from-here : n ≤ refusalPlace (d .number)
   unfolding inOrder
-  here = search (and-left, and-right)
+  from-here = leb-true n (refusalPlace (d .number)) (search (and-left, and-right))
 
-  listed : ltb (refusalPlace (d .number)) (length refusalOrder) ≡ true
+  listed : refusalPlace (d .number) < length refusalOrder
   unfolding inOrder
-  listed = search (and-left, and-right)
+  listed = ltb-true (refusalPlace (d .number)) (length refusalOrder) (search (and-left, and-right))
 
-  rest-in-order : inOrder (suc (refusalPlace (d .number))) ds ≡ true
+  pub rest-in-order : inOrder (suc (refusalPlace (d .number))) ds ≡ true
   unfolding inOrder
   rest-in-order = search (and-left, and-right)
+
+  -- 0 is no refusal
+  pub is-numbered : d .number ≡ 0 → ⊥
+  unfolding refusalPlace
+  is-numbered e = let z = ap refusalPlace e in omega (arith, listed)
 
 -- each stands no earlier than the place that they start from
 from-place : (n : ℕ) (cs : List Cause) → inOrder n cs ≡ true → (c : Cause) → List·Memᴰ c cs → n ≤ refusalPlace (c .number)
 from-place n [] o c m = absurd (List·Memᴰ·not-nil m)
 from-place n (d ∷ ds) o c m =
-    let first : n ≤ refusalPlace (d .number) = leb-true _ _ (here n d ds o) in
+    let first = from-here n d ds o in
     ⊎-elim (λ e. let z = ap (λ (x : Cause). refusalPlace (x .number)) e in omega arith)
     (λ k. let more = from-place _ ds (rest-in-order n d ds o) c k in omega arith)
     (List·Memᴰ·cases-cons m)
-
--- 0 is no refusal
-zero-unlisted : refusalPlace 0 < length refusalOrder → ⊥
-unfolding refusalPlace
-zero-unlisted h = omega arith
-
-numbered : (n : ℕ) (d : Cause) (ds : List Cause) → inOrder n (d ∷ ds) ≡ true → d .number ≡ 0 → ⊥
-numbered n d ds o e =
-    let at : refusalPlace (d .number) < length refusalOrder = ltb-true _ _ (listed n d ds o) in
-    zero-unlisted (let z = ap refusalPlace e in omega arith)
 
 -- ---- the refusal, by whether the first applies
 
@@ -71,7 +65,7 @@ none-of n [] o e c m = absurd (List·Memᴰ·not-nil m)
 none-of n (d ∷ ds) o e c m = go (d .applies) refl (λ f k. none-of _ ds (rest-in-order n d ds o) f c k)
   where
     go : (t : Bool) → d .applies ≡ t → (firstRefusal ds ≡ 0 → List·Memᴰ c ds → c .applies ≡ false) → c .applies ≡ false
-    go true z rest = absurd (numbered n d ds o (refusal-if d ds z ∙ e))
+    go true z rest = absurd (is-numbered n d ds o (refusal-if d ds z ∙ e))
     go false z rest = ⊎-elim (λ k. ap (λ (x : Cause). x .applies) k ∙ z) (rest (refusal-if d ds z ∙ e)) (List·Memᴰ·cases-cons m)
 
 first-of : (m : ℕ) (cs : List Cause) → inOrder m cs ≡ true → (n : ℕ) → firstRefusal cs ≡ n → (n ≡ 0 → ⊥) → First cs n

@@ -4,7 +4,7 @@ use mathlib.Core.List.{[], _∷_}
 use Prim.Native.Nat.{ℕ}
 use borrow.Author.Needs.{needs}
 use Rattle.board.specs.Board as board-of
-use Rattle.manager.specs.Refusals.{firstRefusal, tableCauses}
+use Rattle.manager.specs.Refusals.{refusalPlace, inOrder, firstRefusal, tableCauses}
 use Rattle.cache.specs.Store.{store}
 use Rattle.machine.specs.Refusals.{offsetCause, ownCauses}
 use Rattle.machine.specs.Plans.{accessCauses, earlier}
@@ -13,7 +13,7 @@ use Rattle.machine.proofs.plans.evict_refusal.Statement.{statement}
 use Rattle.machine.proofs.plans.evict_refusal.Tie as tie
 
 returns : tie.Need-returns
-unfolding ownCauses accessCauses tableCauses
+unfolding inOrder refusalPlace ownCauses accessCauses tableCauses
 returns c =
     let lines = c .before .before .before in
     let a = lines .before .before .before .before .before .before .args in

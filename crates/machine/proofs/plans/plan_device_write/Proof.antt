@@ -2,7 +2,7 @@
 use mathlib.Core.Path.{refl}
 use mathlib.Core.List.{[], _∷_}
 use borrow.Author.Needs.{needs}
-use Rattle.manager.specs.Refusals.{frameCause, transferCauses}
+use Rattle.manager.specs.Refusals.{refusalPlace, inOrder, frameCause, transferCauses}
 use Rattle.machine.specs.Refusals.{ownCauses}
 use Rattle.machine.specs.Plans.{storeCauses}
 use Rattle.machine.proofs.MergeLaws.{step-merged}
@@ -10,7 +10,7 @@ use Rattle.machine.proofs.plans.plan_device_write.Statement.{statement}
 use Rattle.machine.proofs.plans.plan_device_write.Tie as tie
 
 returns : tie.Need-returns
-unfolding ownCauses storeCauses transferCauses
+unfolding inOrder refusalPlace ownCauses storeCauses transferCauses
 returns c =
     let a = c .before .before .before .before .before .before .before .before .before .args in
     step-merged _ _ _ []

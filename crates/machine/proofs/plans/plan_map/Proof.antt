@@ -2,7 +2,7 @@
 use mathlib.Core.Path.{refl}
 use mathlib.Core.List.{[], _∷_}
 use borrow.Author.Needs.{needs}
-use Rattle.manager.specs.Refusals.{spaceCause, frameCause, rightsCause, mappedCause, fullCause, mapCauses}
+use Rattle.manager.specs.Refusals.{refusalPlace, inOrder, spaceCause, frameCause, rightsCause, mappedCause, fullCause, mapCauses}
 use Rattle.machine.specs.Refusals.{ownCauses}
 use Rattle.machine.specs.Plans.{storeCauses}
 use Rattle.machine.proofs.MergeLaws.{place-merged}
@@ -10,7 +10,7 @@ use Rattle.machine.proofs.plans.plan_map.Statement.{statement}
 use Rattle.machine.proofs.plans.plan_map.Tie as tie
 
 returns : tie.Need-returns
-unfolding ownCauses storeCauses mapCauses
+unfolding inOrder refusalPlace ownCauses storeCauses mapCauses
 returns c =
     let a = c .before .before .before .before .before .before .before .before .args in
     let m = a .m in

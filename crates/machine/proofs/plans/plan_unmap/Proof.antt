@@ -2,7 +2,7 @@
 use mathlib.Core.Path.{refl}
 use mathlib.Core.List.{[], _∷_}
 use borrow.Author.Needs.{needs}
-use Rattle.manager.specs.Refusals.{spaceCause, unmappedCause, pageCauses}
+use Rattle.manager.specs.Refusals.{refusalPlace, inOrder, spaceCause, unmappedCause, pageCauses}
 use Rattle.machine.specs.Refusals.{ownCauses}
 use Rattle.machine.specs.Plans.{storeCauses}
 use Rattle.machine.proofs.MergeLaws.{place-merged}
@@ -10,7 +10,7 @@ use Rattle.machine.proofs.plans.plan_unmap.Statement.{statement}
 use Rattle.machine.proofs.plans.plan_unmap.Tie as tie
 
 returns : tie.Need-returns
-unfolding ownCauses storeCauses pageCauses
+unfolding inOrder refusalPlace ownCauses storeCauses pageCauses
 returns c =
     let a = c .before .before .before .before .before .before .before .before .args in
     place-merged _ _ _ []

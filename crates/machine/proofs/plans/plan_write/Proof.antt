@@ -2,7 +2,7 @@
 use mathlib.Core.Path.{refl}
 use mathlib.Core.List.{[], _∷_}
 use borrow.Author.Needs.{needs}
-use Rattle.manager.specs.Refusals.{spaceCause, unmappedCause, readOnlyCause, writeCauses}
+use Rattle.manager.specs.Refusals.{refusalPlace, inOrder, spaceCause, unmappedCause, readOnlyCause, writeCauses}
 use Rattle.machine.specs.Refusals.{offsetCause, ownCauses}
 use Rattle.machine.specs.Plans.{accessCauses}
 use Rattle.machine.proofs.MergeLaws.{step-merged}
@@ -10,7 +10,7 @@ use Rattle.machine.proofs.plans.plan_write.Statement.{statement}
 use Rattle.machine.proofs.plans.plan_write.Tie as tie
 
 returns : tie.Need-returns
-unfolding ownCauses accessCauses writeCauses
+unfolding inOrder refusalPlace ownCauses accessCauses writeCauses
 returns c =
     let a = c .before .before .before .before .before .before .before .before .args in
     step-merged _ _ _ (offsetCause (a .board .page) (a .offset) ∷ [])
