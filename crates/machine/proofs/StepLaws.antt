@@ -18,7 +18,9 @@ use Rattle.page_model.specs.Table as table
 use Rattle.page_model.proofs.Theorems.{operations-below}
 use Rattle.mapping.specs.declared.MappingList.{MappingList}
 use Rattle.manager.specs.declared.Change.{Change}
+use Rattle.manager.specs.declared.Plan.{Plan}
 use Rattle.manager.specs.declared.Plan.the-variants as step-plan
+use Rattle.manager.specs.declared.ListPlan.{ListPlan}
 use Rattle.manager.specs.declared.ListPlan.the-variants as list-plan
 use Rattle.manager.specs.Answers.{Outcome, refused, accepted}
 use Rattle.manager.specs.Calls.{noOps, planned, placed, changeOf, commitChange}
@@ -30,7 +32,7 @@ use Rattle.cache.specs.Tag.{tagsKeepRules}
 use Rattle.machine.specs.Refusals.{storeLengths, bufferRight, lentCauses, offsetCause, ownCauses, causes}
 use Rattle.machine.specs.State.{State, state, Call, map, unmap, read, write, deviceRead, deviceWrite, evict, Result, lentBuffer}
 use Rattle.machine.specs.Step.{answer, result, carryOut, listed, stepped, frameOf, accept, step}
-use Rattle.machine.specs.Plans.{planStep, planPlace}
+use Rattle.machine.specs.Plans.{planStep, planPlace, refusalOf, placeRefusal}
 use Rattle.machine.proofs.StoreLaws.{AccessReady, TransferReady, well-formed}
 
 -- ---- a plan that was made
@@ -199,10 +201,11 @@ abbrev pub afterOps : Board → State → Change → Store
 afterOps b st change = carryOut b (accepted (change .frame) (change .ops)) (st .store)
 
 module _ (b : Board) (st : State) (call : Call) where
-  -- the plan was a refusal
-  pub planned-refused : (change : Change) {k : ℕ} → planStep b st call change ≡ step-plan.Refused k
+  -- the plan that was told is a refusal, of this number
+  pub planned-refused : (change : Change) {told : Plan} {n k : ℕ} → told ≡ planStep b st call change → told ≡ step-plan.Refused n → k ≡ refusalOf told
       → result (answer (refused k) none (lentBuffer call)) st ≡ step b st call
-  planned-refused change {k} p = step-refused b st call k (planned-refusal _ k change p)
+  planned-refused change {k = k} p e ek =
+      step-refused b st call k (planned-refusal _ k change (sym p ∙ e ∙ ap step-plan.Refused (sym (ek ∙ ap refusalOf e))))
 
   -- the plan was a change, of a call that is a step of a frame's record
   pub stepped-made : (change : Change) {told : Change} → planStep b st call change ≡ step-plan.Step told
@@ -236,13 +239,13 @@ module _ (b : Board) (st : State) (call : Call) where
       (ew ∙ ap (λ (k : ℕ). word (told .frame) k (afterOps b st told)) ek) refl et
       (es ∙ ap (λ (k : ℕ). access (told .frame) k (afterOps b st told)) ek)
 
-  -- the plan of the list was a refusal
-  pub placed-refused : (place : ℕ) {k : ℕ} → planPlace b st call place ≡ list-plan.Refused k
+  -- the same for a plan of the list
+  pub placed-refused : (place : ℕ) {told : ListPlan} {n k : ℕ} → told ≡ planPlace b st call place → told ≡ list-plan.Refused n → k ≡ placeRefusal told
       → {o : Outcome} {l : MappingList} → o ≡ refused k → l ≡ st .tables .list
       → result (answer o none (lentBuffer call)) (state (tables l (st .tables .records) (st .tables .protections)) (st .store)) ≡ step b st call
-  placed-refused place {k} p eo el =
+  placed-refused place {k = k} p e ek eo el =
       made eo refl refl (ap (λ (l : MappingList). tables l (st .tables .records) (st .tables .protections)) el) refl
-      ∙ step-refused b st call k (placed-refusal _ k place p)
+      ∙ step-refused b st call k (placed-refusal _ k place (sym p ∙ e ∙ ap list-plan.Refused (sym (ek ∙ ap placeRefusal e))))
 
   -- an accepted call without orders
   pub listed-made : firstRefusal (causes b st call) ≡ 0 → (t : Tables) (s : Store) → accept b st call ≡ listed t s

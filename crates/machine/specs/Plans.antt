@@ -56,6 +56,15 @@ planStep b st call change = planned (firstRefusal (causes b st call)) change
 abbrev pub planPlace : Board → State → Call → ℕ → ListPlan
 planPlace b st call place = placed (firstRefusal (causes b st call)) place
 
+-- the number of a plan that is a refusal, else 0
+abbrev pub refusalOf : Plan → ℕ
+refusalOf (step-plan.Refused n) = n
+refusalOf (step-plan.Step change) = 0
+
+abbrev pub placeRefusal : ListPlan → ℕ
+placeRefusal (list-plan.Refused n) = n
+placeRefusal (list-plan.Place place) = 0
+
 -- what a read's answer says
 abbrev pub loaded : Loaded → Answer
 loaded (Refused n) = answer (refused n) none []

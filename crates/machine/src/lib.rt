@@ -10,7 +10,7 @@ ghost use Rattle.manager.specs.Answers.{outcome};
 ghost use Rattle.machine.specs.State as call;
 ghost use Rattle.machine.specs.State.{machineOf};
 ghost use Rattle.machine.specs.Step.{answer, result, step};
-ghost use Rattle.machine.specs.Plans.{loaded};
+ghost use Rattle.machine.specs.Plans.{loaded, refusalOf, placeRefusal};
 use board::BOARD01;
 use manager::Answer;
 use manager::FrameOps;
@@ -43,16 +43,10 @@ pub fn map(
         (call.map (m .space) (m .page) (m .frame) (m .rights)) ⌝ }
 {
     let plan = plans::plan_map(BOARD01, list, records, protections, memory, words, tags, m);
-    match plan {
-        ListPlan::Refused(number) => manager::refused_as(list, number),
-        ListPlan::Place(_) => manager::listed_as(manager::commit_map(
-            BOARD01,
-            list,
-            records,
-            protections,
-            m,
-        )),
-    }
+    let ListPlan::Place(_) = plan else {
+        return manager::refused_as(list, place_refusal(plan));
+    };
+    manager::listed_as(manager::commit_map(BOARD01, list, records, protections, m))
 }
 
 // Takes the mapping of a page of a space off the list.
@@ -83,16 +77,10 @@ pub fn unmap(
         space,
         page,
     );
-    match plan {
-        ListPlan::Refused(number) => manager::refused_as(list, number),
-        ListPlan::Place(place) => manager::listed_as(manager::commit_unmap(
-            BOARD01,
-            list,
-            records,
-            protections,
-            place,
-        )),
-    }
+    let ListPlan::Place(place) = plan else {
+        return manager::refused_as(list, place_refusal(plan));
+    };
+    manager::listed_as(manager::commit_unmap(BOARD01, list, records, protections, place))
 }
 
 // The processor reads a word.
@@ -125,27 +113,25 @@ pub fn read(
         page,
         offset,
     );
-    match plan {
-        Plan::Refused(number) => Loaded::Refused(number),
-        Plan::Step(change) => {
-            let frame = change.frame;
-            let next = change.next;
-            let ops = change.ops;
-            manager::commit_change(BOARD01, list, records, protections, frame, next);
-            let colour = board::colour_of(BOARD01, page as usize);
-            let word = orders::load(
-                BOARD01,
-                memory,
-                words,
-                tags,
-                frame as usize,
-                ops,
-                colour,
-                offset,
-            );
-            Loaded::Word(FrameOps { frame, ops }, word)
-        }
-    }
+    let Plan::Step(change) = plan else {
+        return Loaded::Refused(refusal_of(plan));
+    };
+    let frame = change.frame;
+    let next = change.next;
+    let ops = change.ops;
+    manager::commit_change(BOARD01, list, records, protections, frame, next);
+    let colour = board::colour_of(BOARD01, page as usize);
+    let word = orders::load(
+        BOARD01,
+        memory,
+        words,
+        tags,
+        frame as usize,
+        ops,
+        colour,
+        offset,
+    );
+    Loaded::Word(FrameOps { frame, ops }, word)
 }
 
 // The processor writes a word.
@@ -179,28 +165,26 @@ pub fn write(
         page,
         offset,
     );
-    match plan {
-        Plan::Refused(number) => Answer::Refused(number),
-        Plan::Step(change) => {
-            let frame = change.frame;
-            let next = change.next;
-            let ops = change.ops;
-            manager::commit_change(BOARD01, list, records, protections, frame, next);
-            let colour = board::colour_of(BOARD01, page as usize);
-            orders::put(
-                BOARD01,
-                memory,
-                words,
-                tags,
-                frame as usize,
-                ops,
-                colour,
-                offset,
-                word,
-            );
-            Answer::Accepted(FrameOps { frame, ops })
-        }
-    }
+    let Plan::Step(change) = plan else {
+        return Answer::Refused(refusal_of(plan));
+    };
+    let frame = change.frame;
+    let next = change.next;
+    let ops = change.ops;
+    manager::commit_change(BOARD01, list, records, protections, frame, next);
+    let colour = board::colour_of(BOARD01, page as usize);
+    orders::put(
+        BOARD01,
+        memory,
+        words,
+        tags,
+        frame as usize,
+        ops,
+        colour,
+        offset,
+        word,
+    );
+    Answer::Accepted(FrameOps { frame, ops })
 }
 
 // A device reads a frame: its buffer is filled.
@@ -231,17 +215,15 @@ pub fn device_read(
         buffer,
         frame,
     );
-    match plan {
-        Plan::Refused(number) => Answer::Refused(number),
-        Plan::Step(change) => {
-            let frame = change.frame;
-            let next = change.next;
-            let ops = change.ops;
-            manager::commit_change(BOARD01, list, records, protections, frame, next);
-            orders::send(BOARD01, memory, words, tags, frame as usize, ops, buffer);
-            Answer::Accepted(FrameOps { frame, ops })
-        }
-    }
+    let Plan::Step(change) = plan else {
+        return Answer::Refused(refusal_of(plan));
+    };
+    let frame = change.frame;
+    let next = change.next;
+    let ops = change.ops;
+    manager::commit_change(BOARD01, list, records, protections, frame, next);
+    orders::send(BOARD01, memory, words, tags, frame as usize, ops, buffer);
+    Answer::Accepted(FrameOps { frame, ops })
 }
 
 // A device writes a frame: its buffer is only read.
@@ -272,17 +254,15 @@ pub fn device_write(
         buffer,
         frame,
     );
-    match plan {
-        Plan::Refused(number) => Answer::Refused(number),
-        Plan::Step(change) => {
-            let frame = change.frame;
-            let next = change.next;
-            let ops = change.ops;
-            manager::commit_change(BOARD01, list, records, protections, frame, next);
-            orders::receive(BOARD01, memory, words, tags, frame as usize, ops, buffer);
-            Answer::Accepted(FrameOps { frame, ops })
-        }
-    }
+    let Plan::Step(change) = plan else {
+        return Answer::Refused(refusal_of(plan));
+    };
+    let frame = change.frame;
+    let next = change.next;
+    let ops = change.ops;
+    manager::commit_change(BOARD01, list, records, protections, frame, next);
+    orders::receive(BOARD01, memory, words, tags, frame as usize, ops, buffer);
+    Answer::Accepted(FrameOps { frame, ops })
 }
 
 // A line is written back if it is dirty, and emptied: document 01's turning out.
@@ -317,4 +297,24 @@ pub fn evict(
     manager::records::refill(BOARD01, list, records, protections);
     cache::line::evict(BOARD01, memory, words, tags, line);
     manager::no_orders()
+}
+
+// The number of a plan that is a refusal, else 0.
+fn refusal_of(plan: Plan) -> u8
+    ensures { λ r. ⌜ r ≡ refusalOf plan ⌝ }
+{
+    match plan {
+        Plan::Refused(number) => number,
+        Plan::Step(_) => 0,
+    }
+}
+
+// The same of a plan of the list.
+fn place_refusal(plan: ListPlan) -> u8
+    ensures { λ r. ⌜ r ≡ placeRefusal plan ⌝ }
+{
+    match plan {
+        ListPlan::Refused(number) => number,
+        ListPlan::Place(_) => 0,
+    }
 }

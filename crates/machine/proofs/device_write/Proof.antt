@@ -16,7 +16,7 @@ use Rattle.machine.proofs.device_write.Tie as tie
 abbrev start-of : tie.After-plan-device-write → tie.Start
 start-of c = c .before .before .before .before .before .before .before .before .before .before .before
 
-abbrev plan-of : tie.After-commit-change → tie.After-plan2
+abbrev plan-of : tie.After-commit-change → tie.After-plan
 plan-of c = c .before .before .before .before .before .before
 
 receive-requires : tie.Need-receive-requires
@@ -27,12 +27,12 @@ receive-requires c κs =
     let plan = at .before .before in
     let a = start-of plan .args in
     transfer-requires board01 _ _ _ (a .frame) (a .buffer .now) [] board01-regular
-    (sym (plan .plan-device-write .ensures) ∙ at .plan2 .given .1) refl refl
+    (sym (plan .plan-device-write .ensures) ∙ at .plan .given .1) refl refl
 
 returns : tie.Need-returns
 returns c =
     let plan = c .before .before .before in
-    planned-refused _ _ _ _ (sym (plan .plan-device-write .ensures) ∙ c .before .plan .given .1)
+    planned-refused _ _ _ _ (plan .plan-device-write .ensures) (c .before .enum-told .given .1) (c .refusal-of .ensures)
 
 returns-2 : tie.Need-returns-2
 unfolding accept
@@ -42,13 +42,12 @@ returns-2 c =
     let at = plan-of commit in
     let plan = at .before .before in
     let a = start-of plan .args in
-    stepped-made board01 _ _ _ (sym (plan .plan-device-write .ensures) ∙ at .plan2 .given .1)
+    stepped-made board01 _ _ _ (sym (plan .plan-device-write .ensures) ∙ at .plan .given .1)
     (λ f x. none) (λ f x. []) (λ f. hardware.deviceWrite board01 f (a .buffer .now)) refl
     refl refl (commit .commit-change .ensures) (receive .receive .ensures)
 
 pub device-write-spec : {M : Type 1} → statement M
 device-write-spec =
     tie.close
-    (tie.spec (λ c κs. board01-regular) (λ c. search needs) (λ c. search needs) (λ c κs. board01-regular) (λ c. search needs) receive-requires
-    (λ c. search needs) (λ c. search needs) (λ c. search needs) (λ c. search needs) returns (λ c. search needs) (λ c. search needs)
-    (λ c. search needs) (λ c. search needs) returns-2)
+    (tie.spec (λ c κs. board01-regular) (λ c. search needs) (λ c. search needs) (λ c κs. search needs) (λ c. search needs) (λ c. search needs) (λ c. search needs) (λ c. search needs) returns
+    (λ c κs. board01-regular) (λ c. search needs) receive-requires (λ c. search needs) (λ c. search needs) (λ c. search needs) (λ c. search needs) returns-2)

@@ -12,8 +12,10 @@ use Rattle.machine.proofs.map.Tie as tie
 
 returns : tie.Need-returns
 returns c =
-    let plan = c .before .before .before .before in
-    placed-refused _ _ _ _ (sym (plan .plan-map .ensures) ∙ c .before .before .plan .given .1) (c .refused-as .ensures .0) (c .refused-as .ensures .1)
+    let told = c .before .before in
+    let plan = told .before .before in
+    placed-refused _ _ _ _ (plan .plan-map .ensures) (told .enum-told2 .given .1) (c .before .place-refusal .ensures)
+    (c .refused-as .ensures .0) (c .refused-as .ensures .1)
 
 returns-2 : tie.Need-returns-2
 unfolding accept
@@ -29,5 +31,5 @@ returns-2 c =
 pub map-spec : {M : Type 1} → statement M
 map-spec =
     tie.close
-    (tie.spec (λ c κs. board01-regular) (λ c. search needs) (λ c κs. search needs) (λ c. search needs) (λ c κs. board01-regular)
-    (λ c κs. search needs) (λ c. search needs) returns (λ c. search needs) returns-2)
+    (tie.spec (λ c κs. board01-regular) (λ c. search needs) (λ c. search needs) (λ c κs. search needs) (λ c κs. search needs) (λ c. search needs) returns
+    (λ c κs. board01-regular) (λ c κs. search needs) (λ c. search needs) returns-2)

@@ -16,7 +16,7 @@ use Rattle.machine.proofs.read.Tie as tie
 abbrev start-of : tie.After-plan-read → tie.Start
 start-of c = c .before .before .before .before .before .before .before .before .before .before .before
 
-abbrev plan-of : tie.After-commit-change → tie.After-plan2
+abbrev plan-of : tie.After-commit-change → tie.After-plan
 plan-of c = c .before .before .before .before .before .before
 
 load-requires : tie.Need-load-requires
@@ -28,12 +28,12 @@ load-requires c κs =
     let plan = at .before .before in
     let a = start-of plan .args in
     access-requires board01 _ _ _ (a .space) (a .page) (a .offset) [] board01-regular
-    (sym (plan .plan-read .ensures) ∙ at .plan2 .given .1) refl (colour .colour-of .ensures .0)
+    (sym (plan .plan-read .ensures) ∙ at .plan .given .1) refl (colour .colour-of .ensures .0)
 
 returns : tie.Need-returns
 returns c =
     let plan = c .before .before .before in
-    planned-refused _ _ _ _ (sym (plan .plan-read .ensures) ∙ c .before .plan .given .1)
+    planned-refused _ _ _ _ (plan .plan-read .ensures) (c .before .enum-told .given .1) (c .refusal-of .ensures)
 
 returns-2 : tie.Need-returns-2
 unfolding accept
@@ -44,13 +44,12 @@ returns-2 c =
     let at = plan-of commit in
     let plan = at .before .before in
     let a = start-of plan .args in
-    access-made board01 _ _ _ (sym (plan .plan-read .ensures) ∙ at .plan2 .given .1) (colourOf board01 (a .page))
+    access-made board01 _ _ _ (sym (plan .plan-read .ensures) ∙ at .plan .given .1) (colourOf board01 (a .page))
     (λ f k x. some (hardware.readWord board01 f k (a .offset) x)) (λ f k. hardware.access board01 f k (a .offset)) refl
     (colour .colour-of .ensures .0) (ap some (load .load .ensures .0)) (commit .commit-change .ensures) (load .load .ensures .1)
 
 pub read-spec : {M : Type 1} → statement M
 read-spec =
     tie.close
-    (tie.spec (λ c κs. board01-regular) (λ c. search needs) (λ c. search needs) (λ c κs. board01-regular) (λ c κs. board01-regular)
-    (λ c. search needs) load-requires (λ c. search needs) (λ c. search needs) (λ c. search needs) (λ c. search needs) (λ c. search needs) returns
-    (λ c. search needs) (λ c. search needs) (λ c. search needs) (λ c. search needs) (λ c. search needs) returns-2)
+    (tie.spec (λ c κs. board01-regular) (λ c. search needs) (λ c. search needs) (λ c κs. search needs) (λ c. search needs) (λ c. search needs) (λ c. search needs) (λ c. search needs) (λ c. search needs) returns
+    (λ c κs. board01-regular) (λ c κs. board01-regular) (λ c. search needs) load-requires (λ c. search needs) (λ c. search needs) (λ c. search needs) (λ c. search needs) (λ c. search needs) returns-2)

@@ -11,8 +11,10 @@ use Rattle.machine.proofs.unmap.Tie as tie
 
 returns : tie.Need-returns
 returns c =
-    let plan = c .before .before .before .before in
-    placed-refused _ _ _ _ (sym (plan .plan-unmap .ensures) ∙ c .before .before .plan .given .1) (c .refused-as .ensures .0) (c .refused-as .ensures .1)
+    let told = c .before .before in
+    let plan = told .before .before in
+    placed-refused _ _ _ _ (plan .plan-unmap .ensures) (told .enum-told .given .1) (c .before .place-refusal .ensures)
+    (c .refused-as .ensures .0) (c .refused-as .ensures .1)
 
 returns-2 : tie.Need-returns-2
 unfolding accept
@@ -20,11 +22,11 @@ returns-2 c =
     let commit = c .before .before .before in
     let told = commit .before .before .before in
     let plan = told .before .before in
-    placed-made _ _ _ _ (sym (plan .plan-unmap .ensures) ∙ told .plan2 .given .1) (commitUnmap board01 _) refl
+    placed-made _ _ _ _ (sym (plan .plan-unmap .ensures) ∙ told .plan .given .1) (commitUnmap board01 _) refl
     (c .listed-as .ensures .0) (c .listed-as .ensures .1) (commit .commit-unmap .ensures)
 
 pub unmap-spec : {M : Type 1} → statement M
 unmap-spec =
     tie.close
-    (tie.spec (λ c κs. board01-regular) (λ c. search needs) (λ c κs. search needs) (λ c. search needs) (λ c κs. board01-regular)
-    (λ c κs. search needs) (λ c. search needs) returns (λ c. search needs) returns-2)
+    (tie.spec (λ c κs. board01-regular) (λ c. search needs) (λ c. search needs) (λ c κs. search needs) (λ c κs. search needs) (λ c. search needs) returns
+    (λ c κs. board01-regular) (λ c κs. search needs) (λ c. search needs) returns-2)

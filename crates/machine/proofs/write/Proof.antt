@@ -16,7 +16,7 @@ use Rattle.machine.proofs.write.Tie as tie
 abbrev start-of : tie.After-plan-write → tie.Start
 start-of c = c .before .before .before .before .before .before .before .before .before .before .before
 
-abbrev plan-of : tie.After-commit-change → tie.After-plan2
+abbrev plan-of : tie.After-commit-change → tie.After-plan
 plan-of c = c .before .before .before .before .before .before
 
 put-requires : tie.Need-put-requires
@@ -28,13 +28,13 @@ put-requires c κs =
     let plan = at .before .before in
     let a = start-of plan .args in
     access-requires board01 _ _ _ (a .space) (a .page) (a .offset) _ board01-regular
-    (sym (plan .plan-write .ensures) ∙ at .plan2 .given .1) refl (colour .colour-of .ensures .0)
+    (sym (plan .plan-write .ensures) ∙ at .plan .given .1) refl (colour .colour-of .ensures .0)
 
 returns : tie.Need-returns
 unfolding causes
 returns c =
     let plan = c .before .before .before in
-    planned-refused _ _ _ _ (sym (plan .plan-write .ensures) ∙ c .before .plan .given .1)
+    planned-refused _ _ _ _ (plan .plan-write .ensures) (c .before .enum-told .given .1) (c .refusal-of .ensures)
 
 returns-2 : tie.Need-returns-2
 unfolding accept causes
@@ -45,13 +45,12 @@ returns-2 c =
     let at = plan-of commit in
     let plan = at .before .before in
     let a = start-of plan .args in
-    access-made board01 _ (write (a .space) (a .page) (a .offset) (a .word)) _ (sym (plan .plan-write .ensures) ∙ at .plan2 .given .1)
+    access-made board01 _ (write (a .space) (a .page) (a .offset) (a .word)) _ (sym (plan .plan-write .ensures) ∙ at .plan .given .1)
     (colourOf board01 (a .page)) (λ f k x. none) (λ f k. hardware.writeWord board01 f k (a .offset) (a .word)) refl
     (colour .colour-of .ensures .0) refl (commit .commit-change .ensures) (put .put .ensures)
 
 pub write-spec : {M : Type 1} → statement M
 write-spec =
     tie.close
-    (tie.spec (λ c κs. board01-regular) (λ c. search needs) (λ c. search needs) (λ c κs. board01-regular) (λ c κs. board01-regular)
-    (λ c. search needs) put-requires (λ c. search needs) (λ c. search needs) (λ c. search needs) (λ c. search needs) (λ c. search needs) returns
-    (λ c. search needs) (λ c. search needs) (λ c. search needs) (λ c. search needs) (λ c. search needs) returns-2)
+    (tie.spec (λ c κs. board01-regular) (λ c. search needs) (λ c. search needs) (λ c κs. search needs) (λ c. search needs) (λ c. search needs) (λ c. search needs) (λ c. search needs) (λ c. search needs) returns
+    (λ c κs. board01-regular) (λ c κs. board01-regular) (λ c. search needs) put-requires (λ c. search needs) (λ c. search needs) (λ c. search needs) (λ c. search needs) (λ c. search needs) returns-2)
