@@ -14,7 +14,7 @@ const SEED: u64 = 1;
 
 fn main() -> ExitCode {
     let Some((seed, count)) = arguments(std::env::args().skip(1)) else {
-        eprintln!("usage: compare [COUNT] [--seed N]");
+        eprintln!("usage: tests/compare [--stub] [COUNT] [--seed N], with a COUNT of sheets from 1");
         return ExitCode::from(2);
     };
     println!(
@@ -57,17 +57,20 @@ fn keep(sheet: &[u8]) -> io::Result<PathBuf> {
     Ok(file)
 }
 
-/// The seed and the number of sheets.
+/// The seed and the number of sheets, each given at most once. No sheets would compare nothing.
 fn arguments(mut words: impl Iterator<Item = String>) -> Option<(u64, u64)> {
-    let (mut seed, mut count) = (SEED, SHEETS);
+    let (mut seed, mut count) = (None, None);
     while let Some(word) = words.next() {
-        if word == "--seed" {
-            seed = words.next()?.parse().ok()?;
-        } else {
-            count = word.parse().ok()?;
+        let (given, number) = match word.as_str() {
+            "--seed" => (&mut seed, words.next()?),
+            _ => (&mut count, word),
+        };
+        if given.replace(number.parse().ok()?).is_some() {
+            return None;
         }
     }
-    Some((seed, count))
+    let count = count.unwrap_or(SHEETS);
+    (count > 0).then_some((seed.unwrap_or(SEED), count))
 }
 
 /// A line that moves on a terminal; elsewhere one at each tenth.
