@@ -14,7 +14,7 @@ const SEED: u64 = 1;
 
 fn main() -> ExitCode {
     let Some((seed, count)) = arguments(std::env::args().skip(1)) else {
-        eprintln!("usage: tests/compare [--stub] [COUNT] [--seed N], with a COUNT of sheets from 1");
+        eprintln!("usage: tests/compare [--stub] [COUNT] [--seed N], COUNT from 1");
         return ExitCode::from(2);
     };
     println!(
@@ -35,7 +35,10 @@ fn main() -> ExitCode {
             }
             print!("{difference}");
             match keep(&difference.sheet) {
-                Ok(file) => println!("the sheet is kept in {}", file.display()),
+                Ok(file) => println!(
+                    "the sheet is kept in {}; ./sheet --text shows it",
+                    file.display()
+                ),
                 Err(error) => println!("the sheet could not be kept: {error}"),
             }
             ExitCode::FAILURE

@@ -15,7 +15,8 @@ const TEXT: usize = 696_480;
 pub fn run(sheet: &[u8]) -> Vec<u8> {
     let mut text = vec![0; TEXT];
     // SAFETY: both pointers are valid for the lengths beside them, and the two do not overlap.
-    let length = unsafe { sheet_ffi_run(sheet.as_ptr(), sheet.len(), text.as_mut_ptr(), text.len()) };
+    let length =
+        unsafe { sheet_ffi_run(sheet.as_ptr(), sheet.len(), text.as_mut_ptr(), text.len()) };
     assert!(
         length <= TEXT,
         "a text of {length} bytes does not fit {TEXT}"
