@@ -127,7 +127,8 @@ function take_instructions(    k, end, name, s, i) {
     for (k = 0; k < words; k = end) {
         for (end = k; end < words && line[end] == line[k]; end++);
         name = text_of(k)
-        if (!(name in section_of)) mistake(line[k], quote(k) " is not an instruction; expected one of " instructions)
+        if (!(name in section_of))
+            mistake(line[k], quote(k) " is not an instruction; expected one of " instructions (k == 0 ? ", or bytes of two hexadecimal digits each" : ""))
         for (i = 0; section_named[i] != section_of[name]; i++);
         if (i < s) mistake(line[k], quote(k) " stands after a " section_named[s] "; expected every " section_of[name] " before it")
         s = i
