@@ -2,4 +2,5 @@
 pub mod Sheet
 pub mod Written
 pub mod Digits
+pub mod Totals
 pub mod Theorems

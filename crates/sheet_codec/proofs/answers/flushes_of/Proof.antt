@@ -1,8 +1,6 @@
 -- `sheet_codec::flushes_of` meets its contract.
-use mathlib.Core.Path.{ap, ap₂, _∙_}
-use native.Mathlib.Omega.{arith}
-use Prim.Native.Nat.{_+_}
 use Rattle.sheet_codec.specs.Totals.{flushOf}
+use Rattle.sheet_codec.proofs.Totals.{counted}
 use borrow.Author.Needs.{needs}
 use Rattle.sheet_codec.proofs.answers.flushes_of.Statement.{statement}
 use Rattle.sheet_codec.proofs.answers.flushes_of.Tie as tie
@@ -20,9 +18,7 @@ add-result : tie.Need-add-result
 add-result c = search needs
 
 returns : tie.Need-returns
-returns c =
-    let o = c .before .before .before .operations-of .ensures in
-    (ap₂ _+_ (c .before .flush-of .ensures .0 ∙ ap flushOf (o .0)) (c .flush-of2 .ensures .0 ∙ ap flushOf (o .1)), omega arith)
+returns c = counted flushOf (c .before .before .before .operations-of .ensures) (c .before .flush-of .ensures) (c .flush-of2 .ensures)
 
 pub flushes-of-spec : {M : Type 1} → statement M
 flushes-of-spec =

@@ -1,8 +1,6 @@
 -- `sheet_codec::purges_of` meets its contract.
-use mathlib.Core.Path.{ap, ap₂, _∙_}
-use native.Mathlib.Omega.{arith}
-use Prim.Native.Nat.{_+_}
 use Rattle.sheet_codec.specs.Totals.{purgeOf}
+use Rattle.sheet_codec.proofs.Totals.{counted}
 use borrow.Author.Needs.{needs}
 use Rattle.sheet_codec.proofs.answers.purges_of.Statement.{statement}
 use Rattle.sheet_codec.proofs.answers.purges_of.Tie as tie
@@ -20,9 +18,7 @@ add-result : tie.Need-add-result
 add-result c = search needs
 
 returns : tie.Need-returns
-returns c =
-    let o = c .before .before .before .operations-of .ensures in
-    (ap₂ _+_ (c .before .purge-of .ensures .0 ∙ ap purgeOf (o .0)) (c .purge-of2 .ensures .0 ∙ ap purgeOf (o .1)), omega arith)
+returns c = counted purgeOf (c .before .before .before .operations-of .ensures) (c .before .purge-of .ensures) (c .purge-of2 .ensures)
 
 pub purges-of-spec : {M : Type 1} → statement M
 purges-of-spec =

@@ -23,7 +23,11 @@ returns-6 : tie.Need-returns-6
 returns-6 c = let e : c .before .args .n ≡ 6 = c .match .keys6 in rw e
 
 returns-7 : tie.Need-returns-7
-returns-7 c = simp (ne-eqb (c .before .args .n) 1 (c .match .rest .0 .0 .0 .0 .0 .1), ne-eqb (c .before .args .n) 2 (c .match .rest .0 .0 .0 .0 .1), ne-eqb (c .before .args .n) 3 (c .match .rest .0 .0 .0 .1), ne-eqb (c .before .args .n) 4 (c .match .rest .0 .0 .1), ne-eqb (c .before .args .n) 5 (c .match .rest .0 .1), ne-eqb (c .before .args .n) 6 (c .match .rest .1))
+returns-7 c =
+    let n = c .before .args .n in
+    let r = c .match .rest in
+    simp
+    (ne-eqb n 1 (r .0 .0 .0 .0 .0 .1), ne-eqb n 2 (r .0 .0 .0 .0 .1), ne-eqb n 3 (r .0 .0 .0 .1), ne-eqb n 4 (r .0 .0 .1), ne-eqb n 5 (r .0 .1), ne-eqb n 6 (r .1))
 
 pub kind-of-spec : {M : Type 1} → statement M
 kind-of-spec =
