@@ -21,7 +21,7 @@ use Rattle.run_sheet.specs.Did.{Did}
 use Rattle.sheet_codec.specs.Format.{mostMappings, mostSteps, mappingCount, stepCount, isBroken, mappingCall, stepCall}
 use Rattle.sheet_codec.specs.Put.{Put}
 use Rattle.run_sheet.specs.Ran.{Ran}
-use Rattle.run_sheet.specs.Run.{Run, start, runFrom, advance, advanceAll, runMappings, runSteps, closed, sheetText, textBytes, printed}
+use Rattle.run_sheet.specs.Run.{Run, zeros, start, runFrom, advance, advanceAll, afterMappings, afterSteps, runMappings, runSteps, closed, sheetText, textBytes, printed}
 use Rattle.sheet_codec.specs.Text.{mappingLine, mappingLineOf, stepLine, stepLineOf, endLine, refusedLine, lineBytes}
 use Rattle.sheet_codec.specs.Totals.{flushesOf, purgesOf}
 use Rattle.sheet_codec.proofs.Written.{overlay-nil, put-both, put-as}
@@ -143,21 +143,10 @@ pub ran-closed : {r : Run} {i : ℕ} {l m n : List ℕ} {k end f p : ℕ} {st : 
 ran-closed {r = r} h x y = put-as (ap₂ (λ (f p : ℕ). r .text ++ endLine f p) (x .flushes-are) (x .purges-are)) (omega arith) (put-both (x .text-is) y)
 
 module _ (sheet : List ℕ) (list : MappingList) (m n : ℕ) where
-  abbrev pub madeBy : State → Run
-  madeBy st = advanceAll board01 stepLineOf (stepCall board01 sheet) n (advanceAll board01 mappingLineOf (mappingCall sheet) m (runFrom st))
-
-  abbrev pub zeros : State
-  zeros = state (tables list (replicate 192 0) (replicate 256 0)) (store (replicate 4096 0) (replicate 512 0) (replicate 64 0))
-
-  zeros-start : list ≡ empty → zeros ≡ start board01
-  unfolding start memoryWords cacheWords lines
-  zeros-start e = ap (λ (l : MappingList). state (tables l (replicate 192 0) (replicate 256 0)) (store (replicate 4096 0) (replicate 512 0) (replicate 64 0))) e
-
-  pub run-is : list ≡ empty → m ≡ mappingCount sheet → n ≡ stepCount sheet → madeBy zeros ≡ runSteps board01 sheet
-  unfolding runSteps runMappings
-  run-is e f g =
-      ap madeBy (zeros-start e)
-      ∙ ap₂ (λ (i j : ℕ). advanceAll board01 stepLineOf (stepCall board01 sheet) j (advanceAll board01 mappingLineOf (mappingCall sheet) i (runFrom (start board01)))) f g
+  pub run-is : list ≡ empty → m ≡ mappingCount sheet → n ≡ stepCount sheet
+      → afterSteps board01 sheet n (afterMappings board01 sheet m (runFrom (zeros board01 list))) ≡ runSteps board01 sheet
+  unfolding start runSteps runMappings
+  run-is e f g = rw (e, f, g)
 
 module _ (l sheet : List ℕ) where
   pub printed-nothing : length l < textBytes → Put l 0 (printed (length l) sheet) textBytes l 0

@@ -6,11 +6,11 @@ use lib.Dec.{ltb}
 use lib.ListN.{replicate}
 use Rattle.board.specs.declared.Board.{Board}
 use Rattle.board.specs.Board.{board01, memoryWords, cacheWords, lines}
+use Rattle.mapping.specs.declared.MappingList.{MappingList}
 use Rattle.mapping.specs.Change.{empty}
 use Rattle.mapping.specs.Entry.{capacity}
-use Rattle.manager.specs.Tables.{tables, recordWords}
-use Rattle.cache.specs.Store.{store}
-use Rattle.machine.specs.State.{State, state, Call, Answer, Result}
+use Rattle.manager.specs.Tables.{recordWords}
+use Rattle.machine.specs.State.{State, machineOf, Call, Answer, Result}
 use Rattle.machine.specs.Step.{step}
 use Rattle.sheet_codec.specs.Format.{mostMappings, mostSteps, mappingCount, stepCount, isBroken, mappingCall, stepCall}
 use Rattle.sheet_codec.specs.Totals.{flushesOf, purgesOf}
@@ -25,11 +25,18 @@ pub record Run : Type 0 where
 
 -- ---- the start: nothing mapped or cached, memory all 0
 
+-- a list, and every other word and byte 0
+unfoldable pub zeros : Board → MappingList → State
+unfolding memoryWords cacheWords lines
+zeros b list =
+    machineOf list (replicate (b .frames * recordWords) 0) (replicate capacity 0)
+    (replicate (memoryWords b) 0)
+    (replicate (cacheWords b) 0)
+    (replicate (lines b) 0)
+
 unfoldable pub start : Board → State
-unfolding memoryWords cacheWords lines empty
-start b =
-    state (tables empty (replicate (b .frames * recordWords) 0) (replicate capacity 0))
-    (store (replicate (memoryWords b) 0) (replicate (cacheWords b) 0) (replicate (lines b) 0))
+unfolding zeros empty
+start b = zeros b empty
 
 -- nothing called yet
 abbrev pub runFrom : State → Run
@@ -59,15 +66,22 @@ advanceAll b line callAt (suc n) r = advance b (line n) (callAt n) (advanceAll b
 
 -- ---- the sheet
 
--- after its mappings
+-- the first n of its mappings, and of its steps, after what was run before
+abbrev pub afterMappings : Board → List ℕ → ℕ → Run → Run
+afterMappings b sheet n r = advanceAll b mappingLineOf (mappingCall sheet) n r
+
+abbrev pub afterSteps : Board → List ℕ → ℕ → Run → Run
+afterSteps b sheet n r = advanceAll b stepLineOf (stepCall b sheet) n r
+
+-- all its mappings, from the start
 unfoldable pub runMappings : Board → List ℕ → Run
 unfolding start advanceAll mappingLine mappingCount mappingCall
-runMappings b sheet = advanceAll b mappingLineOf (mappingCall sheet) (mappingCount sheet) (runFrom (start b))
+runMappings b sheet = afterMappings b sheet (mappingCount sheet) (runFrom (start b))
 
--- after its steps
+-- and all its steps
 unfoldable pub runSteps : Board → List ℕ → Run
 unfolding advanceAll runMappings stepLine stepCount stepCall
-runSteps b sheet = advanceAll b stepLineOf (stepCall b sheet) (stepCount sheet) (runMappings b sheet)
+runSteps b sheet = afterSteps b sheet (stepCount sheet) (runMappings b sheet)
 
 abbrev pub closed : Run → List ℕ
 closed r = r .text ++ endLine (r .flushes) (r .purges)

@@ -11,18 +11,18 @@ ghost use mathlib.Core.List.{[], _∷_};
 ghost use mathlib.Core.Path.{_≡_};
 ghost use lib.ListN.{length};
 ghost use Rattle.io.specs.Counts.{Counts};
-ghost use Rattle.sheet_codec.specs.Format.{mostBytes};
+ghost use Rattle.sheet_codec.specs.Format.{sheetBytes};
 ghost use Rattle.sheet_codec.specs.Put.{Put};
 ghost use Rattle.run_sheet.specs.Run.{textBytes, printed};
 
 // The bytes of the largest sheet, and how much room a text needs, so that the largest sheet's fits.
-pub const SHEET_BYTES: usize = 38148;
+pub const SHEET_BYTES: usize = format::SHEET_BYTES;
 
-pub const TEXT_BYTES: usize = 696480;
+pub const TEXT_BYTES: usize = text::LINE_BYTES * (format::MOST_MAPPINGS + format::MOST_STEPS + 1);
 
 // Both constants. A constant carries no contract, so this function ties them to the definitions.
 pub fn sizes() -> [usize; 2]
-    ensures { λ r. ⌜ r ≡ mostBytes ∷ textBytes ∷ [] ⌝ }
+    ensures { λ r. ⌜ r ≡ sheetBytes ∷ textBytes ∷ [] ⌝ }
 {
     [SHEET_BYTES, TEXT_BYTES]
 }

@@ -1,6 +1,8 @@
 // The run of a sheet: its calls in their order, each with its line of text.
 use crate::Progress;
 use crate::steps;
+use board::BOARD01;
+use manager::records::RECORD_WORDS;
 use mapping::MappingList;
 use sheet_codec::answers;
 use sheet_codec::format;
@@ -11,11 +13,20 @@ ghost use Prim.Native.Nat.{_+_, _*_, _<_, _≤_};
 ghost use lib.ListN.{length};
 ghost use Rattle.board.specs.Board.{board01};
 ghost use Rattle.machine.specs.State.{machineOf};
-ghost use Rattle.sheet_codec.specs.Format.{mostMappings, mostSteps, mappingCount, stepPlace, isBroken, mappingCall, stepCall};
+ghost use Rattle.sheet_codec.specs.Format.{mostMappings, mostSteps, headBytes, mappingCount, stepPlace, isBroken, mappingCall, stepCall};
 ghost use Rattle.sheet_codec.specs.Text.{lineBytes, mappingLineOf, stepLineOf};
-ghost use Rattle.run_sheet.specs.Run.{runFrom, advance, advanceAll, runSteps, closed, textBytes};
+ghost use Rattle.run_sheet.specs.Run.{runFrom, advance, afterMappings, afterSteps, runSteps, closed, textBytes};
 ghost use Rattle.sheet_codec.specs.Put.{Put};
 ghost use Rattle.run_sheet.specs.Ran.{Ran};
+
+// What the board's sizes come to: the words of all records, of memory and of the cache, and the cache's lines.
+const RECORDS_WORDS: usize = BOARD01.frames * RECORD_WORDS;
+
+const MEMORY_WORDS: usize = BOARD01.frames * BOARD01.page;
+
+const CACHE_WORDS: usize = BOARD01.colours * BOARD01.page;
+
+const LINES: usize = BOARD01.colours * (BOARD01.page / BOARD01.line);
 
 // An unbroken sheet, run from the start: nothing mapped or cached, memory all 0.
 pub fn run_unbroken(sheet: &[u8], text: &mut [u8]) -> usize
@@ -25,11 +36,11 @@ pub fn run_unbroken(sheet: &[u8], text: &mut [u8]) -> usize
     let mappings = format::mapping_count(sheet);
     let steps = format::step_count(sheet, mappings);
     let list = mapping::empty();
-    let mut records = [0u32; 192];
-    let mut protections = [0u8; 256];
-    let mut memory = [0u32; 4096];
-    let mut words = [0u32; 512];
-    let mut tags = [0u8; 64];
+    let mut records = [0u32; RECORDS_WORDS];
+    let mut protections = [0u8; mapping::CAPACITY];
+    let mut memory = [0u32; MEMORY_WORDS];
+    let mut words = [0u32; CACHE_WORDS];
+    let mut tags = [0u8; LINES];
     let done = run_calls(
         list,
         &mut records,
@@ -58,8 +69,14 @@ fn run_calls(
     steps: usize,
     text: &mut [u8],
 ) -> Progress
-    requires { ⌜ (mappings ≡ mappingCount (now sheet)) × (mappings ≤ mostMappings) × (steps ≤ mostSteps) × (textBytes ≤ length (now text)) ⌝ }
-    ensures { λ r. ⌜ Ran (advanceAll board01 stepLineOf (stepCall board01 (now (sheet .entry))) steps (advanceAll board01 mappingLineOf (mappingCall (now (sheet .entry))) mappings (runFrom (machineOf list (now (records .entry)) (now (protections .entry)) (now (memory .entry)) (now (words .entry)) (now (tags .entry)))))) (mappings + steps) (now (text .entry)) 0 (machineOf (r .list) (now (records .exit)) (now (protections .exit)) (now (memory .exit)) (now (words .exit)) (now (tags .exit))) (now (text .exit)) (r .at) (r .flushes) (r .purges) ⌝ }
+    requires { ⌜ (mappings ≡ mappingCount (now sheet)) × (mappings ≤ mostMappings) × (steps ≤ mostSteps)
+        × (textBytes ≤ length (now text)) ⌝ }
+    ensures { λ r. ⌜ Ran
+        (afterSteps board01 (now (sheet .entry)) steps (afterMappings board01 (now (sheet .entry)) mappings (runFrom
+        (machineOf list (now (records .entry)) (now (protections .entry)) (now (memory .entry)) (now (words .entry)) (now (tags .entry))))))
+        (mappings + steps) (now (text .entry)) 0
+        (machineOf (r .list) (now (records .exit)) (now (protections .exit)) (now (memory .exit)) (now (words .exit)) (now (tags .exit)))
+        (now (text .exit)) (r .at) (r .flushes) (r .purges) ⌝ }
 {
     let mapped = run_mappings(
         list,
@@ -111,7 +128,12 @@ fn run_mappings(
     at: usize,
 ) -> Progress
     requires { ⌜ (count ≤ mostMappings) × (at + lineBytes * count ≤ length (now text)) ⌝ }
-    ensures { λ r. ⌜ Ran (advanceAll board01 mappingLineOf (mappingCall (now (sheet .entry))) count (runFrom (machineOf list (now (records .entry)) (now (protections .entry)) (now (memory .entry)) (now (words .entry)) (now (tags .entry))))) count (now (text .entry)) at (machineOf (r .list) (now (records .entry)) (now (protections .exit)) (now (memory .entry)) (now (words .entry)) (now (tags .entry))) (now (text .exit)) (r .at) (r .flushes) (r .purges) ⌝ }
+    ensures { λ r. ⌜ Ran
+        (afterMappings board01 (now (sheet .entry)) count (runFrom
+        (machineOf list (now (records .entry)) (now (protections .entry)) (now (memory .entry)) (now (words .entry)) (now (tags .entry)))))
+        count (now (text .entry)) at
+        (machineOf (r .list) (now (records .entry)) (now (protections .exit)) (now (memory .entry)) (now (words .entry)) (now (tags .entry)))
+        (now (text .exit)) (r .at) (r .flushes) (r .purges) ⌝ }
 {
     let mut list = list;
     let mut at = at;
@@ -159,7 +181,12 @@ fn map_one(
     at: usize,
 ) -> Progress
     requires { ⌜ (k < mostMappings) × (at + lineBytes ≤ length (now text)) ⌝ }
-    ensures { λ r. ⌜ Ran (advance board01 (mappingLineOf k) (mappingCall (now (sheet .entry)) k) (runFrom (machineOf list (now (records .entry)) (now (protections .entry)) (now (memory .entry)) (now (words .entry)) (now (tags .entry))))) 1 (now (text .entry)) at (machineOf (r .list) (now (records .entry)) (now (protections .exit)) (now (memory .entry)) (now (words .entry)) (now (tags .entry))) (now (text .exit)) (r .at) (r .flushes) (r .purges) ⌝ }
+    ensures { λ r. ⌜ Ran
+        (advance board01 (mappingLineOf k) (mappingCall (now (sheet .entry)) k) (runFrom
+        (machineOf list (now (records .entry)) (now (protections .entry)) (now (memory .entry)) (now (words .entry)) (now (tags .entry)))))
+        1 (now (text .entry)) at
+        (machineOf (r .list) (now (records .entry)) (now (protections .exit)) (now (memory .entry)) (now (words .entry)) (now (tags .entry)))
+        (now (text .exit)) (r .at) (r .flushes) (r .purges) ⌝ }
 {
     let m = format::mapping_at(sheet, k);
     let got = machine::map(list, records, protections, memory, words, tags, m);
@@ -191,8 +218,14 @@ fn run_steps(
     text: &mut [u8],
     at: usize,
 ) -> Progress
-    requires { ⌜ (first ≡ stepPlace (now sheet) 0) × (first ≤ 2048) × (count ≤ mostSteps) × (at + lineBytes * count ≤ length (now text)) ⌝ }
-    ensures { λ r. ⌜ Ran (advanceAll board01 stepLineOf (stepCall board01 (now (sheet .entry))) count (runFrom (machineOf list (now (records .entry)) (now (protections .entry)) (now (memory .entry)) (now (words .entry)) (now (tags .entry))))) count (now (text .entry)) at (machineOf (r .list) (now (records .exit)) (now (protections .exit)) (now (memory .exit)) (now (words .exit)) (now (tags .exit))) (now (text .exit)) (r .at) (r .flushes) (r .purges) ⌝ }
+    requires { ⌜ (first ≡ stepPlace (now sheet) 0) × (first ≤ headBytes) × (count ≤ mostSteps)
+        × (at + lineBytes * count ≤ length (now text)) ⌝ }
+    ensures { λ r. ⌜ Ran
+        (afterSteps board01 (now (sheet .entry)) count (runFrom
+        (machineOf list (now (records .entry)) (now (protections .entry)) (now (memory .entry)) (now (words .entry)) (now (tags .entry)))))
+        count (now (text .entry)) at
+        (machineOf (r .list) (now (records .exit)) (now (protections .exit)) (now (memory .exit)) (now (words .exit)) (now (tags .exit)))
+        (now (text .exit)) (r .at) (r .flushes) (r .purges) ⌝ }
 {
     let mut list = list;
     let mut at = at;
@@ -241,10 +274,16 @@ fn step_one(
     text: &mut [u8],
     at: usize,
 ) -> Progress
-    requires { ⌜ (first ≡ stepPlace (now sheet) 0) × (first ≤ 2048) × (k < mostSteps) × (at + lineBytes ≤ length (now text)) ⌝ }
-    ensures { λ r. ⌜ Ran (advance board01 (stepLineOf k) (stepCall board01 (now (sheet .entry)) k) (runFrom (machineOf list (now (records .entry)) (now (protections .entry)) (now (memory .entry)) (now (words .entry)) (now (tags .entry))))) 1 (now (text .entry)) at (machineOf (r .list) (now (records .exit)) (now (protections .exit)) (now (memory .exit)) (now (words .exit)) (now (tags .exit))) (now (text .exit)) (r .at) (r .flushes) (r .purges) ⌝ }
+    requires { ⌜ (first ≡ stepPlace (now sheet) 0) × (first ≤ headBytes) × (k < mostSteps)
+        × (at + lineBytes ≤ length (now text)) ⌝ }
+    ensures { λ r. ⌜ Ran
+        (advance board01 (stepLineOf k) (stepCall board01 (now (sheet .entry)) k) (runFrom
+        (machineOf list (now (records .entry)) (now (protections .entry)) (now (memory .entry)) (now (words .entry)) (now (tags .entry)))))
+        1 (now (text .entry)) at
+        (machineOf (r .list) (now (records .exit)) (now (protections .exit)) (now (memory .exit)) (now (words .exit)) (now (tags .exit)))
+        (now (text .exit)) (r .at) (r .flushes) (r .purges) ⌝ }
 {
-    let f = format::fields_at(sheet, first + 9 * k);
+    let f = format::fields_at(sheet, first + format::STEP_BYTES * k);
     let made = steps::step(list, records, protections, memory, words, tags, f);
     let list = made.list;
     let answer = made.answer;

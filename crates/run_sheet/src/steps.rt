@@ -1,5 +1,6 @@
 // One step of a sheet, made on the machine.
 use crate::Made;
+use board::BOARD01;
 use machine::Loaded;
 use manager::Answer;
 use mapping::MappingList;
@@ -31,7 +32,11 @@ pub fn step(
     tags: &mut [u8],
     f: Fields,
 ) -> Made
-    ensures { λ r. ⌜ Did (machineOf list (now (records .entry)) (now (protections .entry)) (now (memory .entry)) (now (words .entry)) (now (tags .entry))) (callOf board01 (kindOf (f .kind)) f) (machineOf (r .list) (now (records .exit)) (now (protections .exit)) (now (memory .exit)) (now (words .exit)) (now (tags .exit))) (outcome (r .answer)) (shownWord (r .shown)) ⌝ }
+    ensures { λ r. ⌜ Did
+        (machineOf list (now (records .entry)) (now (protections .entry)) (now (memory .entry)) (now (words .entry)) (now (tags .entry)))
+        (callOf board01 (kindOf (f .kind)) f)
+        (machineOf (r .list) (now (records .exit)) (now (protections .exit)) (now (memory .exit)) (now (words .exit)) (now (tags .exit)))
+        (outcome (r .answer)) (shownWord (r .shown)) ⌝ }
 {
     let kind = format::kind_of(f.kind);
     match kind {
@@ -55,7 +60,11 @@ fn read(
     tags: &mut [u8],
     f: Fields,
 ) -> Made
-    ensures { λ r. ⌜ Did (machineOf list (now (records .entry)) (now (protections .entry)) (now (memory .entry)) (now (words .entry)) (now (tags .entry))) (call.read (f .s) (f .p) (f .o)) (machineOf (r .list) (now (records .exit)) (now (protections .exit)) (now (memory .exit)) (now (words .exit)) (now (tags .exit))) (outcome (r .answer)) (shownWord (r .shown)) ⌝ }
+    ensures { λ r. ⌜ Did
+        (machineOf list (now (records .entry)) (now (protections .entry)) (now (memory .entry)) (now (words .entry)) (now (tags .entry)))
+        (call.read (f .s) (f .p) (f .o))
+        (machineOf (r .list) (now (records .exit)) (now (protections .exit)) (now (memory .exit)) (now (words .exit)) (now (tags .exit)))
+        (outcome (r .answer)) (shownWord (r .shown)) ⌝ }
 {
     let got = machine::read(
         list,
@@ -81,7 +90,11 @@ fn write(
     tags: &mut [u8],
     f: Fields,
 ) -> Made
-    ensures { λ r. ⌜ Did (machineOf list (now (records .entry)) (now (protections .entry)) (now (memory .entry)) (now (words .entry)) (now (tags .entry))) (call.write (f .s) (f .p) (f .o) (f .w)) (machineOf (r .list) (now (records .exit)) (now (protections .exit)) (now (memory .exit)) (now (words .exit)) (now (tags .exit))) (outcome (r .answer)) (shownWord (r .shown)) ⌝ }
+    ensures { λ r. ⌜ Did
+        (machineOf list (now (records .entry)) (now (protections .entry)) (now (memory .entry)) (now (words .entry)) (now (tags .entry)))
+        (call.write (f .s) (f .p) (f .o) (f .w))
+        (machineOf (r .list) (now (records .exit)) (now (protections .exit)) (now (memory .exit)) (now (words .exit)) (now (tags .exit)))
+        (outcome (r .answer)) (shownWord (r .shown)) ⌝ }
 {
     let answer = machine::write(
         list,
@@ -112,9 +125,13 @@ fn device_read(
     tags: &mut [u8],
     f: Fields,
 ) -> Made
-    ensures { λ r. ⌜ Did (machineOf list (now (records .entry)) (now (protections .entry)) (now (memory .entry)) (now (words .entry)) (now (tags .entry))) (call.deviceRead (f .s) (replicate (board01 .page) 0)) (machineOf (r .list) (now (records .exit)) (now (protections .exit)) (now (memory .exit)) (now (words .entry)) (now (tags .exit))) (outcome (r .answer)) (shownWord (r .shown)) ⌝ }
+    ensures { λ r. ⌜ Did
+        (machineOf list (now (records .entry)) (now (protections .entry)) (now (memory .entry)) (now (words .entry)) (now (tags .entry)))
+        (call.deviceRead (f .s) (replicate (board01 .page) 0))
+        (machineOf (r .list) (now (records .exit)) (now (protections .exit)) (now (memory .exit)) (now (words .entry)) (now (tags .exit)))
+        (outcome (r .answer)) (shownWord (r .shown)) ⌝ }
 {
-    let mut buffer = [0u32; 64];
+    let mut buffer = [0u32; BOARD01.page];
     let answer = machine::device_read(
         list,
         records,
@@ -143,9 +160,13 @@ fn device_write(
     tags: &mut [u8],
     f: Fields,
 ) -> Made
-    ensures { λ r. ⌜ Did (machineOf list (now (records .entry)) (now (protections .entry)) (now (memory .entry)) (now (words .entry)) (now (tags .entry))) (call.deviceWrite (f .s) (tabulate (board01 .page) (sentWord (f .w)))) (machineOf (r .list) (now (records .exit)) (now (protections .exit)) (now (memory .exit)) (now (words .entry)) (now (tags .exit))) (outcome (r .answer)) (shownWord (r .shown)) ⌝ }
+    ensures { λ r. ⌜ Did
+        (machineOf list (now (records .entry)) (now (protections .entry)) (now (memory .entry)) (now (words .entry)) (now (tags .entry)))
+        (call.deviceWrite (f .s) (tabulate (board01 .page) (sentWord (f .w))))
+        (machineOf (r .list) (now (records .exit)) (now (protections .exit)) (now (memory .exit)) (now (words .entry)) (now (tags .exit)))
+        (outcome (r .answer)) (shownWord (r .shown)) ⌝ }
 {
-    let mut buffer = [0u32; 64];
+    let mut buffer = [0u32; BOARD01.page];
     count_up(&mut buffer, f.w);
     let answer = machine::device_write(
         list,
@@ -174,7 +195,11 @@ fn evict(
     tags: &mut [u8],
     f: Fields,
 ) -> Made
-    ensures { λ r. ⌜ Did (machineOf list (now (records .entry)) (now (protections .entry)) (now (memory .entry)) (now (words .entry)) (now (tags .entry))) (call.evict (f .s)) (machineOf (r .list) (now (records .entry)) (now (protections .exit)) (now (memory .exit)) (now (words .entry)) (now (tags .exit))) (outcome (r .answer)) (shownWord (r .shown)) ⌝ }
+    ensures { λ r. ⌜ Did
+        (machineOf list (now (records .entry)) (now (protections .entry)) (now (memory .entry)) (now (words .entry)) (now (tags .entry)))
+        (call.evict (f .s))
+        (machineOf (r .list) (now (records .entry)) (now (protections .exit)) (now (memory .exit)) (now (words .entry)) (now (tags .exit)))
+        (outcome (r .answer)) (shownWord (r .shown)) ⌝ }
 {
     let answer = machine::evict(
         list,
@@ -202,7 +227,11 @@ fn unmap(
     tags: &[u8],
     f: Fields,
 ) -> Made
-    ensures { λ r. ⌜ Did (machineOf list (now (records .entry)) (now (protections .entry)) (now (memory .entry)) (now (words .entry)) (now (tags .entry))) (call.unmap (f .s) (f .p)) (machineOf (r .list) (now (records .entry)) (now (protections .exit)) (now (memory .entry)) (now (words .entry)) (now (tags .entry))) (outcome (r .answer)) (shownWord (r .shown)) ⌝ }
+    ensures { λ r. ⌜ Did
+        (machineOf list (now (records .entry)) (now (protections .entry)) (now (memory .entry)) (now (words .entry)) (now (tags .entry)))
+        (call.unmap (f .s) (f .p))
+        (machineOf (r .list) (now (records .entry)) (now (protections .exit)) (now (memory .entry)) (now (words .entry)) (now (tags .entry)))
+        (outcome (r .answer)) (shownWord (r .shown)) ⌝ }
 {
     let got = machine::unmap(list, records, protections, memory, words, tags, f.s, f.p);
     let answer = got.answer;

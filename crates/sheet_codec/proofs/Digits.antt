@@ -7,7 +7,7 @@ use native.Mathlib.Omega.{arith}
 use borrow.Author.Tests.{ltb-true, ltb-false}
 use lib.Dec.{ltb}
 use Rattle.io.specs.Digits.{digits, Fewest}
-use Rattle.sheet_codec.specs.Text.{places, decimal}
+use Rattle.sheet_codec.specs.Text.{numberBytes, places, decimal}
 
 -- a number that has a digit more than another's fewest
 more : (n j : ℕ) → (1 < suc (suc j) → 10 ^ (suc (suc j) - 1) ≤ n) → 10 * 10 ^ j ≤ n
@@ -26,7 +26,8 @@ unfolding places
 fewest zero n k h f = one-place n k h f
 fewest (suc limit) n k h f = go (fewest limit) (ltb n 10) refl k f
   where
-    go : ((n k : ℕ) → n < 10 ^ suc limit → Fewest 10 1 n k → k ≡ places limit n) → (t : Bool) → ltb n 10 ≡ t → (k : ℕ) → Fewest 10 1 n k → k ≡ cond t 1 (suc (places limit (n / 10)))
+    go : ((n k : ℕ) → n < 10 ^ suc limit → Fewest 10 1 n k → k ≡ places limit n) → (t : Bool) → ltb n 10 ≡ t → (k : ℕ) → Fewest 10 1 n k
+        → k ≡ cond t 1 (suc (places limit (n / 10)))
     go shorter true e k f = one-place n k (ltb-true n 10 e) f
     go shorter false e zero f = absurd (omega (arith, f .0))
     go shorter false e (suc zero) f =
@@ -52,6 +53,6 @@ places-le (suc limit) n = go (ltb n 10) (places-le limit (n / 10))
     go true h = omega arith
     go false h = omega arith
 
--- so a number of 64 bits has no more than 20
-pub few-digits : (n k : ℕ) → n < 2 ^ 64 → Fewest 10 1 n k → k ≤ 20
+-- so a number of 64 bits has room
+pub few-digits : (n k : ℕ) → n < 2 ^ 64 → Fewest 10 1 n k → k ≤ numberBytes
 few-digits n k h f = omega (arith, fewest 19 n k (omega arith) f, places-le 19 n)

@@ -1,54 +1,80 @@
 -- The format, in the numbers that the code has in hand: the two counts, and the place of the first step.
 use mathlib.Core.Bool.{Bool, true, false, not, _||_, false≢true}
 use mathlib.Core.List.{List}
-use mathlib.Core.Path.{_≡_, refl, sym, ap, ap₂, _∙_}
-use Prim.Native.Nat.{ℕ, _+_, _*_, _≤_}
+use mathlib.Core.Path.{_≡_, refl, sym, ap, _∙_}
+use Prim.Native.Nat.{ℕ, _+_, _*_, _≤_, _<_}
 use lib.Dec.{ltb}
 use lib.ListN.{length}
 use native.Mathlib.Omega.{arith}
 use Rattle.bits.specs.Mask.{all}
 use Rattle.board.specs.Board.{board01}
-use borrow.Author.Tests.{ltb-false}
+use borrow.Author.Tests.{lt-ltb, le-ltb, ltb-false}
 use Rattle.sheet_codec.specs.declared.Fields.{Fields}
 use Rattle.sheet_codec.specs.declared.Kind.{Kind}
-use Rattle.sheet_codec.specs.Format.{mostMappings, mostSteps, twoBytes, mappingCount, mappingPlace, stepCount, stepPlace, sheetLength, fieldsAt, kindOf, keeps, stepKeeps, isBroken, callOf, stepCall}
+use Rattle.sheet_codec.specs.Format.{mostMappings, mostSteps, countBytes, stepBytes, twoBytes, mappingCount, mappingPlace, stepCount, stepPlace, sheetLength, fieldsAt, kindOf, keeps, stepKeeps, isBroken, callOf, stepCall}
 
-module _ (s : List ℕ) (m : ℕ) where
-  pub step-count : (n : ℕ) → m ≡ mappingCount s → n ≡ twoBytes s (2 + 5 * m) → n ≡ stepCount s
-  unfolding stepCount mappingPlace
-  step-count n e d = d ∙ ap (λ (k : ℕ). twoBytes s (2 + 5 * k)) e
+-- ---- places
 
-  pub first-place : m ≡ mappingCount s → 2 + 5 * m + 2 ≡ stepPlace s 0
-  unfolding stepPlace mappingPlace
-  first-place e = omega arith
+module _ (s : List ℕ) (m : ℕ) (e : m ≡ mappingCount s) where
+  pub step-count : (n : ℕ) → n ≡ twoBytes s (mappingPlace m) → n ≡ stepCount s
+  unfolding stepCount
+  step-count n d = d ∙ ap (λ (k : ℕ). twoBytes s (mappingPlace k)) e
 
-  -- the ways of being broken
-  abbrev pub brokenBy : ℕ → Bool
-  brokenBy n =
-      ltb mostMappings m || ltb mostSteps n
-      || ltb (length s) (2 + 5 * m + 2 + 9 * n)
-      || ltb (2 + 5 * m + 2 + 9 * n) (length s)
-      || not (all n (stepKeeps s))
-
-  pub broken-by : (n : ℕ) → m ≡ mappingCount s → n ≡ stepCount s → brokenBy n ≡ isBroken s
-  unfolding isBroken sheetLength stepPlace mappingPlace
-  broken-by n e d =
-      ap₂ (λ (i j : ℕ). ltb mostMappings i || ltb mostSteps j || ltb (length s) (2 + 5 * i + 2 + 9 * j) || ltb (2 + 5 * i + 2 + 9 * j) (length s) || not (all j (stepKeeps s))) e d
-
-module _ (s : List ℕ) (first i : ℕ) where
-  pub step-place : first ≡ stepPlace s 0 → first + 9 * i ≡ stepPlace s i
+  pub first-place : mappingPlace m + countBytes ≡ stepPlace s 0
   unfolding stepPlace
-  step-place e = omega arith
+  first-place = omega (arith, ap mappingPlace e)
 
-  pub keeps-at : (f : Fields) (k : Kind) (r : Bool) → first ≡ stepPlace s 0 → f ≡ fieldsAt s (first + 9 * i) → k ≡ kindOf (f .kind) → r ≡ keeps k f → r ≡ stepKeeps s i
-  unfolding stepKeeps
-  keeps-at f k r e d g h =
-      let there : f ≡ fieldsAt s (stepPlace s i) = d ∙ ap (fieldsAt s) (step-place e) in
-      h ∙ ap (λ (x : Kind). keeps x f) g ∙ ap (λ (x : Fields). keeps (kindOf (x .kind)) x) there
+module _ (s : List ℕ) (first i : ℕ) (e : first ≡ stepPlace s 0) where
+  pub step-place : first + stepBytes * i ≡ stepPlace s i
+  unfolding stepPlace
+  step-place = omega arith
 
-  pub call-at : (f : Fields) → first ≡ stepPlace s 0 → f ≡ fieldsAt s (first + 9 * i) → callOf board01 (kindOf (f .kind)) f ≡ stepCall board01 s i
-  unfolding stepCall
-  call-at f e d = ap (λ (x : Fields). callOf board01 (kindOf (x .kind)) x) (d ∙ ap (fieldsAt s) (step-place e))
+  pub place-length : i ≡ stepCount s → first + stepBytes * i ≡ sheetLength s
+  unfolding sheetLength
+  place-length d = step-place ∙ ap (stepPlace s) d
+
+  module _ (f : Fields) (d : f ≡ fieldsAt s (first + stepBytes * i)) where
+    there : f ≡ fieldsAt s (stepPlace s i)
+    there = d ∙ ap (fieldsAt s) step-place
+
+    pub keeps-at : (k : Kind) (r : Bool) → k ≡ kindOf (f .kind) → r ≡ keeps k f → r ≡ stepKeeps s i
+    unfolding stepKeeps
+    keeps-at k r g h = h ∙ ap (λ (x : Kind). keeps x f) g ∙ ap (λ (x : Fields). keeps (kindOf (x .kind)) x) there
+
+    pub call-at : callOf board01 (kindOf (f .kind)) f ≡ stepCall board01 s i
+    unfolding stepCall
+    call-at = ap (λ (x : Fields). callOf board01 (kindOf (x .kind)) x) there
+
+-- ---- the ways of being broken, in the order of the tests
+
+module _ (s : List ℕ) where
+  pub many-mappings : mostMappings < mappingCount s → true ≡ isBroken s
+  unfolding isBroken
+  many-mappings h = sym (rw (lt-ltb mostMappings (mappingCount s) h))
+
+  module _ (a : mappingCount s ≤ mostMappings) where
+    pub many-steps : mostSteps < stepCount s → true ≡ isBroken s
+    unfolding isBroken
+    many-steps h = sym (rw (le-ltb mostMappings (mappingCount s) a, lt-ltb mostSteps (stepCount s) h))
+
+    module _ (b : stepCount s ≤ mostSteps) where
+      pub ends-early : length s < sheetLength s → true ≡ isBroken s
+      unfolding isBroken
+      ends-early h =
+          sym (rw (le-ltb mostMappings (mappingCount s) a, le-ltb mostSteps (stepCount s) b, lt-ltb (length s) (sheetLength s) h))
+
+      pub goes-on : sheetLength s < length s → true ≡ isBroken s
+      unfolding isBroken
+      goes-on h =
+          let early = le-ltb (length s) (sheetLength s) (omega arith) in
+          sym (rw (le-ltb mostMappings (mappingCount s) a, le-ltb mostSteps (stepCount s) b, early, lt-ltb (sheetLength s) (length s) h))
+
+      pub step-breaks : length s ≡ sheetLength s → not (all (stepCount s) (stepKeeps s)) ≡ isBroken s
+      unfolding isBroken
+      step-breaks h =
+          let early = le-ltb (length s) (sheetLength s) (omega arith) in
+          let late = le-ltb (sheetLength s) (length s) (omega arith) in
+          sym (rw (le-ltb mostMappings (mappingCount s) a, le-ltb mostSteps (stepCount s) b, early, late))
 
 -- ---- an unbroken sheet
 

@@ -1,11 +1,8 @@
 -- The theorems of a sheet's bytes.
 use mathlib.Core.Bool.{Bool, true, false}
-use mathlib.Core.List.{List}
 use mathlib.Core.Path.{_≡_, refl}
-use Prim.Native.Nat.{ℕ, _<_}
 use native.Mathlib.Omega.{arith}
-use lib.ListN.{length}
-use Rattle.sheet_codec.specs.Format.{mostBytes, mappingCount, mappingPlace, stepCount, stepPlace, sheetLength, isBroken}
+use Rattle.sheet_codec.specs.Format.{mappingPlace, stepPlace, sheetLength, isBroken}
 use Rattle.sheet_codec.specs.Theorems.{LongSheetBroken}
 use Rattle.sheet_codec.proofs.Sheet.{counts-fit, length-is}
 

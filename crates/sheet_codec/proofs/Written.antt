@@ -5,8 +5,8 @@ use mathlib.Core.Path.{_≡_, refl, sym, ap, ap₂, _∙_}
 use Prim.Native.Nat.{ℕ, zero, suc, _+_, _≤_, _<_}
 use native.Mathlib.Numerals.{add-one}
 use native.Mathlib.Omega.{arith}
-use lib.ListN.{length, take, drop, getD, set, length-append, length-take, take-append-drop}
-use lib.Seq.{take-all, take-at, drop-nil, drop-at, drop-drop, set-split, take-suc, length-take-le}
+use lib.ListN.{length, take, drop, set, length-append, length-take, take-append-drop}
+use lib.Seq.{take-all, take-at, drop-nil, drop-at, drop-drop, set-split, paste}
 use Rattle.mapping.proofs.Tests.{lt-or-le}
 use Rattle.cache.specs.Part.{overlay}
 use Rattle.sheet_codec.specs.Put.{Put}
@@ -17,7 +17,9 @@ overlay-nil l at = take-append-drop at l
 
 pub set-overlay : (l : List ℕ) (i x : ℕ) → i < length l → set l i x ≡ overlay l i (x ∷ [])
 unfolding overlay
-set-overlay l i x h = set-split l i x h ∙ ap (λ (r : List ℕ). take i l ++ x ∷ r) (sym (drop-drop 1 i l ∙ ap (λ (k : ℕ). drop k l) (add-one i)))
+set-overlay l i x h =
+    set-split l i x h
+    ∙ ap (λ (r : List ℕ). take i l ++ x ∷ r) (sym (drop-drop 1 i l ∙ ap (λ (k : ℕ). drop k l) (add-one i)))
 
 module _ (l : List ℕ) (at : ℕ) (p q : List ℕ) (h : at ≤ length l) where
   before : List ℕ
@@ -42,7 +44,7 @@ module _ (l : List ℕ) (at : ℕ) (p q : List ℕ) (h : at ≤ length l) where
   unfolding overlay before rest
   overlay-within =
       ap (λ (x : List ℕ). overlay x (at + length p) q) regroup
-      ∙ ap₂ (λ (u v : List ℕ). u ++ (q ++ drop (length q) v)) (take-at (before ++ p) rest (at + length p) head-length) (drop-at (before ++ p) rest (at + length p) head-length)
+      ∙ ap₂ (λ (u v : List ℕ). u ++ (q ++ drop (length q) v)) (take-at (before ++ p) rest _ head-length) (drop-at (before ++ p) rest _ head-length)
       ∙ append-assoc before p (q ++ drop (length q) rest)
       ∙ ap (λ (x : List ℕ). before ++ x) (sym (append-assoc p q (drop (length q) rest)) ∙ ap (λ (x : List ℕ). (p ++ q) ++ x) rest-drop)
 
@@ -83,14 +85,20 @@ put-byte {l} {at} x h = record { written = set-overlay l at x h; next-is = refl;
 
 -- the same bytes, by another name
 pub put-as : {l m p q : List ℕ} {at k a b : ℕ} → p ≡ q → a ≤ b → Put l at p a m k → Put l at q b m k
-put-as {l} {m} {p} {q} {at} e h x = record { written = x .written ∙ ap (overlay l at) e; next-is = x .next-is ∙ ap (λ (s : List ℕ). at + length s) e; short = omega (arith, ap length e) }
+put-as {l} {m} {p} {q} {at} e h x =
+    record {
+      written = x .written ∙ ap (overlay l at) e;
+      next-is = x .next-is ∙ ap (λ (s : List ℕ). at + length s) e;
+      short = omega (arith, ap length e);
+    }
 
--- one byte more of a slice that is written byte by byte
-pub write-next : (l m from : List ℕ) (at i : ℕ) → at + length from ≤ length l → i < length from → length m ≡ length l → m ≡ overlay l at (take i from)
-    → set m (at + i) (getD from i 0) ≡ overlay l at (take (i + 1) from)
-write-next l m from at i fits h same e =
-    let n : at + i ≡ at + length (take i from) = ap (λ (k : ℕ). at + k) (sym (length-take-le i from (omega arith))) in
-    set-overlay m (at + i) (getD from i 0) (omega arith)
-    ∙ ap₂ (λ (u : List ℕ) (v : ℕ). overlay u v (getD from i 0 ∷ [])) e n
-    ∙ overlay-overlay l at (take i from) (getD from i 0 ∷ [])
-    ∙ ap (overlay l at) (sym (ap (λ (k : ℕ). take k from) (add-one i) ∙ take-suc from i 0 h))
+-- the same bytes in more room
+pub put-within : {l m p : List ℕ} {at k a b : ℕ} → a ≤ b → Put l at p a m k → Put l at p b m k
+put-within h x = put-as refl h x
+
+-- a slice that was copied to its end
+pub pasted : (l : List ℕ) (at : ℕ) (s : List ℕ) (n : ℕ) → length s ≡ n → paste l at s n ≡ overlay l at s
+unfolding overlay
+pasted l at s n e =
+    append-assoc (take at l) (take n s) (drop (at + n) l)
+    ∙ ap₂ (λ (u v : List ℕ). take at l ++ (u ++ v)) (take-all n s (omega arith)) (sym (drop-drop (length s) at l ∙ ap (λ (k : ℕ). drop (at + k) l) e))

@@ -34,26 +34,37 @@ mostMappings = 256
 abbrev pub mostSteps : ℕ
 mostSteps = 4096
 
--- the bytes of the largest sheet
-abbrev pub mostBytes : ℕ
-mostBytes = 2 + 5 * mostMappings + 2 + 9 * mostSteps
+-- the bytes of a count, of a mapping and of a step
+abbrev pub countBytes : ℕ
+countBytes = 2
+
+abbrev pub mappingBytes : ℕ
+mappingBytes = 5
+
+abbrev pub stepBytes : ℕ
+stepBytes = 9
+
+-- the bytes of the largest sheet before its steps, and all its bytes
+abbrev pub headBytes : ℕ
+headBytes = countBytes + mappingBytes * mostMappings + countBytes
+
+abbrev pub sheetBytes : ℕ
+sheetBytes = headBytes + stepBytes * mostSteps
 
 unfoldable pub mappingCount : List ℕ → ℕ
 unfolding twoBytes
 mappingCount sheet = twoBytes sheet 0
 
--- five bytes each
 unfoldable pub mappingPlace : ℕ → ℕ
-mappingPlace k = 2 + 5 * k
+mappingPlace k = countBytes + mappingBytes * k
 
 unfoldable pub stepCount : List ℕ → ℕ
 unfolding twoBytes mappingPlace mappingCount
 stepCount sheet = twoBytes sheet (mappingPlace (mappingCount sheet))
 
--- nine bytes each
 unfoldable pub stepPlace : List ℕ → ℕ → ℕ
 unfolding mappingPlace mappingCount
-stepPlace sheet k = mappingPlace (mappingCount sheet) + 2 + 9 * k
+stepPlace sheet k = mappingPlace (mappingCount sheet) + countBytes + stepBytes * k
 
 -- the length that the counts say
 unfoldable pub sheetLength : List ℕ → ℕ

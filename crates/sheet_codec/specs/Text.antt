@@ -2,7 +2,7 @@
 use mathlib.Core.Bool.{cond}
 use mathlib.Core.List.{List, [], _∷_, _++_}
 use mathlib.Core.Option.{Option, none, some}
-use Prim.Native.Nat.{ℕ, zero, suc, _/_}
+use Prim.Native.Nat.{ℕ, zero, suc, _+_, _*_, _/_}
 use lib.Dec.{ltb}
 use lib.ListN.{getD}
 use Rattle.io.specs.Digits.{digits}
@@ -25,6 +25,24 @@ dash = 45
 
 abbrev pub dot : ℕ
 dot = 46
+
+-- ---- the room of a line and of its parts
+
+-- a number of 64 bits
+abbrev pub numberBytes : ℕ
+numberBytes = 20
+
+-- a letter, a dot and two numbers
+abbrev pub operationBytes : ℕ
+operationBytes = 2 + 2 * numberBytes
+
+-- a number, and two operations after a space
+abbrev pub answerBytes : ℕ
+answerBytes = numberBytes + 2 * (1 + operationBytes)
+
+-- no line has more bytes
+abbrev pub lineBytes : ℕ
+lineBytes = 160
 
 -- ---- numbers
 
@@ -68,10 +86,6 @@ wordOf (deviceWrite frame buffer) a = none
 wordOf (evict line) a = none
 
 -- ---- the lines
-
--- no line has more bytes
-abbrev pub lineBytes : ℕ
-lineBytes = 160
 
 -- `mk R`
 unfoldable pub mappingLine : ℕ → ℕ → List ℕ

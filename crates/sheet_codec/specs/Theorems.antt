@@ -4,8 +4,8 @@ use mathlib.Core.List.{List}
 use mathlib.Core.Path.{_≡_}
 use Prim.Native.Nat.{ℕ, _<_}
 use lib.ListN.{length}
-use Rattle.sheet_codec.specs.Format.{mostBytes, isBroken}
+use Rattle.sheet_codec.specs.Format.{sheetBytes, isBroken}
 
 -- a sheet that is longer than the largest is broken
 abbrev pub LongSheetBroken : Type 0
-LongSheetBroken = (sheet : List ℕ) → mostBytes < length sheet → isBroken sheet ≡ true
+LongSheetBroken = (sheet : List ℕ) → sheetBytes < length sheet → isBroken sheet ≡ true

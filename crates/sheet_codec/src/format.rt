@@ -6,22 +6,39 @@ ghost use mathlib.Core.Path.{_≡_};
 ghost use Prim.Native.Nat.{_+_, _*_, _<_, _≤_};
 ghost use Rattle.bits.specs.Mask.{all};
 ghost use Rattle.machine.specs.State as call;
-ghost use Rattle.sheet_codec.specs.Format.{byteAt, twoBytes, fourBytes, mappingCount, stepCount, mappingCall, mostMappings, mostSteps, stepPlace, fieldsAt, kindOf, allZero, keeps, stepKeeps, isBroken};
+ghost use Rattle.sheet_codec.specs.Format.{byteAt, twoBytes, fourBytes, mappingCount, stepCount, mappingPlace, mappingCall, mostMappings, mostSteps, countBytes, headBytes, stepPlace, fieldsAt, kindOf, allZero, keeps, stepKeeps, isBroken};
+
+// The most mappings and steps that a sheet has.
+pub const MOST_MAPPINGS: usize = 256;
+
+pub const MOST_STEPS: usize = 4096;
+
+// The bytes of a count, of a mapping and of a step.
+pub const COUNT_BYTES: usize = 2;
+
+pub const MAPPING_BYTES: usize = 5;
+
+pub const STEP_BYTES: usize = 9;
+
+// The bytes of the largest sheet, and those before its steps.
+pub const HEAD_BYTES: usize = COUNT_BYTES + MAPPING_BYTES * MOST_MAPPINGS + COUNT_BYTES;
+
+pub const SHEET_BYTES: usize = HEAD_BYTES + STEP_BYTES * MOST_STEPS;
 
 // Whether the sheet is broken: a count past its limit, bytes too few or too many, another kind, or an unused field not 0.
 pub fn is_broken(sheet: &[u8]) -> bool
     ensures { λ r. ⌜ r ≡ isBroken (now (sheet .entry)) ⌝ }
 {
     let mappings = mapping_count(sheet);
-    if mappings > 256 {
+    if mappings > MOST_MAPPINGS {
         return true;
     }
     let steps = step_count(sheet, mappings);
-    if steps > 4096 {
+    if steps > MOST_STEPS {
         return true;
     }
     let first = first_step(mappings);
-    let length = first + 9 * steps;
+    let length = first + STEP_BYTES * steps;
     if sheet.len() < length {
         return true;
     }
@@ -43,25 +60,25 @@ pub fn step_count(sheet: &[u8], mappings: usize) -> usize
     requires { ⌜ (mappings ≡ mappingCount (now sheet)) × (mappings ≤ mostMappings) ⌝ }
     ensures { λ r. ⌜ r ≡ stepCount (now (sheet .entry)) ⌝ }
 {
-    two_bytes(sheet, 2 + 5 * mappings) as usize
+    two_bytes(sheet, COUNT_BYTES + MAPPING_BYTES * mappings) as usize
 }
 
 // The place of the first step after that many mappings.
 pub fn first_step(mappings: usize) -> usize
     requires { ⌜ mappings ≤ mostMappings ⌝ }
-    ensures { λ r. ⌜ r ≡ 2 + 5 * mappings + 2 ⌝ }
+    ensures { λ r. ⌜ (r ≡ mappingPlace mappings + countBytes) × (r ≤ headBytes) ⌝ }
 {
-    2 + 5 * mappings + 2
+    COUNT_BYTES + MAPPING_BYTES * mappings + COUNT_BYTES
 }
 
 // Whether the first count steps, which start at a place, keep to the format.
 fn steps_keep(sheet: &[u8], first: usize, count: usize) -> bool
-    requires { ⌜ (first ≡ stepPlace (now sheet) 0) × (first ≤ 2048) × (count ≤ mostSteps) ⌝ }
+    requires { ⌜ (first ≡ stepPlace (now sheet) 0) × (first ≤ headBytes) × (count ≤ mostSteps) ⌝ }
     ensures { λ r. ⌜ r ≡ all count (stepKeeps (now (sheet .entry))) ⌝ }
 {
     let mut i = 0;
     while i < count {
-        let f = fields_at(sheet, first + 9 * i);
+        let f = fields_at(sheet, first + STEP_BYTES * i);
         if !keeps(kind_of(f.kind), f) {
             return false;
         }
@@ -131,7 +148,7 @@ pub fn mapping_at(sheet: &[u8], k: usize) -> Mapping
     requires { ⌜ k < mostMappings ⌝ }
     ensures { λ r. ⌜ call.map (r .space) (r .page) (r .frame) (r .rights) ≡ mappingCall (now (sheet .entry)) k ⌝ }
 {
-    let at = 2 + 5 * k;
+    let at = COUNT_BYTES + MAPPING_BYTES * k;
     Mapping {
         space: byte_at(sheet, at),
         page: two_bytes(sheet, at + 1),

@@ -9,7 +9,12 @@ ghost use Prim.Native.Nat.{_+_, _<_, _≤_};
 ghost use lib.ListN.{length};
 ghost use Rattle.manager.specs.Answers.{operationOn, outcome};
 ghost use Rattle.sheet_codec.specs.Put.{Put};
-ghost use Rattle.sheet_codec.specs.Text.{lineBytes, dot, decimal, operationText, wordText, shownWord, mappingLine, answerText, stepLine, endLine, refusedLine};
+ghost use Rattle.sheet_codec.specs.Text.{numberBytes, operationBytes, answerBytes, lineBytes, dot, decimal, operationText, wordText, shownWord, mappingLine, answerText, stepLine, endLine, refusedLine};
+
+// The room of a line, and of a number in it.
+pub const LINE_BYTES: usize = 160;
+
+const NUMBER_BYTES: usize = 20;
 
 // The line of a mapping.
 pub fn mapping_line(text: &mut [u8], at: usize, k: usize, number: u8) -> usize
@@ -58,8 +63,8 @@ pub fn refused_line(text: &mut [u8], at: usize) -> usize
 
 // The refusal's number, or 0, and the two operations.
 fn put_answer(text: &mut [u8], at: usize, answer: Answer) -> usize
-    requires { ⌜ at + 106 ≤ length (now text) ⌝ }
-    ensures { λ r. ⌜ Put (now (text .entry)) at (answerText (outcome answer)) 106 (now (text .exit)) r ⌝ }
+    requires { ⌜ at + answerBytes ≤ length (now text) ⌝ }
+    ensures { λ r. ⌜ Put (now (text .entry)) at (answerText (outcome answer)) answerBytes (now (text .exit)) r ⌝ }
 {
     let number = answers::number_of(answer);
     let operations = answers::operations_of(answer);
@@ -76,8 +81,8 @@ fn put_answer(text: &mut [u8], at: usize, answer: Answer) -> usize
 
 // A word, or a dash.
 fn put_word(text: &mut [u8], at: usize, shown: Shown) -> usize
-    requires { ⌜ at + 20 ≤ length (now text) ⌝ }
-    ensures { λ r. ⌜ Put (now (text .entry)) at (wordText (shownWord shown)) 20 (now (text .exit)) r ⌝ }
+    requires { ⌜ at + numberBytes ≤ length (now text) ⌝ }
+    ensures { λ r. ⌜ Put (now (text .entry)) at (wordText (shownWord shown)) numberBytes (now (text .exit)) r ⌝ }
 {
     match shown {
         Shown::Absent => put_byte(text, at, b'-'),
@@ -87,8 +92,8 @@ fn put_word(text: &mut [u8], at: usize, shown: Shown) -> usize
 
 // An operation on a frame: F or P, the frame, a dot, the colour; or a dash.
 fn put_operation(text: &mut [u8], at: usize, frame: u8, op: Op) -> usize
-    requires { ⌜ at + 42 ≤ length (now text) ⌝ }
-    ensures { λ r. ⌜ Put (now (text .entry)) at (operationText (operationOn frame op)) 42 (now (text .exit)) r ⌝ }
+    requires { ⌜ at + operationBytes ≤ length (now text) ⌝ }
+    ensures { λ r. ⌜ Put (now (text .entry)) at (operationText (operationOn frame op)) operationBytes (now (text .exit)) r ⌝ }
 {
     match op {
         Op::None => put_byte(text, at, b'-'),
@@ -99,8 +104,8 @@ fn put_operation(text: &mut [u8], at: usize, frame: u8, op: Op) -> usize
 
 // A letter, the frame, a dot, the colour.
 fn put_operation_on(text: &mut [u8], at: usize, letter: u8, frame: u8, colour: usize) -> usize
-    requires { ⌜ at + 42 ≤ length (now text) ⌝ }
-    ensures { λ r. ⌜ Put (now (text .entry)) at (letter ∷ (decimal frame ++ (dot ∷ decimal colour))) 42 (now (text .exit)) r ⌝ }
+    requires { ⌜ at + operationBytes ≤ length (now text) ⌝ }
+    ensures { λ r. ⌜ Put (now (text .entry)) at (letter ∷ (decimal frame ++ (dot ∷ decimal colour))) operationBytes (now (text .exit)) r ⌝ }
 {
     let a = put_byte(text, at, letter);
     let b = put_number(text, a, frame as u64);
@@ -110,10 +115,10 @@ fn put_operation_on(text: &mut [u8], at: usize, letter: u8, frame: u8, colour: u
 
 // A number in decimal digits.
 fn put_number(text: &mut [u8], at: usize, n: u64) -> usize
-    requires { ⌜ at + 20 ≤ length (now text) ⌝ }
-    ensures { λ r. ⌜ Put (now (text .entry)) at (decimal n) 20 (now (text .exit)) r ⌝ }
+    requires { ⌜ at + numberBytes ≤ length (now text) ⌝ }
+    ensures { λ r. ⌜ Put (now (text .entry)) at (decimal n) numberBytes (now (text .exit)) r ⌝ }
 {
-    let mut digits = [0u8; 20];
+    let mut digits = [0u8; NUMBER_BYTES];
     let k = io::decimal(n, &mut digits);
     put_bytes(text, at, &digits[..k])
 }

@@ -18,7 +18,7 @@ run-steps-requires : tie.Need-run-steps-requires
 run-steps-requires c κs =
     let h = c .before .before .before .before .before .before .before .before .before .before .before .before .before .before .before .before .before .before .before .before .before .before .before .before .before .before .pre in
     let m = c .before .before .before .before .before .before .before .before .before .before .before .before .run-mappings in
-    (c .before .before .before .before .before .before .first-step .ensures ∙ first-place _ _ (h .0), omega (arith, c .before .before .before .before .before .before .first-step .ensures, h .1), h .2, omega (arith, h, m .kept, m .ensures .text-is))
+    (c .before .before .before .before .before .before .first-step .ensures .0 ∙ first-place _ _ (h .0), c .before .before .before .before .before .before .first-step .ensures .1, h .2, omega (arith, h, m .kept, m .ensures .text-is))
 
 add-t40 : tie.Need-add-t40
 add-t40 c = search (needs, c .before .before .before .before .before .before .before .before .before .before .before .before .before .before .before .run-steps .ensures .few-flushes, c .before .before .before .before .before .before .before .before .before .before .before .before .before .before .before .before .before .before .before .before .before .before .before .before .before .before .before .before .run-mappings .ensures .few-flushes, c .before .before .before .before .before .before .before .before .before .before .before .before .before .before .before .before .before .before .before .before .before .before .before .before .before .before .before .before .before .before .before .before .before .before .before .before .before .before .before .before .before .before .pre)

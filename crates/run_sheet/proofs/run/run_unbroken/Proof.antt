@@ -1,4 +1,5 @@
 -- `run_sheet::run_unbroken` meets its contract.
+use Rattle.run_sheet.specs.Run.{zeros}
 use native.Mathlib.Omega.{arith}
 use Rattle.run_sheet.proofs.Running.{ran-as, ran-closed, run-is}
 use Rattle.sheet_codec.proofs.Sheet.{counts-fit}
@@ -45,6 +46,7 @@ same-length : tie.Need-same-length
 same-length c = search needs
 
 returns : tie.Need-returns
+unfolding zeros
 returns c =
     let m = c .before .before .before .before .before .before .before .before .before .before .before .before .before .before .before .before .before .before .before .before .mapping-count in
     let n = c .before .before .before .before .before .before .before .before .before .before .before .before .before .before .before .before .before .before .before .step-count in

@@ -49,7 +49,7 @@ returns : tie.Need-returns
 returns c =
     let a = c .before .before .before .before .before .before .before .before .before .before .before .before .before .before .before .before .before .before .before .before .before .before .before .before .before .before .before .before .before .before .before .args in
     let f = c .before .before .before .before .before .before .before .before .before .before .before .before .before .before .before .before .before .before .before .before .before .before .before .fields-at in
-    let d = did-as (call-at (a .sheet .now) (a .first) (a .k) (f .result) (c .before .before .before .before .before .before .before .before .before .before .before .before .before .before .before .before .before .before .before .before .before .before .before .before .before .before .before .before .before .before .before .pre .0) (f .ensures)) (c .before .before .before .before .before .before .before .before .before .before .before .before .before .before .before .before .before .step .ensures) in
+    let d = did-as (call-at (a .sheet .now) (a .first) (a .k) (c .before .before .before .before .before .before .before .before .before .before .before .before .before .before .before .before .before .before .before .before .before .before .before .before .before .before .before .before .before .before .before .pre .0) (f .result) (f .ensures)) (c .before .before .before .before .before .before .before .before .before .before .before .before .before .before .before .before .before .step .ensures) in
     ran-step (a .k) d (c .before .before .before .before .step-line .ensures) (c .before .flushes-of .ensures) (c .purges-of .ensures)
 
 pub step-one-spec : {M : Type 1} → statement M

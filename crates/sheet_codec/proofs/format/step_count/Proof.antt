@@ -1,4 +1,5 @@
 -- `sheet_codec::step_count` meets its contract.
+use Rattle.sheet_codec.specs.Format.{mappingPlace}
 use Rattle.sheet_codec.proofs.Sheet.{step-count}
 use borrow.Author.Needs.{needs}
 use Rattle.sheet_codec.proofs.format.step_count.Statement.{statement}
@@ -17,7 +18,8 @@ cast-result : tie.Need-cast-result
 cast-result c = search needs
 
 returns : tie.Need-returns
-returns c = step-count _ _ _ (c .before .before .pre .0) (c .two-bytes .ensures)
+unfolding mappingPlace
+returns c = step-count _ _ (c .before .before .pre .0) _ (c .two-bytes .ensures)
 
 pub step-count-spec : {M : Type 1} → statement M
 step-count-spec =

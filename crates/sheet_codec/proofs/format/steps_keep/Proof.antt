@@ -37,13 +37,23 @@ kind-of-requires c κs = search needs
 keeps-requires : tie.Need-keeps-requires Inv-loop μ-loop
 keeps-requires c κs = search needs
 
+-- where a step is tested
+module _ (c : tie.After-keeps Inv-loop μ-loop) where
+  abbrev turn : tie.At-loop Inv-loop μ-loop
+  turn = c .before .before .before .before
+
+  abbrev start : tie.Start Inv-loop μ-loop
+  start = turn .before .before
+
+  tested : c .keeps .result ≡ stepKeeps (start .args .sheet .now) (turn .loop .i)
+  tested =
+      let fields = c .before .before .fields-at .ensures in
+      keeps-at (start .args .sheet .now) (start .args .first) (turn .loop .i) (start .pre .0) _ fields _ _ (c .before .kind-of .ensures) (c .keeps .ensures)
+
 returns : tie.Need-returns Inv-loop μ-loop
 returns c =
-    let at = c .before in
-    let s = at .before .before .before .before .before .before in
-    let l = at .before .before .before .before .loop in
-    let e = keeps-at (s .args .sheet .now) (s .args .first) (l .i) _ _ _ (s .pre .0) (at .before .before .fields-at .ensures) (at .before .kind-of .ensures) (at .keeps .ensures) in
-    sym (all-not _ _ (l .i) (search needs) (sym e ∙ not-true _ (c .if1 .taken)))
+    let i = turn (c .before) .loop .i in
+    sym (all-not _ _ i (search needs) (sym (tested (c .before)) ∙ not-true _ (c .if1 .taken)))
 
 add-i : tie.Need-add-i Inv-loop μ-loop
 add-i c = search needs
@@ -53,11 +63,7 @@ loop-less c = search needs
 
 loop-again : tie.Need-loop-again Inv-loop μ-loop
 loop-again c =
-    let at = c .before in
-    let s = at .before .before .before .before .before .before in
-    let l = at .before .before .before .before .loop in
-    let e = keeps-at (s .args .sheet .now) (s .args .first) (l .i) _ _ _ (s .pre .0) (at .before .before .fields-at .ensures) (at .before .kind-of .ensures) (at .keeps .ensures) in
-    (search needs, below-more _ _ (l .inv .1) (sym e ∙ not-false _ (c .if1 .left)))
+    (search needs, below-more _ _ (turn (c .before) .loop .inv .1) (sym (tested (c .before)) ∙ not-false _ (c .if1 .left)))
 
 returns-2 : tie.Need-returns-2 Inv-loop μ-loop
 returns-2 c = sym (all-of _ _ (λ k l. c .before .loop .inv .1 k (omega arith)))

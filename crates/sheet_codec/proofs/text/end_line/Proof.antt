@@ -1,6 +1,5 @@
 -- `sheet_codec::end_line` meets its contract.
-use mathlib.Core.List.{append-assoc}
-use Rattle.sheet_codec.proofs.Written.{put-both, put-as}
+use Rattle.sheet_codec.proofs.Written.{put-both, put-within}
 use Rattle.sheet_codec.specs.Text.{endLine}
 use native.Mathlib.Omega.{arith}
 use borrow.Author.Needs.{needs}
@@ -31,12 +30,16 @@ same-length c = search needs
 returns : tie.Need-returns
 unfolding endLine
 returns c =
-    let e = c .before .before in
-    let d = e .before .before .before .before in
-    let b = d .before .before .before .before in
-    let a = b .before .before .before .before in
-    let w = put-both (a .before .before .before .before .put-bytes .ensures) (a .put-number .ensures) in
-    put-as (simp append-assoc) (omega arith) (put-both (put-both (put-both w (b .put-byte .ensures)) (d .put-number2 .ensures)) (e .put-byte2 .ensures))
+    let end = c .before .before in
+    let purges = end .before .before .before .before in
+    let space = purges .before .before .before .before in
+    let flushes = space .before .before .before .before in
+    let word = flushes .before .before .before .before in
+    put-within (omega arith)
+    (put-both (word .put-bytes .ensures)
+    (put-both (flushes .put-number .ensures)
+    (put-both (space .put-byte .ensures)
+    (put-both (purges .put-number2 .ensures) (end .put-byte2 .ensures)))))
 
 pub end-line-spec : {M : Type 1} → statement M
 end-line-spec =

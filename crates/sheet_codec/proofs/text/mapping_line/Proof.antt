@@ -1,6 +1,5 @@
 -- `sheet_codec::mapping_line` meets its contract.
-use mathlib.Core.List.{append-assoc}
-use Rattle.sheet_codec.proofs.Written.{put-both, put-as}
+use Rattle.sheet_codec.proofs.Written.{put-both, put-within}
 use Rattle.sheet_codec.specs.Text.{mappingLine}
 use native.Mathlib.Omega.{arith}
 use borrow.Author.Needs.{needs}
@@ -28,11 +27,16 @@ same-length c = search needs
 returns : tie.Need-returns
 unfolding mappingLine
 returns c =
-    let w1 = put-both (c .before .before .before .before .before .before .before .before .before .before .before .before .before .before .before .before .before .before .put-byte .ensures) (c .before .before .before .before .before .before .before .before .before .before .before .before .before .before .put-number .ensures) in
-    let w2 = put-both w1 (c .before .before .before .before .before .before .before .before .before .before .put-byte2 .ensures) in
-    let w3 = put-both w2 (c .before .before .before .before .before .before .put-number2 .ensures) in
-    let w4 = put-both w3 (c .before .before .put-byte3 .ensures) in
-    put-as (simp append-assoc) (omega arith) w4
+    let end = c .before .before in
+    let number = end .before .before .before .before in
+    let space = number .before .before .before .before in
+    let k = space .before .before .before .before in
+    let m = k .before .before .before .before in
+    put-within (omega arith)
+    (put-both (m .put-byte .ensures)
+    (put-both (k .put-number .ensures)
+    (put-both (space .put-byte2 .ensures)
+    (put-both (number .put-number2 .ensures) (end .put-byte3 .ensures)))))
 
 pub mapping-line-spec : {M : Type 1} → statement M
 mapping-line-spec =

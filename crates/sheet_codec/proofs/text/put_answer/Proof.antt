@@ -1,6 +1,5 @@
 -- `sheet_codec::put_answer` meets its contract.
 use native.Mathlib.Omega.{arith}
-use mathlib.Core.List.{append-assoc}
 use Rattle.sheet_codec.proofs.Written.{put-both, put-as}
 use Rattle.sheet_codec.specs.Text.{answerText}
 use borrow.Author.Needs.{needs}
@@ -37,13 +36,18 @@ same-length c = search needs
 returns : tie.Need-returns
 unfolding answerText
 returns c =
-    let w1 = put-both (c .before .before .before .before .before .before .before .before .before .before .before .before .before .before .before .before .before .before .put-number .ensures) (c .before .before .before .before .before .before .before .before .before .before .before .before .before .before .put-byte .ensures) in
-    let w2 = put-both w1 (c .before .before .before .before .before .before .before .before .before .before .put-operation .ensures) in
-    let w3 = put-both w2 (c .before .before .before .before .before .before .put-byte2 .ensures) in
-    let w4 = put-both w3 (c .before .before .put-operation2 .ensures) in
-    let n = c .before .before .before .before .before .before .before .before .before .before .before .before .before .before .before .before .before .before .before .before .before .before .number-of .ensures in
-    let e = c .before .before .before .before .before .before .before .before .before .before .before .before .before .before .before .before .before .before .before .before .before .operations-of .ensures in
-    put-as (simp append-assoc (rw (n, e .0, e .1))) (omega arith) w4
+    let second = c .before .before in
+    let space2 = second .before .before .before .before in
+    let first = space2 .before .before .before .before in
+    let space = first .before .before .before .before in
+    let number = space .before .before .before .before in
+    let n = number .before .before .before .before .number-of .ensures in
+    let e = number .before .before .before .operations-of .ensures in
+    put-as (rw (n, e .0, e .1)) (omega arith)
+    (put-both (number .put-number .ensures)
+    (put-both (space .put-byte .ensures)
+    (put-both (first .put-operation .ensures)
+    (put-both (space2 .put-byte2 .ensures) (second .put-operation2 .ensures)))))
 
 pub put-answer-spec : {M : Type 1} → statement M
 put-answer-spec =

@@ -1,7 +1,6 @@
 -- `sheet_codec::put_operation_on` meets its contract.
 use native.Mathlib.Omega.{arith}
-use mathlib.Core.List.{append-assoc}
-use Rattle.sheet_codec.proofs.Written.{put-both, put-as}
+use Rattle.sheet_codec.proofs.Written.{put-both, put-within}
 use borrow.Author.Needs.{needs}
 use Rattle.sheet_codec.proofs.text.put_operation_on.Statement.{statement}
 use Rattle.sheet_codec.proofs.text.put_operation_on.Tie as tie
@@ -23,9 +22,14 @@ same-length c = search needs
 
 returns : tie.Need-returns
 returns c =
-    let first = put-both (c .before .before .before .before .before .before .before .before .before .before .before .before .before .before .put-byte .ensures) (c .before .before .before .before .before .before .before .before .before .before .put-number .ensures) in
-    let second = put-both first (c .before .before .before .before .before .before .put-byte2 .ensures) in
-    put-as (simp append-assoc) (omega arith) (put-both second (c .before .before .put-number2 .ensures))
+    let colour = c .before .before in
+    let dot = colour .before .before .before .before in
+    let frame = dot .before .before .before .before in
+    let letter = frame .before .before .before .before in
+    put-within (omega arith)
+    (put-both (letter .put-byte .ensures)
+    (put-both (frame .put-number .ensures)
+    (put-both (dot .put-byte2 .ensures) (colour .put-number2 .ensures))))
 
 pub put-operation-on-spec : {M : Type 1} → statement M
 put-operation-on-spec =

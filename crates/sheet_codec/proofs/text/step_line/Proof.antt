@@ -1,6 +1,5 @@
 -- `sheet_codec::step_line` meets its contract.
-use mathlib.Core.List.{append-assoc}
-use Rattle.sheet_codec.proofs.Written.{put-both, put-as}
+use Rattle.sheet_codec.proofs.Written.{put-both, put-within}
 use Rattle.sheet_codec.specs.Text.{stepLine}
 use native.Mathlib.Omega.{arith}
 use borrow.Author.Needs.{needs}
@@ -31,12 +30,18 @@ same-length c = search needs
 returns : tie.Need-returns
 unfolding stepLine
 returns c =
-    let w1 = put-both (c .before .before .before .before .before .before .before .before .before .before .before .before .before .before .before .before .before .before .before .before .before .before .put-number .ensures) (c .before .before .before .before .before .before .before .before .before .before .before .before .before .before .before .before .before .before .put-byte .ensures) in
-    let w2 = put-both w1 (c .before .before .before .before .before .before .before .before .before .before .before .before .before .before .put-answer .ensures) in
-    let w3 = put-both w2 (c .before .before .before .before .before .before .before .before .before .before .put-byte2 .ensures) in
-    let w4 = put-both w3 (c .before .before .before .before .before .before .put-word .ensures) in
-    let w5 = put-both w4 (c .before .before .put-byte3 .ensures) in
-    put-as (simp append-assoc) (omega arith) w5
+    let end = c .before .before in
+    let word = end .before .before .before .before in
+    let space2 = word .before .before .before .before in
+    let answer = space2 .before .before .before .before in
+    let space = answer .before .before .before .before in
+    let k = space .before .before .before .before in
+    put-within (omega arith)
+    (put-both (k .put-number .ensures)
+    (put-both (space .put-byte .ensures)
+    (put-both (answer .put-answer .ensures)
+    (put-both (space2 .put-byte2 .ensures)
+    (put-both (word .put-word .ensures) (end .put-byte3 .ensures))))))
 
 pub step-line-spec : {M : Type 1} → statement M
 step-line-spec =
