@@ -17,7 +17,10 @@ use Rattle.run_sheet.specs.Did.{Did}
 use Rattle.sheet_codec.specs.Format.{callOf}
 use Rattle.sheet_codec.specs.Text.{wordOf, firstWord}
 
-pub did : {st next : State} {call : Call} {a : Answer} {o : Outcome} {w : Option ℕ} → result a next ≡ step board01 st call → o ≡ a .outcome → w ≡ wordOf call a → Did st call next o w
+pub did : {st next : State} {call : Call} {a : Answer} {o : Outcome} {w : Option ℕ} → result a next ≡ step board01 st call
+    → o ≡ a .outcome
+    → w ≡ wordOf call a
+    → Did st call next o w
 did {call = call} e d f =
     record {
       after = ap (λ (r : Result). r .after) e;
@@ -26,8 +29,11 @@ did {call = call} e d f =
     }
 
 -- the same list, by another name
-pub did-with : {st : State} {call : Call} {l m : MappingList} {rs ps : List ℕ} {s : Store} {o : Outcome} {w : Option ℕ} → l ≡ m → Did st call (state (tables m rs ps) s) o w → Did st call (state (tables l rs ps) s) o w
-did-with {rs = rs} {ps = ps} {s = s} e d = record { after = ap (λ (x : MappingList). state (tables x rs ps) s) e ∙ d .after; answered = d .answered; shown = d .shown }
+pub did-with : {st : State} {call : Call} {l m : MappingList} {rs ps : List ℕ} {s : Store} {o : Outcome} {w : Option ℕ} → l ≡ m
+    → Did st call (state (tables m rs ps) s) o w
+    → Did st call (state (tables l rs ps) s) o w
+did-with {rs = rs} {ps = ps} {s = s} e d =
+    record { after = ap (λ (x : MappingList). state (tables x rs ps) s) e ∙ d .after; answered = d .answered; shown = d .shown }
 
 pub first-same : (o : Outcome) (w : ℕ) (l : List ℕ) → w ≡ getD l 0 0 → firstWord o (w ∷ []) ≡ firstWord o l
 first-same (refused n) w l e = refl
@@ -37,5 +43,7 @@ first-same (accepted f ops) w l e = ap some e
 pub did-as : {st next : State} {c d : Call} {o : Outcome} {w : Option ℕ} → c ≡ d → Did st c next o w → Did st d next o w
 did-as {st = st} {next = next} {o = o} {w = w} e x = subst (λ (c : Call). Did st c next o w) e x
 
-pub did-kind : (f : Fields) {st next : State} {k j : Kind} {o : Outcome} {w : Option ℕ} → k ≡ j → Did st (callOf board01 k f) next o w → Did st (callOf board01 j f) next o w
+pub did-kind : (f : Fields) {st next : State} {k j : Kind} {o : Outcome} {w : Option ℕ} → k ≡ j
+    → Did st (callOf board01 k f) next o w
+    → Did st (callOf board01 j f) next o w
 did-kind f e d = did-as (ap (λ (x : Kind). callOf board01 x f) e) d

@@ -6,25 +6,23 @@ use mathlib.Core.Path.{_≡_, refl, sym, ap, ap₂, subst, _∙_}
 use Prim.Native.Nat.{ℕ, zero, suc, _+_, _<_, _≤_}
 use native.Mathlib.Numerals.{add-one}
 use native.Mathlib.Omega.{arith}
-use lib.ListN.{length, replicate}
+use lib.ListN.{length}
 use borrow.Author.Tests.{lt-ltb, le-ltb}
 use Rattle.board.specs.declared.Board.{Board}
-use Rattle.board.specs.Board.{board01, memoryWords, cacheWords, lines}
+use Rattle.board.specs.Board.{board01}
 use Rattle.mapping.specs.Change.{empty}
 use Rattle.mapping.specs.declared.MappingList.{MappingList}
 use Rattle.manager.specs.Answers.{Outcome, numberOf}
-use Rattle.manager.specs.Tables.{tables}
-use Rattle.cache.specs.Store.{store}
-use Rattle.machine.specs.State.{State, state, Call, Answer}
+use Rattle.machine.specs.State.{State, Call, Answer}
 use Rattle.machine.specs.Step.{step}
 use Rattle.run_sheet.specs.Did.{Did}
-use Rattle.sheet_codec.specs.Format.{mostMappings, mostSteps, mappingCount, stepCount, isBroken, mappingCall, stepCall}
+use Rattle.sheet_codec.specs.Format.{mostMappings, mostSteps, mappingCount, stepCount, isBroken}
 use Rattle.sheet_codec.specs.Put.{Put}
 use Rattle.run_sheet.specs.Ran.{Ran}
 use Rattle.run_sheet.specs.Run.{Run, zeros, start, runFrom, advance, advanceAll, afterMappings, afterSteps, runMappings, runSteps, closed, sheetText, textBytes, printed}
 use Rattle.sheet_codec.specs.Text.{mappingLine, mappingLineOf, stepLine, stepLineOf, endLine, refusedLine, lineBytes}
 use Rattle.sheet_codec.specs.Totals.{flushesOf, purgesOf}
-use Rattle.sheet_codec.proofs.Written.{overlay-nil, put-both, put-as}
+use Rattle.sheet_codec.proofs.Written.{overlay-nil, put-both, put-as, put-within}
 
 -- ---- runs one after the other
 
@@ -44,12 +42,15 @@ module _ (b : Board) where
     pub joined-all : (n : ℕ) (r : Run) → advanceAll b line callAt n r ≡ joined r (advanceAll b line callAt n (runFrom (r .machine)))
     unfolding advanceAll
     joined-all zero r = record-same refl (sym (append-nil (r .text))) (omega arith) (omega arith)
-    joined-all (suc n) r = ap (advance b (line n) (callAt n)) (joined-all n r) ∙ joined-advance (line n) (callAt n) r (advanceAll b line callAt n (runFrom (r .machine)))
+    joined-all (suc n) r =
+        ap (advance b (line n) (callAt n)) (joined-all n r)
+        ∙ joined-advance (line n) (callAt n) r (advanceAll b line callAt n (runFrom (r .machine)))
 
 -- ---- what the code holds
 
 -- nothing called yet
-pub ran-none : (line : ℕ → Call → Answer → List ℕ) (callAt : ℕ → Call) (l : List ℕ) (at : ℕ) (st : State) → Ran (advanceAll board01 line callAt 0 (runFrom st)) 0 l at st l at 0 0
+pub ran-none : (line : ℕ → Call → Answer → List ℕ) (callAt : ℕ → Call) (l : List ℕ) (at : ℕ) (st : State)
+    → Ran (advanceAll board01 line callAt 0 (runFrom st)) 0 l at st l at 0 0
 unfolding advanceAll
 ran-none line callAt l at st =
     record {
@@ -62,7 +63,8 @@ ran-none line callAt l at st =
     }
 
 -- one call, of which a line is written
-ran-one : (line : Call → Answer → List ℕ) {st next : State} {call : Call} {o : Outcome} {w : Option ℕ} {l m s : List ℕ} {at k f p : ℕ} → Did st call next o w
+ran-one : (line : Call → Answer → List ℕ) {st next : State} {call : Call} {o : Outcome} {w : Option ℕ} {l m s : List ℕ} {at k f p : ℕ}
+    → Did st call next o w
     → Put l at s lineBytes m k
     → s ≡ line call (step board01 st call .answer)
     → (f ≡ flushesOf o) × (f ≤ 2)
@@ -79,14 +81,17 @@ ran-one line d put e f p =
       few-purges = omega (arith, p .1);
     }
 
-pub ran-mapping : (n : ℕ) {st next : State} {call : Call} {o : Outcome} {w : Option ℕ} {l m : List ℕ} {at k f p x : ℕ} → Did st call next o w → x ≡ numberOf o
+pub ran-mapping : (n : ℕ) {st next : State} {call : Call} {o : Outcome} {w : Option ℕ} {l m : List ℕ} {at k f p x : ℕ}
+    → Did st call next o w
+    → x ≡ numberOf o
     → Put l at (mappingLine n x) lineBytes m k
     → (f ≡ flushesOf o) × (f ≤ 2)
     → (p ≡ purgesOf o) × (p ≤ 2)
     → Ran (advance board01 (mappingLineOf n) call (runFrom st)) 1 l at next m k f p
 ran-mapping n d e put f p = ran-one (mappingLineOf n) d put (ap (mappingLine n) (e ∙ ap numberOf (d .answered))) f p
 
-pub ran-step : (n : ℕ) {st next : State} {call : Call} {o : Outcome} {w : Option ℕ} {l m : List ℕ} {at k f p : ℕ} → Did st call next o w
+pub ran-step : (n : ℕ) {st next : State} {call : Call} {o : Outcome} {w : Option ℕ} {l m : List ℕ} {at k f p : ℕ}
+    → Did st call next o w
     → Put l at (stepLine n o w) lineBytes m k
     → (f ≡ flushesOf o) × (f ≤ 2)
     → (p ≡ purgesOf o) × (p ≤ 2)
@@ -94,12 +99,14 @@ pub ran-step : (n : ℕ) {st next : State} {call : Call} {o : Outcome} {w : Opti
 ran-step n d put f p = ran-one (stepLineOf n) d put (ap₂ (stepLine n) (d .answered) (d .shown)) f p
 
 -- a run and another from where it ended
-ran-both : {r s : Run} {i j : ℕ} {l m n : List ℕ} {at k end f g p q : ℕ} {st next : State} → Ran r i l at st m k f p → Ran s j m k next n end g q
+ran-both : {r s : Run} {i j : ℕ} {l m n : List ℕ} {at k end f g p q : ℕ} {st next : State}
+    → Ran r i l at st m k f p
+    → Ran s j m k next n end g q
     → Ran (joined r s) (i + j) l at next n end (f + g) (p + q)
 ran-both x y =
     record {
       machine-is = y .machine-is;
-      text-is = put-as refl (omega arith) (put-both (x .text-is) (y .text-is));
+      text-is = put-within (omega arith) (put-both (x .text-is) (y .text-is));
       flushes-are = ap₂ _+_ (x .flushes-are) (y .flushes-are);
       purges-are = ap₂ _+_ (x .purges-are) (y .purges-are);
       few-flushes = omega (arith, x .few-flushes, y .few-flushes);
@@ -116,31 +123,44 @@ module _ (line : ℕ → Call → Answer → List ℕ) (callAt : ℕ → Call) w
   joined-next i r = record-same refl refl (omega arith) (omega arith)
 
   -- one call more
-  pub ran-next : (st : State) {i : ℕ} {l m n : List ℕ} {at k end f g p q : ℕ} {now next : State} → Ran (advanceAll board01 line callAt i (runFrom st)) i l at now m k f p
+  pub ran-next : (st : State) {i : ℕ} {l m n : List ℕ} {at k end f g p q : ℕ} {now next : State}
+      → Ran (advanceAll board01 line callAt i (runFrom st)) i l at now m k f p
       → Ran (advance board01 (line i) (callAt i) (runFrom now)) 1 m k next n end g q
       → Ran (advanceAll board01 line callAt (i + 1) (runFrom st)) (i + 1) l at next n end (f + g) (p + q)
   unfolding advanceAll
   ran-next st {i = i} {now = now} x y =
       let from : ℕ → Run = λ (k : ℕ). advanceAll board01 line callAt k (runFrom st) in
-      ran-as (ap (λ (m : State). joined (from i) (advance board01 (line i) (callAt i) (runFrom m))) (x .machine-is) ∙ sym (joined-next i (from i)) ∙ ap from (sym (add-one i))) (ran-both x y)
+      ran-as
+      (ap (λ (m : State). joined (from i) (advance board01 (line i) (callAt i) (runFrom m))) (x .machine-is)
+      ∙ sym (joined-next i (from i))
+      ∙ ap from (sym (add-one i)))
+      (ran-both x y)
 
-  pub ran-counted : (st : State) {i n : ℕ} {l m : List ℕ} {at k f p : ℕ} {now : State} → i ≡ n → Ran (advanceAll board01 line callAt i (runFrom st)) i l at now m k f p
+  pub ran-counted : (st : State) {i n : ℕ} {l m : List ℕ} {at k f p : ℕ} {now : State} → i ≡ n
+      → Ran (advanceAll board01 line callAt i (runFrom st)) i l at now m k f p
       → Ran (advanceAll board01 line callAt n (runFrom st)) n l at now m k f p
   ran-counted st {l = l} {m = m} {at = at} {k = k} {f = f} {p = p} {now = now} e x =
       subst (λ (n : ℕ). Ran (advanceAll board01 line callAt n (runFrom st)) n l at now m k f p) e x
 
   -- all calls from where a run ended
-  pub ran-all : {r : Run} {j i : ℕ} {l m n : List ℕ} {at k end f g p q : ℕ} {now next : State} → Ran r j l at now m k f p
+  pub ran-all : {r : Run} {j i : ℕ} {l m n : List ℕ} {at k end f g p q : ℕ} {now next : State}
+      → Ran r j l at now m k f p
       → Ran (advanceAll board01 line callAt i (runFrom now)) i m k next n end g q
       → Ran (advanceAll board01 line callAt i r) (j + i) l at next n end (f + g) (p + q)
   ran-all {r = r} {i = i} x y =
-      ran-as (ap (λ (m : State). joined r (advanceAll board01 line callAt i (runFrom m))) (x .machine-is) ∙ sym (joined-all board01 line callAt i r)) (ran-both x y)
+      ran-as
+      (ap (λ (m : State). joined r (advanceAll board01 line callAt i (runFrom m))) (x .machine-is) ∙ sym (joined-all board01 line callAt i r))
+      (ran-both x y)
 
 -- ---- the whole sheet
 
 -- the last line after the calls
-pub ran-closed : {r : Run} {i : ℕ} {l m n : List ℕ} {k end f p : ℕ} {st : State} → i ≤ mostMappings + mostSteps → Ran r i l 0 st m k f p → Put m k (endLine f p) lineBytes n end → Put l 0 (closed r) textBytes n end
-ran-closed {r = r} h x y = put-as (ap₂ (λ (f p : ℕ). r .text ++ endLine f p) (x .flushes-are) (x .purges-are)) (omega arith) (put-both (x .text-is) y)
+pub ran-closed : {r : Run} {i : ℕ} {l m n : List ℕ} {k end f p : ℕ} {st : State} → i ≤ mostMappings + mostSteps
+    → Ran r i l 0 st m k f p
+    → Put m k (endLine f p) lineBytes n end
+    → Put l 0 (closed r) textBytes n end
+ran-closed {r = r} h x y =
+    put-as (ap₂ (λ (f p : ℕ). r .text ++ endLine f p) (x .flushes-are) (x .purges-are)) (omega arith) (put-both (x .text-is) y)
 
 module _ (sheet : List ℕ) (list : MappingList) (m n : ℕ) where
   pub run-is : list ≡ empty → m ≡ mappingCount sheet → n ≡ stepCount sheet
@@ -164,7 +184,8 @@ module _ (l sheet : List ℕ) where
   text-run e = rw (e, sheetText) refl
 
   module _ {m : List ℕ} {k : ℕ} (h : textBytes ≤ length l) where
-    printed-text : {s : List ℕ} {a : ℕ} → s ≡ sheetText board01 sheet → a ≤ textBytes → Put l 0 s a m k → Put l 0 (printed (length l) sheet) textBytes m k
+    printed-text : {s : List ℕ} {a : ℕ} → s ≡ sheetText board01 sheet → a ≤ textBytes → Put l 0 s a m k
+        → Put l 0 (printed (length l) sheet) textBytes m k
     unfolding printed
     printed-text e f x = put-as (e ∙ sym (rw (le-ltb (length l) textBytes h) refl)) f x
 

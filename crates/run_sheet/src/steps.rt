@@ -10,7 +10,6 @@ use sheet_codec::Shown;
 use sheet_codec::format;
 ghost use mathlib.Core.List.{[], _∷_};
 ghost use mathlib.Core.Path.{_≡_};
-ghost use Prim.Native.Nat.{_+_, _<_};
 ghost use lib.ListN.{length, replicate};
 ghost use Rattle.board.specs.Board.{board01};
 ghost use Rattle.manager.specs.Answers.{outcome};

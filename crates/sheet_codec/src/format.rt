@@ -3,7 +3,7 @@ use crate::Fields;
 use crate::Kind;
 use mapping::Mapping;
 ghost use mathlib.Core.Path.{_≡_};
-ghost use Prim.Native.Nat.{_+_, _*_, _<_, _≤_};
+ghost use Prim.Native.Nat.{_+_, _<_, _≤_};
 ghost use Rattle.bits.specs.Mask.{all};
 ghost use Rattle.machine.specs.State as call;
 ghost use Rattle.sheet_codec.specs.Format.{byteAt, twoBytes, fourBytes, mappingCount, stepCount, mappingPlace, mappingCall, mostMappings, mostSteps, countBytes, headBytes, stepPlace, fieldsAt, kindOf, allZero, keeps, stepKeeps, isBroken};

@@ -3,7 +3,6 @@ use crate::Shown;
 use crate::answers;
 use manager::Answer;
 use page_model::Op;
-ghost use mathlib.Core.Path.{_≡_};
 ghost use mathlib.Core.List.{[], _∷_, _++_};
 ghost use Prim.Native.Nat.{_+_, _<_, _≤_};
 ghost use lib.ListN.{length};

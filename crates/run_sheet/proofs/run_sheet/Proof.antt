@@ -21,8 +21,12 @@ same-length c = search needs
 
 returns-2 : tie.Need-returns-2
 returns-2 c =
-    let x = c .before .before .refused-line in
-    (printed-refusal _ _ (omega (arith, c .before .before .before .before .before .before .if1 .left)) (sym (c .before .before .before .before .before .is-broken .ensures) ∙ c .before .before .before .before .if2 .taken) (x .ensures), counts _ _ (omega (arith, x .ensures, x .kept, c .before .before .before .before .before .before .if1 .left)))
+    let x = c .before .before in
+    let tested = x .before .before .before in
+    let room = tested .before .if1 .left in
+    let broken = sym (tested .is-broken .ensures) ∙ x .before .before .if2 .taken in
+    let line = x .refused-line in
+    (printed-refusal _ _ (omega (arith, room)) broken (line .ensures), counts _ _ (omega (arith, line .ensures, line .kept, room)))
 
 run-unbroken-requires : tie.Need-run-unbroken-requires
 run-unbroken-requires c κs = (sym (c .before .before .is-broken .ensures) ∙ c .before .if2 .left, omega (arith, c .before .before .before .if1 .left))
@@ -32,8 +36,12 @@ same-length-2 c = search needs
 
 returns-3 : tie.Need-returns-3
 returns-3 c =
-    let x = c .before .before .run-unbroken in
-    (printed-run _ _ (omega (arith, c .before .before .before .before .before .before .if1 .left)) (sym (c .before .before .before .before .before .is-broken .ensures) ∙ c .before .before .before .before .if2 .left) (x .ensures), counts _ _ (omega (arith, x .ensures, x .kept, c .before .before .before .before .before .before .if1 .left)))
+    let x = c .before .before in
+    let tested = x .before .before .before in
+    let room = tested .before .if1 .left in
+    let unbroken = sym (tested .is-broken .ensures) ∙ x .before .before .if2 .left in
+    let ran = x .run-unbroken in
+    (printed-run _ _ (omega (arith, room)) unbroken (ran .ensures), counts _ _ (omega (arith, ran .ensures, ran .kept, room)))
 
 pub run-sheet-spec : {M : Type 1} → statement M
 run-sheet-spec =

@@ -32,8 +32,13 @@ same-length-2 c = search needs
 
 returns : tie.Need-returns
 returns c =
-    let d = did-as (c .before .before .before .before .before .before .before .before .before .before .before .before .mapping-at .ensures) (did (c .before .before .before .before .before .before .before .before .before .before .map .ensures) refl refl) in
-    ran-mapping (c .before .before .before .before .before .before .before .before .before .before .before .before .before .before .before .before .before .before .before .before .args .k) d (c .before .before .before .before .before .before .number-of .ensures) (c .before .before .before .before .mapping-line .ensures) (c .before .flushes-of .ensures) (c .purges-of .ensures)
+    let line = c .before .before .before .before in
+    let made = line .before .before .before .before .before .before in
+    let from = made .before .before in
+    let start = from .before .before .before .before .before .before .before .before in
+    let d = did-as (from .mapping-at .ensures) (did (made .map .ensures) refl refl) in
+    let number = line .before .before .number-of .ensures in
+    ran-mapping (start .args .k) d number (line .mapping-line .ensures) (c .before .flushes-of .ensures) (c .purges-of .ensures)
 
 pub map-one-spec : {M : Type 1} → statement M
 map-one-spec =

@@ -8,6 +8,16 @@ use borrow.Author.Needs.{needs}
 use Rattle.run_sheet.proofs.run.run_calls.Statement.{statement}
 use Rattle.run_sheet.proofs.run.run_calls.Tie as tie
 
+-- from the end, the steps, the mappings and the start
+abbrev stepped : tie.After-struct-known2 → tie.After-run-steps
+stepped c = c .before .before .before .before .before .before .before .before .before .before .before .before .before .before .before
+
+abbrev mapped : tie.After-run-steps → tie.After-run-mappings
+mapped c = c .before .before .before .before .before .before .before .before .before .before .before .before .before
+
+abbrev start : tie.After-run-mappings → tie.Start
+start c = c .before .before .before .before .before .before .before .before .before .before .before .before .before .before
+
 run-mappings-requires : tie.Need-run-mappings-requires
 run-mappings-requires c κs = search needs
 
@@ -16,21 +26,31 @@ first-step-requires c κs = search needs
 
 run-steps-requires : tie.Need-run-steps-requires
 run-steps-requires c κs =
-    let h = c .before .before .before .before .before .before .before .before .before .before .before .before .before .before .before .before .before .before .before .before .before .before .before .before .before .before .pre in
-    let m = c .before .before .before .before .before .before .before .before .before .before .before .before .run-mappings in
-    (c .before .before .before .before .before .before .first-step .ensures .0 ∙ first-place _ _ (h .0), c .before .before .before .before .before .before .first-step .ensures .1, h .2, omega (arith, h, m .kept, m .ensures .text-is))
+    let first = c .before .before .before .before .before .before in
+    let m = first .before .before .before .before .before .before in
+    let h = start m .pre in
+    let at = first .first-step .ensures in
+    (at .0 ∙ first-place _ _ (h .0), at .1, h .2, omega (arith, h, m .run-mappings .kept, m .run-mappings .ensures .text-is))
 
 add-t40 : tie.Need-add-t40
-add-t40 c = search (needs, c .before .before .before .before .before .before .before .before .before .before .before .before .before .before .before .run-steps .ensures .few-flushes, c .before .before .before .before .before .before .before .before .before .before .before .before .before .before .before .before .before .before .before .before .before .before .before .before .before .before .before .before .run-mappings .ensures .few-flushes, c .before .before .before .before .before .before .before .before .before .before .before .before .before .before .before .before .before .before .before .before .before .before .before .before .before .before .before .before .before .before .before .before .before .before .before .before .before .before .before .before .before .before .pre)
+add-t40 c =
+    let s = stepped c in
+    let m = mapped s in
+    search (needs, s .run-steps .ensures .few-flushes, m .run-mappings .ensures .few-flushes, start m .pre)
 
 add-t41 : tie.Need-add-t41
-add-t41 c = search (needs, c .before .before .before .before .before .before .before .before .before .before .before .before .before .before .before .before .before .run-steps .ensures .few-purges, c .before .before .before .before .before .before .before .before .before .before .before .before .before .before .before .before .before .before .before .before .before .before .before .before .before .before .before .before .before .before .run-mappings .ensures .few-purges, c .before .before .before .before .before .before .before .before .before .before .before .before .before .before .before .before .before .before .before .before .before .before .before .before .before .before .before .before .before .before .before .before .before .before .before .before .before .before .before .before .before .before .before .before .pre)
+add-t41 c =
+    let s = stepped (c .before .before) in
+    let m = mapped s in
+    search (needs, s .run-steps .ensures .few-purges, m .run-mappings .ensures .few-purges, start m .pre)
 
 same-length : tie.Need-same-length
 same-length c = search needs
 
 same-length-2 : tie.Need-same-length-2
-same-length-2 c = search (needs, c .before .before .before .before .before .before .before .before .before .before .before .before .before .before .before .before .before .run-steps .kept, c .before .before .before .before .before .before .before .before .before .before .before .before .before .before .before .before .before .before .before .before .before .before .before .before .before .before .before .before .before .before .run-mappings .kept)
+same-length-2 c =
+    let s = stepped (c .before .before) in
+    search (needs, s .run-steps .kept, mapped s .run-mappings .kept)
 
 same-length-3 : tie.Need-same-length-3
 same-length-3 c = search needs
@@ -42,10 +62,14 @@ same-length-5 : tie.Need-same-length-5
 same-length-5 c = search needs
 
 same-length-6 : tie.Need-same-length-6
-same-length-6 c = search (needs, c .before .before .before .before .before .before .before .before .before .before .before .before .before .before .before .before .before .run-steps .kept, c .before .before .before .before .before .before .before .before .before .before .before .before .before .before .before .before .before .before .before .before .before .before .before .before .before .before .before .before .before .before .run-mappings .kept)
+same-length-6 c =
+    let s = stepped (c .before .before) in
+    search (needs, s .run-steps .kept, mapped s .run-mappings .kept)
 
 returns : tie.Need-returns
-returns c = ran-all stepLineOf _ (c .before .before .before .before .before .before .before .before .before .before .before .before .before .before .before .before .before .before .before .before .before .before .before .before .before .before .before .before .before .before .run-mappings .ensures) (c .before .before .before .before .before .before .before .before .before .before .before .before .before .before .before .before .before .run-steps .ensures)
+returns c =
+    let s = stepped (c .before .before) in
+    ran-all stepLineOf _ (mapped s .run-mappings .ensures) (s .run-steps .ensures)
 
 pub run-calls-spec : {M : Type 1} → statement M
 run-calls-spec =

@@ -4,13 +4,10 @@ use Prim.Native.Nat.{_≤_, _-_}
 use native.Mathlib.Omega.{arith}
 use lib.ListN.{length}
 use Rattle.board.specs.Board.{board01}
-use Rattle.manager.specs.Tables.{tables}
-use Rattle.cache.specs.Store.{store}
-use Rattle.machine.specs.State.{state}
-use Rattle.sheet_codec.specs.Format.{mappingCall}
+use Rattle.machine.specs.State.{machineOf}
 use Rattle.sheet_codec.specs.Text.{mappingLineOf}
 use Rattle.run_sheet.specs.Ran.{Ran}
-use Rattle.run_sheet.specs.Run.{runFrom, advanceAll}
+use Rattle.run_sheet.specs.Run.{runFrom, afterMappings}
 use Rattle.run_sheet.proofs.Running.{ran-none, ran-next, ran-counted}
 use borrow.Author.Needs.{needs}
 use Rattle.run_sheet.proofs.run.run_mappings.Statement.{statement}
@@ -21,7 +18,8 @@ Inv-loop records protections₀ memory words tags sheet count text₀ from list�
     (i ≤ count)
     × (length protections ≡ length protections₀)
     × (length text ≡ length text₀)
-    × Ran (advanceAll board01 mappingLineOf (mappingCall sheet) i (runFrom (state (tables list₀ records protections₀) (store memory words tags)))) i text₀ from (state (tables list records protections) (store memory words tags)) text at flushes purges
+    × Ran (afterMappings board01 sheet i (runFrom (machineOf list₀ records protections₀ memory words tags))) i text₀ from
+    (machineOf list records protections memory words tags) text at flushes purges
 
 abbrev μ-loop : tie.MeasureT-loop
 μ-loop records protections₀ memory words tags sheet count text₀ from list₀ at₀ flushes₀ purges₀ i₀ protections text list at flushes purges i = count - i
@@ -45,7 +43,10 @@ loop-less : tie.Need-loop-less Inv-loop μ-loop
 loop-less c = search needs
 
 loop-again : tie.Need-loop-again Inv-loop μ-loop
-loop-again c = (search needs, search needs, search needs, ran-next mappingLineOf _ _ (c .before .before .before .before .before .before .before .before .before .before .before .loop .inv .3) (c .before .before .before .before .before .before .before .map-one .ensures))
+loop-again c =
+    let made = c .before .before .before .before .before .before .before in
+    let turn = made .before .before .before .before in
+    (search needs, search needs, search needs, ran-next mappingLineOf _ _ (turn .loop .inv .3) (made .map-one .ensures))
 
 same-length : tie.Need-same-length Inv-loop μ-loop
 same-length c = search needs

@@ -4,13 +4,10 @@ use Prim.Native.Nat.{_≤_, _-_}
 use native.Mathlib.Omega.{arith}
 use lib.ListN.{length}
 use Rattle.board.specs.Board.{board01}
-use Rattle.manager.specs.Tables.{tables}
-use Rattle.cache.specs.Store.{store}
-use Rattle.machine.specs.State.{state}
-use Rattle.sheet_codec.specs.Format.{stepCall}
+use Rattle.machine.specs.State.{machineOf}
 use Rattle.sheet_codec.specs.Text.{stepLineOf}
 use Rattle.run_sheet.specs.Ran.{Ran}
-use Rattle.run_sheet.specs.Run.{runFrom, advanceAll}
+use Rattle.run_sheet.specs.Run.{runFrom, afterSteps}
 use Rattle.run_sheet.proofs.Running.{ran-none, ran-next, ran-counted}
 use borrow.Author.Needs.{needs}
 use Rattle.run_sheet.proofs.run.run_steps.Statement.{statement}
@@ -25,10 +22,21 @@ Inv-loop records₀ protections₀ memory₀ words₀ tags₀ sheet first count 
     × (length words ≡ length words₀)
     × (length tags ≡ length tags₀)
     × (length text ≡ length text₀)
-    × Ran (advanceAll board01 stepLineOf (stepCall board01 sheet) i (runFrom (state (tables list₀ records₀ protections₀) (store memory₀ words₀ tags₀)))) i text₀ from (state (tables list records protections) (store memory words tags)) text at flushes purges
+    × Ran (afterSteps board01 sheet i (runFrom (machineOf list₀ records₀ protections₀ memory₀ words₀ tags₀))) i text₀ from
+    (machineOf list records protections memory words tags) text at flushes purges
 
 abbrev μ-loop : tie.MeasureT-loop
 μ-loop records₀ protections₀ memory₀ words₀ tags₀ sheet first count text₀ from list₀ at₀ flushes₀ purges₀ i₀ records protections memory words tags text list at flushes purges i = count - i
+
+-- after a step, what it is made on
+abbrev made : tie.After-struct-known Inv-loop μ-loop → tie.After-step-one Inv-loop μ-loop
+made c = c .before .before .before .before .before .before .before .before .before .before .before .before .before .before
+
+abbrev turn : tie.After-step-one Inv-loop μ-loop → tie.In-loop Inv-loop μ-loop
+turn c = c .before .before .before .before .before .before .before
+
+abbrev start : tie.In-loop Inv-loop μ-loop → tie.Start Inv-loop μ-loop
+start c = c .before .before .before .before .before .before .before .before .before
 
 loop-holds : tie.Need-loop-holds Inv-loop μ-loop
 loop-holds c = (search needs, search needs, search needs, search needs, search needs, search needs, search needs, ran-none stepLineOf _ _ _ _)
@@ -37,19 +45,30 @@ step-one-requires : tie.Need-step-one-requires Inv-loop μ-loop
 step-one-requires c κs = search needs
 
 add-flushes : tie.Need-add-flushes Inv-loop μ-loop
-add-flushes c = search (needs, c .before .before .before .before .before .before .before .before .before .before .before .before .before .before .before .before .before .before .before .before .before .loop-test .taken, c .before .before .before .before .before .before .before .before .before .before .before .before .before .before .before .before .before .before .before .before .before .before .before .before .before .before .before .before .before .before .pre .2, c .before .before .before .before .before .before .before .before .before .before .before .before .before .before .before .before .before .before .before .before .before .before .loop .inv .7 .few-flushes, c .before .before .before .before .before .before .before .before .before .before .before .before .before .before .step-one .ensures .few-flushes)
+add-flushes c =
+    let m = made c in
+    let t = turn m in
+    search (needs, t .loop-test .taken, start t .pre .2, t .before .loop .inv .7 .few-flushes, m .step-one .ensures .few-flushes)
 
 add-purges : tie.Need-add-purges Inv-loop μ-loop
-add-purges c = search (needs, c .before .before .before .before .before .before .before .before .before .before .before .before .before .before .before .before .before .before .before .before .before .before .loop-test .taken, c .before .before .before .before .before .before .before .before .before .before .before .before .before .before .before .before .before .before .before .before .before .before .before .before .before .before .before .before .before .before .before .pre .2, c .before .before .before .before .before .before .before .before .before .before .before .before .before .before .before .before .before .before .before .before .before .before .before .loop .inv .7 .few-purges, c .before .before .before .before .before .before .before .before .before .before .before .before .before .before .before .step-one .ensures .few-purges)
+add-purges c =
+    let m = made (c .before) in
+    let t = turn m in
+    search (needs, t .loop-test .taken, start t .pre .2, t .before .loop .inv .7 .few-purges, m .step-one .ensures .few-purges)
 
 add-i : tie.Need-add-i Inv-loop μ-loop
-add-i c = search (needs, c .before .before .before .before .before .before .before .before .before .before .before .before .before .before .before .before .before .before .before .before .before .before .loop-test .taken, c .before .before .before .before .before .before .before .before .before .before .before .before .before .before .before .before .before .before .before .before .before .before .before .before .before .before .before .before .before .before .before .pre .2)
+add-i c =
+    let t = turn (made (c .before)) in
+    search (needs, t .loop-test .taken, start t .pre .2)
 
 loop-less : tie.Need-loop-less Inv-loop μ-loop
 loop-less c = search needs
 
 loop-again : tie.Need-loop-again Inv-loop μ-loop
-loop-again c = (search needs, search needs, search needs, search needs, search needs, search needs, search needs, ran-next stepLineOf _ _ (c .before .before .before .before .before .before .before .before .before .before .before .before .before .before .before .before .before .before .before .before .before .before .before .loop .inv .7) (c .before .before .before .before .before .before .before .before .before .before .before .before .before .before .before .step-one .ensures))
+loop-again c =
+    let m = made (c .before) in
+    let next = ran-next stepLineOf _ _ (turn m .before .loop .inv .7) (m .step-one .ensures) in
+    (search needs, search needs, search needs, search needs, search needs, search needs, search needs, next)
 
 same-length : tie.Need-same-length Inv-loop μ-loop
 same-length c = search needs

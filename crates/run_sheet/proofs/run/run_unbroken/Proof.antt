@@ -1,11 +1,29 @@
 -- `run_sheet::run_unbroken` meets its contract.
 use Rattle.run_sheet.specs.Run.{zeros}
+use Prim.Native.Nat.{_≤_}
 use native.Mathlib.Omega.{arith}
 use Rattle.run_sheet.proofs.Running.{ran-as, ran-closed, run-is}
+use Rattle.sheet_codec.specs.Format.{mostMappings, mostSteps}
 use Rattle.sheet_codec.proofs.Sheet.{counts-fit}
 use borrow.Author.Needs.{needs}
 use Rattle.run_sheet.proofs.run.run_unbroken.Statement.{statement}
 use Rattle.run_sheet.proofs.run.run_unbroken.Tie as tie
+
+-- where the list is made, what was counted
+module _ (c : tie.After-empty) where
+  abbrev steps : tie.After-step-count
+  steps = c .before
+
+  abbrev mappings : tie.After-mapping-count
+  mappings = steps .before
+
+  abbrev start : tie.Start
+  start = mappings .before .before .before
+
+  few : (mappings .mapping-count .result ≤ mostMappings) × (steps .step-count .result ≤ mostSteps)
+  few =
+      let fit = counts-fit (start .args .sheet .now) (start .pre .0) in
+      (omega (arith, mappings .mapping-count .ensures, fit), omega (arith, steps .step-count .ensures, fit))
 
 mapping-count-requires : tie.Need-mapping-count-requires
 mapping-count-requires c κs = search needs
@@ -33,14 +51,14 @@ slice-aggregate-run-calls-5 c = search needs
 
 run-calls-requires : tie.Need-run-calls-requires
 run-calls-requires c κs =
-    let m = c .before .before .before .before .before .before .before .before .mapping-count .ensures in
-    let fit = counts-fit _ (c .before .before .before .before .before .before .before .before .before .before .before .pre .0) in
-    (m, omega (arith, m, fit), omega (arith, c .before .before .before .before .before .before .before .step-count .ensures, fit), c .before .before .before .before .before .before .before .before .before .before .before .pre .1)
+    let made = c .before .before .before .before .before .before in
+    (mappings made .mapping-count .ensures, few made .0, few made .1, start made .pre .1)
 
 end-line-requires : tie.Need-end-line-requires
 end-line-requires c κs =
-    let r = c .before .before .before .before .before .before .before .before .run-calls in
-    omega (arith, r .ensures .text-is, r .kept, c .before .before .before .before .before .before .before .before .before .before .before .before .before .before .before .before .before .before .before .before .pre .1, c .before .before .before .before .before .before .before .before .before .before .before .before .before .before .before .before .before .mapping-count .ensures, c .before .before .before .before .before .before .before .before .before .before .before .before .before .before .before .before .step-count .ensures, counts-fit _ (c .before .before .before .before .before .before .before .before .before .before .before .before .before .before .before .before .before .before .before .before .pre .0))
+    let ran = c .before .before .before .before .before .before .before .before in
+    let made = ran .before .before .before .before .before .before .before in
+    omega (arith, ran .run-calls .ensures .text-is, ran .run-calls .kept, start made .pre .1, few made)
 
 same-length : tie.Need-same-length
 same-length c = search needs
@@ -48,9 +66,11 @@ same-length c = search needs
 returns : tie.Need-returns
 unfolding zeros
 returns c =
-    let m = c .before .before .before .before .before .before .before .before .before .before .before .before .before .before .before .before .before .before .before .before .mapping-count in
-    let n = c .before .before .before .before .before .before .before .before .before .before .before .before .before .before .before .before .before .before .before .step-count in
-    ran-closed (omega (arith, m .ensures, n .ensures, counts-fit _ (c .before .before .before .before .before .before .before .before .before .before .before .before .before .before .before .before .before .before .before .before .before .before .before .pre .0))) (ran-as (run-is _ _ _ _ (c .before .before .before .before .before .before .before .before .before .before .before .before .before .before .before .before .before .before .empty .ensures) (m .ensures) (n .ensures)) (c .before .before .before .before .before .before .before .before .before .before .before .run-calls .ensures)) (c .before .before .end-line .ensures)
+    let line = c .before .before in
+    let ran = line .before .before .before .before .before .before .before .before .before in
+    let made = ran .before .before .before .before .before .before .before in
+    let e = run-is _ _ _ _ (made .empty .ensures) (mappings made .mapping-count .ensures) (steps made .step-count .ensures) in
+    ran-closed (omega (arith, few made)) (ran-as e (ran .run-calls .ensures)) (line .end-line .ensures)
 
 pub run-unbroken-spec : {M : Type 1} → statement M
 run-unbroken-spec =

@@ -47,10 +47,14 @@ same-length-6 c = search needs
 
 returns : tie.Need-returns
 returns c =
-    let a = c .before .before .before .before .before .before .before .before .before .before .before .before .before .before .before .before .before .before .before .before .before .before .before .before .before .before .before .before .before .before .before .args in
-    let f = c .before .before .before .before .before .before .before .before .before .before .before .before .before .before .before .before .before .before .before .before .before .before .before .fields-at in
-    let d = did-as (call-at (a .sheet .now) (a .first) (a .k) (c .before .before .before .before .before .before .before .before .before .before .before .before .before .before .before .before .before .before .before .before .before .before .before .before .before .before .before .before .before .before .before .pre .0) (f .result) (f .ensures)) (c .before .before .before .before .before .before .before .before .before .before .before .before .before .before .before .before .before .step .ensures) in
-    ran-step (a .k) d (c .before .before .before .before .step-line .ensures) (c .before .flushes-of .ensures) (c .purges-of .ensures)
+    let line = c .before .before .before .before in
+    let made = line .before .before .before .before .before .before .before .before .before .before .before .before .before in
+    let from = made .before .before .before .before .before .before in
+    let start = from .before .before .before .before .before .before .before .before in
+    let a = start .args in
+    let f = from .fields-at in
+    let d = did-as (call-at (a .sheet .now) (a .first) (a .k) (start .pre .0) (f .result) (f .ensures)) (made .step .ensures) in
+    ran-step (a .k) d (line .step-line .ensures) (c .before .flushes-of .ensures) (c .purges-of .ensures)
 
 pub step-one-spec : {M : Type 1} → statement M
 step-one-spec =

@@ -6,16 +6,17 @@ use native.Mathlib.Omega.{arith}
 use borrow.Author.Count.{below-none, below-more}
 use lib.ListN.{length, getD}
 use lib.Seq.{getD-set-same, getD-set-other, ext-getD}
+use Rattle.board.specs.Board.{board01}
 use Rattle.manager.proofs.Laws.{length-tabulate, getD-tabulate}
 use Rattle.sheet_codec.specs.Format.{sentWord}
 use Rattle.run_sheet.proofs.steps.count_up.Statement.{statement}
 use Rattle.run_sheet.proofs.steps.count_up.Tie as tie
 
 abbrev Inv-loop : tie.InvT-loop
-Inv-loop buffer₀ w i₀ buffer i = (i ≤ 64) × (length buffer ≡ 64) × ((k : ℕ) → k < i → getD buffer k 0 ≡ sentWord w k)
+Inv-loop buffer₀ w i₀ buffer i = (i ≤ board01 .page) × (length buffer ≡ board01 .page) × ((k : ℕ) → k < i → getD buffer k 0 ≡ sentWord w k)
 
 abbrev μ-loop : tie.MeasureT-loop
-μ-loop buffer₀ w i₀ buffer i = 64 - i
+μ-loop buffer₀ w i₀ buffer i = board01 .page - i
 
 loop-holds : tie.Need-loop-holds Inv-loop μ-loop
 loop-holds c = (search needs, search needs, below-none _)
@@ -40,11 +41,9 @@ loop-less c = search needs
 
 loop-again : tie.Need-loop-again Inv-loop μ-loop
 loop-again c =
-    let l = c .before .before .loop in (
-      search needs,
-      search needs,
-      below-more _ _ (λ k h. getD-set-other (l .buffer) (l .i) k _ 0 (omega arith) ∙ l .inv .2 k h) (getD-set-same (l .buffer) (l .i) _ 0 (omega arith) ∙ c .wrapping-add-u32 .ensures),
-    )
+    let l = c .before .before .loop in
+    let written = getD-set-same (l .buffer) (l .i) _ 0 (omega arith) ∙ c .wrapping-add-u32 .ensures in
+    (search needs, search needs, below-more _ _ (λ k h. getD-set-other (l .buffer) (l .i) k _ 0 (omega arith) ∙ l .inv .2 k h) written)
 
 same-length : tie.Need-same-length Inv-loop μ-loop
 same-length c = search needs
@@ -53,7 +52,8 @@ returns : tie.Need-returns Inv-loop μ-loop
 returns c =
     let l = c .before .loop in
     let f = sentWord (c .before .before .before .args .w) in
-    ext-getD 0 (l .buffer) _ (l .inv .1 ∙ sym (length-tabulate 64 f)) (λ k h. l .inv .2 k (omega arith) ∙ sym (getD-tabulate 64 f k (omega arith)))
+    let n = board01 .page in
+    ext-getD 0 (l .buffer) _ (l .inv .1 ∙ sym (length-tabulate n f)) (λ k h. l .inv .2 k (omega arith) ∙ sym (getD-tabulate n f k (omega arith)))
 
 pub count-up-spec : {M : Type 1} → statement M
 count-up-spec =

@@ -31,7 +31,11 @@ same-length-4 : tie.Need-same-length-4
 same-length-4 c = search needs
 
 returns : tie.Need-returns
-returns c = did-as (ap (deviceWrite (c .before .before .before .before .before .before .before .before .before .before .before .before .before .before .before .before .before .before .before .before .before .before .args .f .s)) (c .before .before .before .before .before .before .before .before .before .before .before .before .before .before .before .count-up .ensures)) (did (c .before .before .before .before .before .before .before .before .device-write .ensures) refl refl)
+returns c =
+    let made = c .before .before .before .before .before .before .before .before in
+    let sent = made .before .before .before .before .before .before .before in
+    let start = sent .before .before .before .before .before .before .before in
+    did-as (ap (deviceWrite (start .args .f .s)) (sent .count-up .ensures)) (did (made .device-write .ensures) refl refl)
 
 pub device-write-spec : {M : Type 1} → statement M
 device-write-spec =

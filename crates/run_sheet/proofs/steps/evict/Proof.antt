@@ -21,7 +21,9 @@ same-length-3 : tie.Need-same-length-3
 same-length-3 c = search needs
 
 returns : tie.Need-returns
-returns c = did (c .before .before .before .before .before .before .evict .ensures) refl refl
+returns c =
+    let made = c .before .before .before .before .before .before in
+    did (made .evict .ensures) refl refl
 
 pub evict-spec : {M : Type 1} → statement M
 evict-spec =

@@ -29,7 +29,10 @@ same-length-5 : tie.Need-same-length-5
 same-length-5 c = search needs
 
 returns : tie.Need-returns
-returns c = let m = c .made-of .ensures in did-with (m .0) (did (c .before .before .before .before .before .before .before .before .before .before .before .read .ensures) (m .1) (m .2))
+returns c =
+    let made = c .before .before .before .before .before .before .before .before .before .before .before in
+    let kept = c .made-of .ensures in
+    did-with (kept .0) (did (made .read .ensures) (kept .1) (kept .2))
 
 pub read-spec : {M : Type 1} → statement M
 read-spec =

@@ -5,6 +5,9 @@ use borrow.Author.Needs.{needs}
 use Rattle.run_sheet.proofs.steps.step.Statement.{statement}
 use Rattle.run_sheet.proofs.steps.step.Tie as tie
 
+abbrev start : tie.After-kind-of → tie.Start
+start c = c .before .before .before .before .before .before
+
 kind-of-requires : tie.Need-kind-of-requires
 kind-of-requires c κs = search needs
 
@@ -66,7 +69,11 @@ same-length-5 : tie.Need-same-length-5
 same-length-5 c = search needs
 
 returns : tie.Need-returns
-returns c = did-kind (c .before .before .before .before .before .before .before .before .before .before .before .before .before .before .before .before .before .before .before .before .before .before .before .before .args .f) (sym (c .before .before .before .before .before .before .before .before .before .before .before .before .before .before .before .before .enum-told .given .1) ∙ c .before .before .before .before .before .before .before .before .before .before .before .before .before .before .before .before .before .before .kind-of .ensures) (c .before .before .before .before .before .before .before .before .before .before .read .ensures)
+returns c =
+    let made = c .before .before .before .before .before .before .before .before .before .before in
+    let told = made .before .before .before .before .before .before in
+    let kind = told .before .before in
+    did-kind (start kind .args .f) (sym (told .enum-told .given .1) ∙ kind .kind-of .ensures) (made .read .ensures)
 
 same-length-6 : tie.Need-same-length-6
 same-length-6 c = search needs
@@ -84,7 +91,11 @@ same-length-10 : tie.Need-same-length-10
 same-length-10 c = search needs
 
 returns-2 : tie.Need-returns-2
-returns-2 c = did-kind (c .before .before .before .before .before .before .before .before .before .before .before .before .before .before .before .before .before .before .before .before .before .before .before .before .args .f) (sym (c .before .before .before .before .before .before .before .before .before .before .before .before .before .before .before .before .enum-told2 .given .1) ∙ c .before .before .before .before .before .before .before .before .before .before .before .before .before .before .before .before .before .before .kind-of .ensures) (c .before .before .before .before .before .before .before .before .before .before .write .ensures)
+returns-2 c =
+    let made = c .before .before .before .before .before .before .before .before .before .before in
+    let told = made .before .before .before .before .before .before in
+    let kind = told .before .before in
+    did-kind (start kind .args .f) (sym (told .enum-told2 .given .1) ∙ kind .kind-of .ensures) (made .write .ensures)
 
 same-length-11 : tie.Need-same-length-11
 same-length-11 c = search needs
@@ -102,7 +113,11 @@ same-length-15 : tie.Need-same-length-15
 same-length-15 c = search needs
 
 returns-3 : tie.Need-returns-3
-returns-3 c = did-kind (c .before .before .before .before .before .before .before .before .before .before .before .before .before .before .before .before .before .before .before .before .before .before .args .f) (sym (c .before .before .before .before .before .before .before .before .before .before .before .before .before .before .enum-told3 .given .1) ∙ c .before .before .before .before .before .before .before .before .before .before .before .before .before .before .before .before .kind-of .ensures) (c .before .before .before .before .before .before .before .before .device-read .ensures)
+returns-3 c =
+    let made = c .before .before .before .before .before .before .before .before in
+    let told = made .before .before .before .before .before .before in
+    let kind = told .before .before in
+    did-kind (start kind .args .f) (sym (told .enum-told3 .given .1) ∙ kind .kind-of .ensures) (made .device-read .ensures)
 
 same-length-16 : tie.Need-same-length-16
 same-length-16 c = search needs
@@ -120,7 +135,11 @@ same-length-20 : tie.Need-same-length-20
 same-length-20 c = search needs
 
 returns-4 : tie.Need-returns-4
-returns-4 c = did-kind (c .before .before .before .before .before .before .before .before .before .before .before .before .before .before .before .before .before .before .before .before .before .before .args .f) (sym (c .before .before .before .before .before .before .before .before .before .before .before .before .before .before .enum-told4 .given .1) ∙ c .before .before .before .before .before .before .before .before .before .before .before .before .before .before .before .before .kind-of .ensures) (c .before .before .before .before .before .before .before .before .device-write .ensures)
+returns-4 c =
+    let made = c .before .before .before .before .before .before .before .before in
+    let told = made .before .before .before .before .before .before in
+    let kind = told .before .before in
+    did-kind (start kind .args .f) (sym (told .enum-told4 .given .1) ∙ kind .kind-of .ensures) (made .device-write .ensures)
 
 same-length-21 : tie.Need-same-length-21
 same-length-21 c = search needs
@@ -138,7 +157,11 @@ same-length-25 : tie.Need-same-length-25
 same-length-25 c = search needs
 
 returns-5 : tie.Need-returns-5
-returns-5 c = did-kind (c .before .before .before .before .before .before .before .before .before .before .before .before .before .before .before .before .before .before .before .before .args .f) (sym (c .before .before .before .before .before .before .before .before .before .before .before .before .enum-told5 .given .1) ∙ c .before .before .before .before .before .before .before .before .before .before .before .before .before .before .kind-of .ensures) (c .before .before .before .before .before .before .evict .ensures)
+returns-5 c =
+    let made = c .before .before .before .before .before .before in
+    let told = made .before .before .before .before .before .before in
+    let kind = told .before .before in
+    did-kind (start kind .args .f) (sym (told .enum-told5 .given .1) ∙ kind .kind-of .ensures) (made .evict .ensures)
 
 same-length-26 : tie.Need-same-length-26
 same-length-26 c = search needs
@@ -156,7 +179,11 @@ same-length-30 : tie.Need-same-length-30
 same-length-30 c = search needs
 
 returns-6 : tie.Need-returns-6
-returns-6 c = did-kind (c .before .before .before .before .before .before .before .before .before .before .before .before .before .before .before .before .args .f) (sym (c .before .before .before .before .before .before .before .before .enum-told6 .given .1) ∙ c .before .before .before .before .before .before .before .before .before .before .kind-of .ensures) (c .before .before .unmap .ensures)
+returns-6 c =
+    let made = c .before .before in
+    let told = made .before .before .before .before .before .before in
+    let kind = told .before .before in
+    did-kind (start kind .args .f) (sym (told .enum-told6 .given .1) ∙ kind .kind-of .ensures) (made .unmap .ensures)
 
 same-length-31 : tie.Need-same-length-31
 same-length-31 c = search needs
@@ -174,7 +201,11 @@ same-length-35 : tie.Need-same-length-35
 same-length-35 c = search needs
 
 returns-7 : tie.Need-returns-7
-returns-7 c = did-kind (c .before .before .before .before .before .before .before .before .before .before .before .before .before .before .before .before .args .f) (sym (c .before .before .before .before .before .before .before .before .enum-told7 .given .1) ∙ c .before .before .before .before .before .before .before .before .before .before .kind-of .ensures) (c .before .before .unmap2 .ensures)
+returns-7 c =
+    let made = c .before .before in
+    let told = made .before .before .before .before .before .before in
+    let kind = told .before .before in
+    did-kind (start kind .args .f) (sym (told .enum-told7 .given .1) ∙ kind .kind-of .ensures) (made .unmap2 .ensures)
 
 pub step-spec : {M : Type 1} → statement M
 step-spec =

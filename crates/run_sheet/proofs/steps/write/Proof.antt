@@ -27,7 +27,9 @@ same-length-5 : tie.Need-same-length-5
 same-length-5 c = search needs
 
 returns : tie.Need-returns
-returns c = did (c .before .before .before .before .before .before .before .before .before .before .write .ensures) refl refl
+returns c =
+    let made = c .before .before .before .before .before .before .before .before .before .before in
+    did (made .write .ensures) refl refl
 
 pub write-spec : {M : Type 1} → statement M
 write-spec =
