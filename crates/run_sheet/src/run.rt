@@ -9,11 +9,11 @@ use sheet_codec::format;
 use sheet_codec::text;
 ghost use mathlib.Core.Bool.{false};
 ghost use mathlib.Core.Path.{_≡_};
-ghost use Prim.Native.Nat.{_+_, _*_, _<_, _≤_};
+ghost use Prim.Native.Nat.{_+_, _*_, _^_, _<_, _≤_};
 ghost use lib.ListN.{length};
 ghost use Rattle.board.specs.Board.{board01};
 ghost use Rattle.machine.specs.State.{machineOf};
-ghost use Rattle.sheet_codec.specs.Format.{mostMappings, mostSteps, headBytes, mappingCount, stepPlace, isBroken, mappingCall, stepCall};
+ghost use Rattle.sheet_codec.specs.Format.{mostMappings, mostSteps, stepBytes, mappingCount, stepPlace, isBroken, mappingCall, stepCall};
 ghost use Rattle.sheet_codec.specs.Text.{lineBytes, mappingLineOf, stepLineOf};
 ghost use Rattle.run_sheet.specs.Run.{runFrom, advance, afterMappings, afterSteps, runSteps, closed, textBytes};
 ghost use Rattle.sheet_codec.specs.Put.{Put};
@@ -218,7 +218,7 @@ fn run_steps(
     text: &mut [u8],
     at: usize,
 ) -> Progress
-    requires { ⌜ (first ≡ stepPlace (now sheet) 0) × (first ≤ headBytes) × (count ≤ mostSteps)
+    requires { ⌜ (first ≡ stepPlace (now sheet) 0) × (first + stepBytes * count < 2 ^ 64) × (count ≤ mostSteps)
         × (at + lineBytes * count ≤ length (now text)) ⌝ }
     ensures { λ r. ⌜ Ran
         (afterSteps board01 (now (sheet .entry)) count (runFrom
@@ -274,7 +274,7 @@ fn step_one(
     text: &mut [u8],
     at: usize,
 ) -> Progress
-    requires { ⌜ (first ≡ stepPlace (now sheet) 0) × (first ≤ headBytes) × (k < mostSteps)
+    requires { ⌜ (first ≡ stepPlace (now sheet) 0) × (first + stepBytes * (k + 1) < 2 ^ 64)
         × (at + lineBytes ≤ length (now text)) ⌝ }
     ensures { λ r. ⌜ Ran
         (advance board01 (stepLineOf k) (stepCall board01 (now (sheet .entry)) k) (runFrom

@@ -26,6 +26,16 @@ dash = 45
 abbrev pub dot : ℕ
 dot = 46
 
+-- F, P and m
+abbrev pub flushLetter : ℕ
+flushLetter = 70
+
+abbrev pub purgeLetter : ℕ
+purgeLetter = 80
+
+abbrev pub mappingLetter : ℕ
+mappingLetter = 109
+
 -- ---- the room of a line and of its parts
 
 -- a number of 64 bits
@@ -62,8 +72,8 @@ decimal n = digits 10 (places 19 n) n
 unfoldable pub operationText : FrameOperation → List ℕ
 unfolding decimal
 operationText order.none = dash ∷ []
-operationText (order.flush f c) = 70 ∷ (decimal f ++ (dot ∷ decimal c))
-operationText (order.purge f c) = 80 ∷ (decimal f ++ (dot ∷ decimal c))
+operationText (order.flush f c) = flushLetter ∷ (decimal f ++ (dot ∷ decimal c))
+operationText (order.purge f c) = purgeLetter ∷ (decimal f ++ (dot ∷ decimal c))
 
 unfoldable pub wordText : Option ℕ → List ℕ
 unfolding decimal
@@ -90,7 +100,7 @@ wordOf (evict line) a = none
 -- `mk R`
 unfoldable pub mappingLine : ℕ → ℕ → List ℕ
 unfolding decimal
-mappingLine k number = 109 ∷ (decimal k ++ (space ∷ (decimal number ++ (newline ∷ []))))
+mappingLine k number = mappingLetter ∷ (decimal k ++ (space ∷ (decimal number ++ (newline ∷ []))))
 
 abbrev pub mappingLineOf : ℕ → Call → Answer → List ℕ
 mappingLineOf k call a = mappingLine k (numberOf (a .outcome))

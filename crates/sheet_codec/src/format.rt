@@ -3,10 +3,10 @@ use crate::Fields;
 use crate::Kind;
 use mapping::Mapping;
 ghost use mathlib.Core.Path.{_≡_};
-ghost use Prim.Native.Nat.{_+_, _<_, _≤_};
+ghost use Prim.Native.Nat.{_+_, _*_, _^_, _<_, _≤_};
 ghost use Rattle.bits.specs.Mask.{all};
 ghost use Rattle.machine.specs.State as call;
-ghost use Rattle.sheet_codec.specs.Format.{byteAt, twoBytes, fourBytes, mappingCount, stepCount, mappingPlace, mappingCall, mostMappings, mostSteps, countBytes, headBytes, stepPlace, fieldsAt, kindOf, allZero, keeps, stepKeeps, isBroken};
+ghost use Rattle.sheet_codec.specs.Format.{byteAt, twoBytes, fourBytes, mappingCount, stepCount, mappingPlace, mappingCall, mostMappings, countBytes, stepBytes, headBytes, stepPlace, fieldsAt, kindOf, allZero, keeps, stepKeeps, isBroken};
 
 // The most mappings and steps that a sheet has.
 pub const MOST_MAPPINGS: usize = 256;
@@ -20,8 +20,8 @@ pub const MAPPING_BYTES: usize = 5;
 
 pub const STEP_BYTES: usize = 9;
 
-// The bytes of the largest sheet, and those before its steps.
-pub const HEAD_BYTES: usize = COUNT_BYTES + MAPPING_BYTES * MOST_MAPPINGS + COUNT_BYTES;
+// The bytes of the largest sheet before its steps, and all its bytes.
+const HEAD_BYTES: usize = COUNT_BYTES + MAPPING_BYTES * MOST_MAPPINGS + COUNT_BYTES;
 
 pub const SHEET_BYTES: usize = HEAD_BYTES + STEP_BYTES * MOST_STEPS;
 
@@ -73,7 +73,7 @@ pub fn first_step(mappings: usize) -> usize
 
 // Whether the first count steps, which start at a place, keep to the format.
 fn steps_keep(sheet: &[u8], first: usize, count: usize) -> bool
-    requires { ⌜ (first ≡ stepPlace (now sheet) 0) × (first ≤ headBytes) × (count ≤ mostSteps) ⌝ }
+    requires { ⌜ (first ≡ stepPlace (now sheet) 0) × (first + stepBytes * count < 2 ^ 64) ⌝ }
     ensures { λ r. ⌜ r ≡ all count (stepKeeps (now (sheet .entry))) ⌝ }
 {
     let mut i = 0;
@@ -131,7 +131,7 @@ pub fn kind_of(n: u8) -> Kind
 
 // The fields of the step at a place.
 pub fn fields_at(sheet: &[u8], at: usize) -> Fields
-    requires { ⌜ at < 65536 ⌝ }
+    requires { ⌜ at + stepBytes < 2 ^ 64 ⌝ }
     ensures { λ r. ⌜ r ≡ fieldsAt (now (sheet .entry)) at ⌝ }
 {
     Fields {
@@ -159,7 +159,7 @@ pub fn mapping_at(sheet: &[u8], k: usize) -> Mapping
 
 // The number of four bytes at a place, low byte first.
 fn four_bytes(sheet: &[u8], at: usize) -> u32
-    requires { ⌜ at < 131072 ⌝ }
+    requires { ⌜ at + 4 < 2 ^ 64 ⌝ }
     ensures { λ r. ⌜ r ≡ fourBytes (now (sheet .entry)) at ⌝ }
 {
     let low = two_bytes(sheet, at) as u32;
@@ -169,7 +169,7 @@ fn four_bytes(sheet: &[u8], at: usize) -> u32
 
 // The number of two bytes at a place, low byte first.
 fn two_bytes(sheet: &[u8], at: usize) -> u16
-    requires { ⌜ at < 262144 ⌝ }
+    requires { ⌜ at + 2 < 2 ^ 64 ⌝ }
     ensures { λ r. ⌜ r ≡ twoBytes (now (sheet .entry)) at ⌝ }
 {
     let low = byte_at(sheet, at) as u16;

@@ -30,7 +30,8 @@ run-steps-requires c κs =
     let m = first .before .before .before .before .before .before in
     let h = start m .pre in
     let at = first .first-step .ensures in
-    (at .0 ∙ first-place _ _ (h .0), at .1, h .2, omega (arith, h, m .run-mappings .kept, m .run-mappings .ensures .text-is))
+    let text = m .run-mappings in
+    (at .0 ∙ first-place _ _ (h .0), omega (arith, at .1, h .2), h .2, omega (arith, h, text .kept, text .ensures .text-is))
 
 add-t40 : tie.Need-add-t40
 add-t40 c =

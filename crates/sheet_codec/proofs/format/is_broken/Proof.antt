@@ -64,7 +64,7 @@ returns-4 : tie.Need-returns-4
 returns-4 c = let at = c .before .before in goes-on (sheet at) (few-mappings at) (few-steps at) (omega (arith, length-of at))
 
 steps-keep-requires : tie.Need-steps-keep-requires
-steps-keep-requires c κs = let at = c .before .before in (first-is at, at .first-step .ensures .1, omega arith)
+steps-keep-requires c κs = let at = c .before .before in (first-is at, omega (arith, at .first-step .ensures .1))
 
 returns-5 : tie.Need-returns-5
 returns-5 c =
