@@ -1,0 +1,418 @@
+// Runs the machine on cases worked out by hand from document 01: each refusal beside others that stand earlier or later, and accepted calls.
+// Each line ends with parts of what was lent; src/show.rt says which.
+// What is lent goes by letters: r records, p protections, m memory, w the cache's words, t its tags, b the device's buffer.
+mod show;
+
+use libc::STDOUT_FILENO;
+use mapping::MappingList;
+use show::entry;
+ghost use Prim.Native.Nat.{_≤_};
+
+fn main() {
+    lengths();
+    buffers();
+    tags();
+    tables();
+    refused();
+    accepted();
+    last_frame();
+}
+
+// Frame 3 behind pages of colours 0 and 1: page 0 of space 0, and page 9 of space 1, which is read only.
+fn two_pages() -> MappingList {
+    let one = mapping::append(mapping::empty(), entry(0, 0, 3, 2));
+    mapping::append(one, entry(1, 9, 3, 1))
+}
+
+// ---- rows of the seven calls: wrong lengths, broken rules
+
+// The seven calls in a row, none with the list of another: on space 0, frame 3, offset 0 and line 0, which nothing but the case refuses, and again on space 16, frame 64, offset 64 and line 64.
+// A case is the lengths of what is lent, the tag of line 40, and the flag of frame 63.
+fn tried(
+    list: MappingList,
+    r: usize,
+    p: usize,
+    m: usize,
+    w: usize,
+    t: usize,
+    b: usize,
+    tag: u8,
+    flag: u32,
+)
+    requires { ⌜ (r ≤ 193) × (p ≤ 257) × (m ≤ 4097) × (w ≤ 513) × (t ≤ 65) × (b ≤ 65) ⌝ }
+{
+    show::case(r, p, m, w, t, b, tag, flag);
+    row(list, r, p, m, w, t, b, tag, flag, 0, 3, 0);
+    row(list, r, p, m, w, t, b, tag, flag, 16, 64, 64);
+}
+
+// Frame 3 is dirty in colour 0 by line 0. Protections are nines; memory has words of 70, the cache of 80, the buffer of 90.
+fn row(
+    list: MappingList,
+    r: usize,
+    p: usize,
+    m: usize,
+    w: usize,
+    t: usize,
+    b: usize,
+    tag: u8,
+    flag: u32,
+    space: u8,
+    frame: u8,
+    place: usize,
+)
+    requires { ⌜ (r ≤ 193) × (p ≤ 257) × (m ≤ 4097) × (w ≤ 513) × (t ≤ 65) × (b ≤ 65) ⌝ }
+{
+    let mut records = [0u32; 193];
+    let mut protections = [9u8; 257];
+    let mut memory = [70u32; 4097];
+    let mut words = [80u32; 513];
+    let mut tags = [0u8; 65];
+    let mut buffer = [90u32; 65];
+    records[9] = 1;
+    records[11] = 1;
+    records[191] = flag;
+    tags[0] = 132;
+    tags[40] = tag;
+    let r = &mut records[0..r];
+    let p = &mut protections[0..p];
+    let m = &mut memory[0..m];
+    let w = &mut words[0..w];
+    let t = &mut tags[0..t];
+    let b = &mut buffer[0..b];
+    show::map(list, r, p, m, w, t, entry(space, 1, frame, 1));
+    show::unmap(list, r, p, m, w, t, space, 0);
+    show::read(list, r, p, m, w, t, space, 0, place);
+    show::write(list, r, p, m, w, t, space, 0, place, 5);
+    show::device_read(list, r, p, m, w, t, b, frame);
+    show::device_write(list, r, p, m, w, t, b, frame);
+    show::evict(list, r, p, m, w, t, place);
+    show::parts(r, p, m, w, t);
+}
+
+// Memory, cache words and tags, each one short and one long; then the manager's own alone, and all at once.
+fn lengths() {
+    io::write_all(STDOUT_FILENO, b"lengths\n");
+    let list = two_pages();
+    tried(list, 192, 256, 4096, 512, 64, 64, 0, 0);
+    tried(list, 192, 256, 4095, 512, 64, 64, 0, 0);
+    tried(list, 192, 256, 4097, 512, 64, 64, 0, 0);
+    tried(list, 192, 256, 4096, 511, 64, 64, 0, 0);
+    tried(list, 192, 256, 4096, 513, 64, 64, 0, 0);
+    tried(list, 192, 256, 4096, 512, 63, 64, 0, 0);
+    tried(list, 192, 256, 4096, 512, 65, 64, 0, 0);
+    tried(list, 193, 257, 4096, 512, 64, 64, 0, 0);
+    tried(list, 191, 255, 4095, 511, 63, 63, 0, 0);
+}
+
+// Only the transfers are lent the buffer.
+fn buffers() {
+    io::write_all(STDOUT_FILENO, b"buffers\n");
+    let list = two_pages();
+    tried(list, 192, 256, 4096, 512, 64, 63, 0, 0);
+    tried(list, 192, 256, 4096, 512, 64, 65, 0, 0);
+}
+
+// Tags that keep the rules, and tags that break them; then beside lengths of the manager and of the machine.
+fn tags() {
+    io::write_all(STDOUT_FILENO, b"tags\n");
+    let list = two_pages();
+    tried(list, 192, 256, 4096, 512, 64, 64, 64, 0);
+    tried(list, 192, 256, 4096, 512, 64, 64, 192, 0);
+    tried(list, 192, 256, 4096, 512, 64, 64, 65, 0);
+    tried(list, 192, 256, 4096, 512, 64, 64, 128, 0);
+    tried(list, 192, 256, 4096, 512, 64, 64, 193, 0);
+    tried(list, 192, 256, 4096, 512, 64, 64, 255, 0);
+    tried(list, 191, 256, 4096, 512, 64, 64, 65, 0);
+    tried(list, 192, 256, 4096, 513, 64, 64, 65, 0);
+}
+
+// A record whose flag is 2, a list with a pair twice, one with a count of 257; then beside a length of the machine.
+fn tables() {
+    io::write_all(STDOUT_FILENO, b"tables\n");
+    let list = two_pages();
+    let double = mapping::append(list, entry(0, 0, 5, 2));
+    let mut over = list;
+    over.count = 257;
+    tried(list, 192, 256, 4096, 512, 64, 64, 0, 2);
+    tried(double, 192, 256, 4096, 512, 64, 64, 0, 0);
+    tried(over, 192, 256, 4096, 512, 64, 64, 0, 0);
+    tried(list, 192, 256, 4095, 512, 64, 64, 0, 2);
+}
+
+// ---- other refusals, on what the rows are given
+
+fn refused() {
+    let mut r = [0u32; 192];
+    let mut p = [9u8; 256];
+    let mut m = [70u32; 4096];
+    let mut w = [80u32; 512];
+    let mut t = [0u8; 64];
+    r[9] = 1;
+    r[11] = 1;
+    t[0] = 132;
+    let list = two_pages();
+    offsets(list, &mut r, &mut p, &mut m, &mut w, &mut t);
+    handed_page(list, &mut r, &mut p, &mut m, &mut w, &mut t);
+    handed_map(list, &r, &mut p, &m, &w, &t);
+    full(&r, &mut p, &m, &w, &t);
+}
+
+// An offset of 64 by itself, and beside 8 and 10, which stand later.
+fn offsets(
+    list: MappingList,
+    r: &mut [u32; 192],
+    p: &mut [u8; 256],
+    m: &mut [u32; 4096],
+    w: &mut [u32; 512],
+    t: &mut [u8; 64],
+) {
+    io::write_all(STDOUT_FILENO, b"offsets\n");
+    show::read(list, r, p, m, w, t, 0, 0, 64);
+    show::read(list, r, p, m, w, t, 0, 5, 64);
+    show::write(list, r, p, m, w, t, 0, 0, 64, 5);
+    show::write(list, r, p, m, w, t, 0, 5, 64, 5);
+    show::write(list, r, p, m, w, t, 1, 9, 64, 5);
+    show::left(r, p, m, w, t);
+}
+
+// The manager's refusals: each by itself, and the first of several.
+fn handed_page(
+    list: MappingList,
+    r: &mut [u32; 192],
+    p: &mut [u8; 256],
+    m: &mut [u32; 4096],
+    w: &mut [u32; 512],
+    t: &mut [u8; 64],
+) {
+    io::write_all(STDOUT_FILENO, b"handed on\n");
+    show::unmap(list, r, p, m, w, t, 0, 1024);
+    show::unmap(list, r, p, m, w, t, 1, 0);
+    show::read(list, r, p, m, w, t, 1, 0, 63);
+    show::write(list, r, p, m, w, t, 1, 0, 63, 5);
+    show::write(list, r, p, m, w, t, 1, 9, 63, 5);
+    show::left(r, p, m, w, t);
+}
+
+fn handed_map(
+    list: MappingList,
+    r: &[u32; 192],
+    p: &mut [u8; 256],
+    m: &[u32; 4096],
+    w: &[u32; 512],
+    t: &[u8; 64],
+) {
+    show::map(list, r, p, m, w, t, entry(0, 1024, 3, 1));
+    show::map(list, r, p, m, w, t, entry(0, 1, 64, 1));
+    show::map(list, r, p, m, w, t, entry(0, 1, 3, 0));
+    show::map(list, r, p, m, w, t, entry(0, 1, 3, 3));
+    show::map(list, r, p, m, w, t, entry(0, 0, 5, 2));
+    show::map(list, r, p, m, w, t, entry(0, 0, 64, 3));
+    show::map(list, r, p, m, w, t, entry(0, 0, 3, 3));
+    show::left(r, p, m, w, t);
+}
+
+// The full list: a mapped pair, and a fresh one.
+fn full(r: &[u32; 192], p: &mut [u8; 256], m: &[u32; 4096], w: &[u32; 512], t: &[u8; 64]) {
+    let all = pages(256);
+    show::map(all, r, p, m, w, t, entry(0, 255, 3, 1));
+    show::map(all, r, p, m, w, t, entry(0, 256, 3, 1));
+    show::left(r, p, m, w, t);
+}
+
+// The list of the first n pages of space 0, all on frame 3.
+fn pages(n: u16) -> MappingList {
+    let mut list = mapping::empty();
+    let mut page: u16 = 0;
+    while page < n {
+        list = mapping::append(list, entry(0, page, 3, 2));
+        page += 1;
+    }
+    list
+}
+
+// ---- accepted calls: memory starts as 64 f + o at offset o of frame f, cache words as 7, tags and records as 0
+
+fn accepted() {
+    let mut r = [0u32; 192];
+    let mut p = [9u8; 256];
+    let mut m = [0u32; 4096];
+    let mut w = [7u32; 512];
+    let mut t = [0u8; 64];
+    let mut b = [0u32; 64];
+    show::count_up(&mut m, 0);
+    show::count_up(&mut b, 1000);
+    let two = mapped(&r, &mut p, &m, &w, &t);
+    accesses(two, &mut r, &mut p, &mut m, &mut w, &mut t);
+    writes_in(two, &mut r, &mut p, &mut m, &mut w, &mut t, &b);
+    reads_out(two, &mut r, &mut p, &mut m, &mut w, &mut t);
+    evictions(two, &mut r, &mut p, &mut m, &mut w, &mut t);
+    let left = unmapped(two, &mut r, &mut p, &mut m, &mut w, &mut t);
+    aligned(left, &mut r, &mut p, &mut m, &mut w, &mut t);
+}
+
+// The two pages, by the machine.
+fn mapped(
+    r: &[u32; 192],
+    p: &mut [u8; 256],
+    m: &[u32; 4096],
+    w: &[u32; 512],
+    t: &[u8; 64],
+) -> MappingList {
+    io::write_all(STDOUT_FILENO, b"accesses\n");
+    let one = show::map(mapping::empty(), r, p, m, w, t, entry(0, 0, 3, 2));
+    show::left(r, p, m, w, t);
+    let two = show::map(one, r, p, m, w, t, entry(1, 9, 3, 1));
+    show::left(r, p, m, w, t);
+    two
+}
+
+// A miss; a hit, which does not see what memory holds meanwhile; a write; a read through the other colour; a write through rights 1.
+fn accesses(
+    list: MappingList,
+    r: &mut [u32; 192],
+    p: &mut [u8; 256],
+    m: &mut [u32; 4096],
+    w: &mut [u32; 512],
+    t: &mut [u8; 64],
+) {
+    show::read(list, r, p, m, w, t, 1, 9, 0);
+    show::left(r, p, m, w, t);
+    m[192] = 99;
+    show::read(list, r, p, m, w, t, 1, 9, 0);
+    show::left(r, p, m, w, t);
+    m[192] = 192;
+    show::write(list, r, p, m, w, t, 0, 0, 0, 17);
+    show::left(r, p, m, w, t);
+    show::read(list, r, p, m, w, t, 1, 9, 0);
+    show::left(r, p, m, w, t);
+    show::write(list, r, p, m, w, t, 1, 9, 0, 5);
+    show::left(r, p, m, w, t);
+}
+
+// A device write over a dirty page, its neighbours in memory, and a read that no longer finds the old line.
+fn writes_in(
+    list: MappingList,
+    r: &mut [u32; 192],
+    p: &mut [u8; 256],
+    m: &mut [u32; 4096],
+    w: &mut [u32; 512],
+    t: &mut [u8; 64],
+    b: &[u32; 64],
+) {
+    io::write_all(STDOUT_FILENO, b"transfers\n");
+    show::write(list, r, p, m, w, t, 0, 0, 0, 18);
+    show::left(r, p, m, w, t);
+    show::device_write(list, r, p, m, w, t, b, 3);
+    show::left(r, p, m, w, t);
+    show::word(b"memory", m, 191);
+    show::word(b"memory", m, 255);
+    show::word(b"memory", m, 256);
+    show::word(b"buffer", b, 63);
+    show::read(list, r, p, m, w, t, 1, 9, 0);
+    show::left(r, p, m, w, t);
+}
+
+// A device read of a dirty page.
+fn reads_out(
+    list: MappingList,
+    r: &mut [u32; 192],
+    p: &mut [u8; 256],
+    m: &mut [u32; 4096],
+    w: &mut [u32; 512],
+    t: &mut [u8; 64],
+) {
+    let mut b = [90u32; 64];
+    show::write(list, r, p, m, w, t, 0, 0, 0, 19);
+    show::left(r, p, m, w, t);
+    show::device_read(list, r, p, m, w, t, &mut b, 3);
+    show::left(r, p, m, w, t);
+    show::word(b"buffer", &b, 1);
+    show::word(b"buffer", &b, 63);
+}
+
+// A dirty line, with protections that were spoilt before; the same line, now empty, with a word changed in it; and a clean line older than memory.
+fn evictions(
+    list: MappingList,
+    r: &mut [u32; 192],
+    p: &mut [u8; 256],
+    m: &mut [u32; 4096],
+    w: &mut [u32; 512],
+    t: &mut [u8; 64],
+) {
+    io::write_all(STDOUT_FILENO, b"evictions\n");
+    show::write(list, r, p, m, w, t, 0, 0, 0, 20);
+    show::left(r, p, m, w, t);
+    p[0] = 9;
+    p[2] = 9;
+    show::evict(list, r, p, m, w, t, 0);
+    show::left(r, p, m, w, t);
+    w[0] = 33;
+    show::evict(list, r, p, m, w, t, 0);
+    show::left(r, p, m, w, t);
+    show::evict(list, r, p, m, w, t, 8);
+    show::left(r, p, m, w, t);
+}
+
+// A page unmapped with a word in the cache, and its frame mapped again in the other colour.
+fn unmapped(
+    list: MappingList,
+    r: &mut [u32; 192],
+    p: &mut [u8; 256],
+    m: &mut [u32; 4096],
+    w: &mut [u32; 512],
+    t: &mut [u8; 64],
+) -> MappingList {
+    io::write_all(STDOUT_FILENO, b"unmapped\n");
+    show::write(list, r, p, m, w, t, 0, 0, 0, 21);
+    show::left(r, p, m, w, t);
+    let one = show::unmap(list, r, p, m, w, t, 0, 0);
+    show::left(r, p, m, w, t);
+    show::read(one, r, p, m, w, t, 0, 0, 0);
+    show::left(r, p, m, w, t);
+    let two = show::map(one, r, p, m, w, t, entry(0, 17, 3, 2));
+    show::left(r, p, m, w, t);
+    show::read(two, r, p, m, w, t, 0, 17, 0);
+    show::left(r, p, m, w, t);
+    two
+}
+
+// Two pages of one colour; and a page of the same colour on frame 5, whose miss writes the dirty line of frame 3 back.
+fn aligned(
+    list: MappingList,
+    r: &mut [u32; 192],
+    p: &mut [u8; 256],
+    m: &mut [u32; 4096],
+    w: &mut [u32; 512],
+    t: &mut [u8; 64],
+) {
+    io::write_all(STDOUT_FILENO, b"aligned\n");
+    show::write(list, r, p, m, w, t, 0, 17, 0, 22);
+    show::left(r, p, m, w, t);
+    show::read(list, r, p, m, w, t, 1, 9, 0);
+    show::left(r, p, m, w, t);
+    let three = show::map(list, r, p, m, w, t, entry(0, 1, 5, 2));
+    show::left(r, p, m, w, t);
+    show::read(three, r, p, m, w, t, 0, 1, 0);
+    show::left(r, p, m, w, t);
+}
+
+// Frame 63 in the last line: clean by tag 64, and found there; dirty by tag 192, and written back. A read of offset 63 and a line of 63 are accepted.
+fn last_frame() {
+    io::write_all(STDOUT_FILENO, b"last frame\n");
+    let mut r = [0u32; 192];
+    let mut p = [9u8; 256];
+    let mut m = [70u32; 4096];
+    let mut w = [80u32; 512];
+    let mut t = [0u8; 64];
+    let list = mapping::append(mapping::empty(), entry(15, 1023, 63, 2));
+    t[63] = 64;
+    show::read(list, &mut r, &mut p, &mut m, &mut w, &mut t, 15, 1023, 63);
+    show::left(&r, &p, &m, &w, &t);
+    t[63] = 192;
+    show::evict(list, &r, &mut p, &mut m, &w, &mut t, 63);
+    show::left(&r, &p, &m, &w, &t);
+    show::word(b"memory", &m, 4087);
+    show::word(b"memory", &m, 4088);
+    show::word(b"memory", &m, 4095);
+}

@@ -1,0 +1,354 @@
+// Calls of the machine, and text on each: the refusal, or 0, the two orders and the word read; of a transfer also b, the first word of the buffer.
+// Then `left` ends the line with parts of what the calls left: p the first three protections, r the record of frame 3, m the frame's first word in
+// memory, l tag and first word of line 0, and of line 8, where the frame's first words lie in colours 0 and 1.
+use libc::STDOUT_FILENO;
+use machine::Loaded;
+use manager::Answer;
+use manager::FrameOps;
+use mapping::Mapping;
+use mapping::MappingList;
+use page_model::Op;
+
+// A mapping by its fields.
+pub fn entry(space: u8, page: u16, frame: u8, rights: u8) -> Mapping {
+    Mapping {
+        space,
+        page,
+        frame,
+        rights,
+    }
+}
+
+// Maps a page, and hands back the list.
+pub fn map(
+    list: MappingList,
+    records: &[u32],
+    protections: &mut [u8],
+    memory: &[u32],
+    words: &[u32],
+    tags: &[u8],
+    m: Mapping,
+) -> MappingList {
+    let listed = machine::map(list, records, protections, memory, words, tags, m);
+    let answer = listed.answer;
+    let next = listed.list;
+    io::write_all(STDOUT_FILENO, b"map ");
+    told(answer);
+    apart();
+    next
+}
+
+// Unmaps a page, and hands back the list.
+pub fn unmap(
+    list: MappingList,
+    records: &[u32],
+    protections: &mut [u8],
+    memory: &[u32],
+    words: &[u32],
+    tags: &[u8],
+    space: u8,
+    page: u16,
+) -> MappingList {
+    let listed = machine::unmap(list, records, protections, memory, words, tags, space, page);
+    let answer = listed.answer;
+    let next = listed.list;
+    io::write_all(STDOUT_FILENO, b"unmap ");
+    told(answer);
+    apart();
+    next
+}
+
+// The processor reads a word.
+pub fn read(
+    list: MappingList,
+    records: &mut [u32],
+    protections: &mut [u8],
+    memory: &mut [u32],
+    words: &mut [u32],
+    tags: &mut [u8],
+    space: u8,
+    page: u16,
+    offset: usize,
+) {
+    let loaded = machine::read(
+        list,
+        records,
+        protections,
+        memory,
+        words,
+        tags,
+        space,
+        page,
+        offset,
+    );
+    io::write_all(STDOUT_FILENO, b"read ");
+    match loaded {
+        Loaded::Refused(number) => refused(number),
+        Loaded::Word(orders, word) => found(orders, word),
+    }
+    apart();
+}
+
+// The processor writes a word.
+pub fn write(
+    list: MappingList,
+    records: &mut [u32],
+    protections: &mut [u8],
+    memory: &mut [u32],
+    words: &mut [u32],
+    tags: &mut [u8],
+    space: u8,
+    page: u16,
+    offset: usize,
+    word: u32,
+) {
+    let answer = machine::write(
+        list,
+        records,
+        protections,
+        memory,
+        words,
+        tags,
+        space,
+        page,
+        offset,
+        word,
+    );
+    io::write_all(STDOUT_FILENO, b"write ");
+    told(answer);
+    apart();
+}
+
+// A device reads a frame.
+pub fn device_read(
+    list: MappingList,
+    records: &mut [u32],
+    protections: &mut [u8],
+    memory: &mut [u32],
+    words: &[u32],
+    tags: &mut [u8],
+    buffer: &mut [u32],
+    frame: u8,
+) {
+    let answer = machine::device_read(
+        list,
+        records,
+        protections,
+        memory,
+        words,
+        tags,
+        buffer,
+        frame,
+    );
+    io::write_all(STDOUT_FILENO, b"device read ");
+    told(answer);
+    first(buffer);
+    apart();
+}
+
+// A device writes a frame.
+pub fn device_write(
+    list: MappingList,
+    records: &mut [u32],
+    protections: &mut [u8],
+    memory: &mut [u32],
+    words: &[u32],
+    tags: &mut [u8],
+    buffer: &[u32],
+    frame: u8,
+) {
+    let answer = machine::device_write(
+        list,
+        records,
+        protections,
+        memory,
+        words,
+        tags,
+        buffer,
+        frame,
+    );
+    io::write_all(STDOUT_FILENO, b"device write ");
+    told(answer);
+    first(buffer);
+    apart();
+}
+
+// A line is turned out.
+pub fn evict(
+    list: MappingList,
+    records: &[u32],
+    protections: &mut [u8],
+    memory: &mut [u32],
+    words: &[u32],
+    tags: &mut [u8],
+    line: usize,
+) {
+    let answer = machine::evict(list, records, protections, memory, words, tags, line);
+    io::write_all(STDOUT_FILENO, b"evict ");
+    told(answer);
+    apart();
+}
+
+// What the next two rows are given: the six lengths, a tag and a flag.
+pub fn case(
+    records: usize,
+    protections: usize,
+    memory: usize,
+    words: usize,
+    tags: usize,
+    buffer: usize,
+    tag: u8,
+    flag: u32,
+) {
+    io::write_all(STDOUT_FILENO, b"with");
+    spaced(records as u64);
+    spaced(protections as u64);
+    spaced(memory as u64);
+    spaced(words as u64);
+    spaced(tags as u64);
+    spaced(buffer as u64);
+    spaced(wide(tag));
+    spaced(long(flag));
+    end();
+}
+
+// A word at a place of memory or of a buffer.
+pub fn word(name: &[u8], s: &[u32], at: usize) {
+    io::write_all(STDOUT_FILENO, name);
+    spaced(at as u64);
+    if at < s.len() {
+        spaced(long(s[at]));
+    }
+    end();
+}
+
+// Fills a slice with the numbers from first on.
+pub fn count_up(to: &mut [u32], first: u32) {
+    let mut n = first;
+    let mut i = 0;
+    while i < to.len() {
+        to[i] = n;
+        n = std::num::wrapping_add_u32(n, 1);
+        i += 1;
+    }
+}
+
+fn told(answer: Answer) {
+    match answer {
+        Answer::Refused(n) => refused(n),
+        Answer::Accepted(orders) => both(orders),
+    }
+}
+
+fn refused(n: u8) {
+    io::print_decimal(STDOUT_FILENO, wide(n));
+}
+
+fn found(orders: FrameOps, word: u32) {
+    both(orders);
+    spaced(long(word));
+}
+
+fn both(orders: FrameOps) {
+    let ops = orders.ops;
+    let first = ops.first;
+    let second = ops.second;
+    io::write_all(STDOUT_FILENO, b"0");
+    order(orders.frame, first);
+    order(orders.frame, second);
+}
+
+// An order, with its frame and colour.
+fn order(frame: u8, op: Op) {
+    match op {
+        Op::None => none(),
+        Op::Flush(colour) => on(b'F', frame, colour),
+        Op::Purge(colour) => on(b'P', frame, colour),
+    }
+}
+
+fn none() {
+    io::write_all(STDOUT_FILENO, b" -");
+}
+
+fn on(letter: u8, frame: u8, colour: usize) {
+    let start = [b' ', letter];
+    io::write_all(STDOUT_FILENO, &start);
+    io::print_decimal(STDOUT_FILENO, wide(frame));
+    io::write_all(STDOUT_FILENO, b".");
+    io::print_decimal(STDOUT_FILENO, colour as u64);
+}
+
+// Ends a line with what the calls left.
+pub fn left(
+    records: &[u32; 192],
+    protections: &[u8; 256],
+    memory: &[u32; 4096],
+    words: &[u32; 512],
+    tags: &[u8; 64],
+) {
+    parts(records, protections, memory, words, tags);
+}
+
+// The same of other lengths.
+pub fn parts(records: &[u32], protections: &[u8], memory: &[u32], words: &[u32], tags: &[u8]) {
+    io::write_all(STDOUT_FILENO, b"p");
+    if protections.len() > 2 {
+        spaced(wide(protections[0]));
+        spaced(wide(protections[1]));
+        spaced(wide(protections[2]));
+    }
+    io::write_all(STDOUT_FILENO, b" r");
+    if records.len() > 11 {
+        spaced(long(records[9]));
+        spaced(long(records[10]));
+        spaced(long(records[11]));
+    }
+    io::write_all(STDOUT_FILENO, b" m");
+    if memory.len() > 192 {
+        spaced(long(memory[192]));
+    }
+    line(words, tags, 0, 0);
+    line(words, tags, 8, 64);
+    end();
+}
+
+// A line's tag, and a word of the cache.
+fn line(words: &[u32], tags: &[u8], line: usize, at: usize) {
+    io::write_all(STDOUT_FILENO, b" l");
+    if line < tags.len() {
+        spaced(wide(tags[line]));
+    }
+    if at < words.len() {
+        spaced(long(words[at]));
+    }
+}
+
+// The first word of a device's buffer.
+fn first(buffer: &[u32]) {
+    io::write_all(STDOUT_FILENO, b" b");
+    if buffer.len() > 0 {
+        spaced(long(buffer[0]));
+    }
+}
+
+fn spaced(n: u64) {
+    io::write_all(STDOUT_FILENO, b" ");
+    io::print_decimal(STDOUT_FILENO, n);
+}
+
+fn apart() {
+    io::write_all(STDOUT_FILENO, b"; ");
+}
+
+fn end() {
+    io::write_all(STDOUT_FILENO, b"\n");
+}
+
+fn wide(b: u8) -> u64 {
+    b as u64
+}
+
+fn long(word: u32) -> u64 {
+    word as u64
+}
