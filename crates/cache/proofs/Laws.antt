@@ -5,6 +5,6 @@ pub mod WriteBack
 pub mod Evict
 pub mod Fill
 pub mod Sweep
-pub mod Orders
+pub mod Operations
 pub mod Access
 pub mod Device

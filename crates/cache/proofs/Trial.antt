@@ -5,7 +5,7 @@ use Rattle.board.specs.Board.{Regular}
 use Rattle.cache.specs.Cache.{writeWord}
 use Rattle.cache.specs.Trial.{WrittenAndFlushed, PurgedNamesNone}
 use Rattle.cache.proofs.Laws.Access.{writeWord-kept, writeWord-tag-same, writeWord-word-same}
-use Rattle.cache.proofs.Laws.Orders.{flush-memory-same, purge-names}
+use Rattle.cache.proofs.Laws.Operations.{flush-memory-same, purge-names}
 
 module _ (b : Board) (reg : Regular b) where
   pub written-and-flushed : WrittenAndFlushed b

@@ -4,5 +4,5 @@ pub mod access;
 pub mod copy;
 pub mod device;
 pub mod line;
-pub mod order;
+pub mod operation;
 pub mod tag;

@@ -55,7 +55,7 @@ pub fn flush(
     requires { ⌜ (frame < board01 .frames) × (colour < board01 .colours) ⌝ }
 {
     if cache::tag::tags_keep_rules(BOARD01, tags) {
-        cache::order::flush(BOARD01, memory, words, tags, frame, colour);
+        cache::operation::flush(BOARD01, memory, words, tags, frame, colour);
         io::write_all(STDOUT_FILENO, b"flush ");
         two(frame as u64, colour as u64);
     }
@@ -65,7 +65,7 @@ pub fn flush(
 pub fn purge(tags: &mut [u8; 64], frame: usize, colour: usize)
     requires { ⌜ (frame < board01 .frames) × (colour < board01 .colours) ⌝ }
 {
-    cache::order::purge(BOARD01, tags, frame, colour);
+    cache::operation::purge(BOARD01, tags, frame, colour);
     io::write_all(STDOUT_FILENO, b"purge ");
     two(frame as u64, colour as u64);
 }

@@ -23,7 +23,7 @@ use Rattle.machine.specs.State.{State, state}
 use Rattle.consistency.specs.Cacheless.{Cacheless}
 use Rattle.consistency.proofs.Agrees.{Agrees}
 use Rattle.consistency.proofs.Invariant.{Sound, Invariant}
-use Rattle.consistency.proofs.Orders.{statesAfter}
+use Rattle.consistency.proofs.Operations.{statesAfter}
 use Rattle.consistency.proofs.Weaker.{weaker, weaken}
 
 -- protections filled anew leave the tables sound

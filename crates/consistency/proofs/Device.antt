@@ -24,11 +24,11 @@ use Rattle.machine.specs.Refusals.{causes}
 use Rattle.machine.specs.State.{State, deviceRead, deviceWrite}
 use Rattle.machine.specs.Step.{accept}
 use Rattle.machine.proofs.StepLaws.{deviceRead-ready, deviceWrite-ready}
-use Rattle.consistency.specs.Cacheless.{Cacheless, accepted}
+use Rattle.consistency.specs.Cacheless.{Cacheless, afterAccepted}
 use Rattle.consistency.proofs.Agrees.{Tagged, Agrees, Untouched, emptied, untouched-tagged, untouched-agrees}
 use Rattle.consistency.proofs.Commit.{commit-invariant}
 use Rattle.consistency.proofs.Invariant.{Invariant, Taken}
-use Rattle.consistency.proofs.Orders.{ordered, statesAfter, ordered-kept, ordered-other, ordered-tagged, ordered-agrees}
+use Rattle.consistency.proofs.Operations.{ordered, statesAfter, ordered-kept, ordered-other, ordered-tagged, ordered-agrees}
 use Rattle.consistency.proofs.Table.{device-read-clean, device-write-clean}
 
 module _ (b : Board) (reg : Regular b) (st : State) (m : Cacheless) (inv : Invariant b st m) (f : ℕ) (hf : f < b .frames) where
@@ -64,7 +64,7 @@ module _ (b : Board) (reg : Regular b) (st : State) (m : Cacheless) (inv : Invar
       ∙ cleaned-own .current .in-memory o ho (λ c hc d. device-read-clean r c (cleaned-own .tagged .dirty-colour c o hc ho d)))
 
   read-taken : (buffer : List ℕ) → Taken b st m (deviceRead f buffer)
-  unfolding accept accepted cleaned r
+  unfolding accept afterAccepted cleaned r
   read-taken buffer = (read-words, commit-invariant b st m inv f hf table.deviceRead cleaned (m .word) cleaned-kept cleaned-own cleaned-other)
 
   -- ---- device to memory
@@ -127,7 +127,7 @@ module _ (b : Board) (reg : Regular b) (st : State) (m : Cacheless) (inv : Invar
         (device-current-other b reg f hf buffer full purged purged-kept g (m .word g) ne (a .current)) a
 
     write-taken : Taken b st m (deviceWrite f buffer)
-    unfolding accept accepted purged put words r
+    unfolding accept afterAccepted purged put words r
     write-taken = (
       tt,
       commit-invariant b st m inv f hf table.deviceWrite put words (deviceWrite-kept b reg f hf purged purged-kept buffer full)

@@ -13,7 +13,7 @@ use Rattle.machine.specs.Refusals.{causes}
 use Rattle.machine.specs.State.{State, state, evict}
 use Rattle.machine.specs.Step.{accept}
 use Rattle.machine.proofs.StepLaws.{evict-ready}
-use Rattle.consistency.specs.Cacheless.{Cacheless, accepted}
+use Rattle.consistency.specs.Cacheless.{Cacheless, afterAccepted}
 use Rattle.consistency.proofs.Agrees.{emptied, untouched-agrees}
 use Rattle.consistency.proofs.Commit.{refill-sound}
 use Rattle.consistency.proofs.Invariant.{Invariant, Taken}
@@ -34,5 +34,5 @@ module _ (b : Board) (reg : Regular b) (st : State) (m : Cacheless) (inv : Invar
       }
 
   pub evict-taken : firstRefusal (causes b st (evict line)) ≡ 0 → Taken b st m (evict line)
-  unfolding accept accepted
+  unfolding accept afterAccepted
   evict-taken e = (tt, evict-invariant (evict-ready b st line e .1))

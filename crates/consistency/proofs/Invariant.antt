@@ -14,7 +14,7 @@ use Rattle.manager.specs.Tables.{Tables, recordWords, recordAt}
 use Rattle.cache.specs.Store.{WellFormed}
 use Rattle.machine.specs.State.{State, Call}
 use Rattle.machine.specs.Step.{accept}
-use Rattle.consistency.specs.Cacheless.{Cacheless, accepted}
+use Rattle.consistency.specs.Cacheless.{Cacheless, afterAccepted}
 use Rattle.consistency.specs.Demand3.{Finds}
 use Rattle.consistency.proofs.Agrees.{Agrees}
 
@@ -39,4 +39,4 @@ pub record Invariant (b : Board) (st : State) (m : Cacheless) : Type 0 where
 
 -- an accepted call finds its words and keeps the invariant
 abbrev pub Taken : Board → State → Cacheless → Call → Type 0
-Taken b st m call = Finds b m call (accept b st call .answer) × Invariant b (accept b st call .after) (accepted m call)
+Taken b st m call = Finds b m call (accept b st call .answer) × Invariant b (accept b st call .after) (afterAccepted m call)

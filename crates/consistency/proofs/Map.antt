@@ -26,7 +26,7 @@ use Rattle.machine.specs.Refusals.{storeLengths, causes}
 use Rattle.machine.specs.State.{State, state, map, unmap}
 use Rattle.machine.specs.Step.{accept}
 use Rattle.machine.proofs.StepLaws.{clear, lengths-clear, tables-clear}
-use Rattle.consistency.specs.Cacheless.{Cacheless, cacheless, replaced, accepted}
+use Rattle.consistency.specs.Cacheless.{Cacheless, cacheless, replaced, afterAccepted}
 use Rattle.consistency.proofs.Commit.{refill-sound}
 use Rattle.consistency.proofs.Invariant.{Sound, frameIn, Invariant, Taken}
 use Rattle.consistency.proofs.Refused.{none-refused}
@@ -90,7 +90,7 @@ module _ (b : Board) (st : State) (m : Cacheless) (inv : Invariant b st m) where
     map-kept = relisted (append (st .tables .list) mp) (replaced (m .frame) (mp .space) (mp .page) (some (mp .frame))) map-sound map-listed
 
   pub map-taken : (space page frame rights : ℕ) → firstRefusal (causes b st (map space page frame rights)) ≡ 0 → Taken b st m (map space page frame rights)
-  unfolding accept accepted
+  unfolding accept afterAccepted
   map-taken space page frame rights e = let a = map-clear b st (record { space = space; page = page; frame = frame; rights = rights }) e in (tt, map-kept _ (a .1) (a .2) (a .3))
 
   -- ---- unmap
@@ -111,7 +111,7 @@ module _ (b : Board) (st : State) (m : Cacheless) (inv : Invariant b st m) where
     unmap-kept = relisted (remove (st .tables .list) i) (replaced (m .frame) space page none) unmap-sound unmap-listed
 
   pub unmap-taken : (space page : ℕ) → firstRefusal (causes b st (unmap space page)) ≡ 0 → Taken b st m (unmap space page)
-  unfolding causes accept accepted
+  unfolding causes accept afterAccepted
   unmap-taken space page e =
       let mapped = not-false _ (clear b st (unmap space page) e .1 .1 .1 .0) in
       (tt, unmap-kept space page (placeOf (lookup (st .tables .list) space page)) (mapped-found b (st .tables) (tables-clear b st (unmap space page) e) space page mapped))

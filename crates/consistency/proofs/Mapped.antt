@@ -11,13 +11,13 @@ use Rattle.mapping.specs.Lookup.{lookup, mappingOf}
 use Rattle.mapping.proofs.Laws.{mappingOf-at}
 use Rattle.manager.specs.Refusals.{found, isMapped, placeOf}
 use Rattle.machine.specs.State.{State}
-use Rattle.machine.specs.Step.{frameOf}
+use Rattle.machine.specs.Step.{pageFrame}
 use Rattle.consistency.specs.Cacheless.{Cacheless}
 use Rattle.consistency.proofs.Invariant.{frameIn, Invariant}
 
 -- the frame of a page that is mapped is the cacheless memory's
 pub mapped-frame : (b : Board) (st : State) (m : Cacheless) → Invariant b st m → (space page : ℕ) → isMapped (st .tables .list) space page ≡ true
-    → m .frame space page ≡ some (frameOf st space page)
+    → m .frame space page ≡ some (pageFrame st space page)
 mapped-frame b st m inv space page mapped = inv .listed space page ∙ go (lookup (st .tables .list) space page) refl mapped
   where
     go : (x : Found) → lookup (st .tables .list) space page ≡ x → found x ≡ true

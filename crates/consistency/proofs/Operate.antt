@@ -15,7 +15,7 @@ use Rattle.cache.specs.Store.{Store, WellFormed, tagAt}
 use Rattle.cache.specs.Tag.{names}
 use Rattle.cache.specs.Cache as hardware
 use Rattle.cache.specs.Current.{Current}
-use Rattle.cache.proofs.Laws.Orders.{flush-kept, flush-words, flush-tag-from, flush-names, purge-kept, purge-words, purge-tag-from, purge-names}
+use Rattle.cache.proofs.Laws.Operations.{flush-kept, flush-words, flush-tag-from, flush-names, purge-kept, purge-words, purge-tag-from, purge-names}
 use Rattle.cache.proofs.Current.Line.{flush-current}
 use Rattle.cache.proofs.Current.Purge.{purge-current}
 use Rattle.machine.specs.Step.{operate}

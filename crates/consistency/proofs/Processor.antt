@@ -23,16 +23,16 @@ use Rattle.cache.specs.Store.{Store, WellFormed}
 use Rattle.cache.proofs.Laws.Access.{access-kept, writeWord-kept}
 use Rattle.machine.specs.Refusals.{causes}
 use Rattle.machine.specs.State.{State, state, read, write}
-use Rattle.machine.specs.Step.{accept, frameOf}
+use Rattle.machine.specs.Step.{accept, pageFrame}
 use Rattle.machine.proofs.StepLaws.{clear, read-ready, write-ready}
-use Rattle.consistency.specs.Cacheless.{Cacheless, cacheless, replaced, stored, accepted}
-use Rattle.consistency.specs.Demand3.{wordOf, HasFrame}
+use Rattle.consistency.specs.Cacheless.{Cacheless, cacheless, replaced, stored, afterAccepted}
+use Rattle.consistency.specs.Demand3.{pageWord, HasFrame}
 use Rattle.consistency.proofs.Access.{access-words, access-own, access-other}
 use Rattle.consistency.proofs.Agrees.{Agrees}
 use Rattle.consistency.proofs.Commit.{commit-invariant}
 use Rattle.consistency.proofs.Invariant.{Invariant, Taken}
 use Rattle.consistency.proofs.Mapped.{mapped-frame}
-use Rattle.consistency.proofs.Orders.{ordered, statesAfter, ordered-kept, ordered-other, ordered-agrees}
+use Rattle.consistency.proofs.Operations.{ordered, statesAfter, ordered-kept, ordered-other, ordered-agrees}
 use Rattle.consistency.proofs.Table.{Spares, read-held, read-alone, write-dirty, write-alone}
 use Rattle.consistency.proofs.Write.{write-own, write-other}
 
@@ -126,20 +126,20 @@ module _ (b : Board) (reg : Regular b) (st : State) (m : Cacheless) (inv : Invar
 
 module _ (b : Board) (reg : Regular b) (st : State) (m : Cacheless) (inv : Invariant b st m) (space page offset : ℕ) where
   pub read-taken : firstRefusal (causes b st (read space page offset)) ≡ 0 → Taken b st m (read space page offset)
-  unfolding causes accept accepted now
+  unfolding causes accept afterAccepted now
   read-taken e =
       let mapped = not-false _ (clear b st (read space page offset) e .1 .1 .1 .1 .0) in
       let ready = read-ready b st space page offset e in
       let hf = ready .0 .1 in
       let ho = ready .1 in
       let hc = colourOf-lt b reg page in (
-        ap {B = Option ℕ} some (read-word b reg st m inv (frameOf st space page) (colourOf b page) offset hf hc ho)
-            ∙ ap (λ (x : Option ℕ). wordOf m x offset) (sym (mapped-frame b st m inv space page mapped)),
-        read-kept b reg st m inv (frameOf st space page) (colourOf b page) offset hf hc ho,
+        ap {B = Option ℕ} some (read-word b reg st m inv (pageFrame st space page) (colourOf b page) offset hf hc ho)
+            ∙ ap (λ (x : Option ℕ). pageWord m x offset) (sym (mapped-frame b st m inv space page mapped)),
+        read-kept b reg st m inv (pageFrame st space page) (colourOf b page) offset hf hc ho,
       )
 
   pub write-taken : (word : ℕ) → firstRefusal (causes b st (write space page offset word)) ≡ 0 → Taken b st m (write space page offset word)
-  unfolding causes accept accepted now put
+  unfolding causes accept afterAccepted now put
   write-taken word e =
       let mapped = not-false _ (clear b st (write space page offset word) e .1 .1 .1 .1 .0) in
       let ready = write-ready b st space page offset word e in
@@ -149,5 +149,5 @@ module _ (b : Board) (reg : Regular b) (st : State) (m : Cacheless) (inv : Invar
         subst⁻¹ HasFrame (mapped-frame b st m inv space page mapped) tt,
         subst⁻¹ (λ (x : Option ℕ). Invariant b (accept b st (write space page offset word) .after) (cacheless (stored (m .word) x offset word) (m .frame)))
             (mapped-frame b st m inv space page mapped)
-            (write-kept b reg st m inv (frameOf st space page) (colourOf b page) offset hf hc ho word),
+            (write-kept b reg st m inv (pageFrame st space page) (colourOf b page) offset hf hc ho word),
       )

@@ -31,16 +31,16 @@ stored word none offset v = word
 stored word (some f) offset v = replaced word f offset v
 
 -- what an accepted call makes of it
-unfoldable pub accepted : Cacheless → Call → Cacheless
-accepted m (map space page frame rights) = cacheless (m .word) (replaced (m .frame) space page (some frame))
-accepted m (unmap space page) = cacheless (m .word) (replaced (m .frame) space page none)
-accepted m (read space page offset) = m
-accepted m (write space page offset word) = cacheless (stored (m .word) (m .frame space page) offset word) (m .frame)
-accepted m (deviceRead frame buffer) = m
-accepted m (deviceWrite frame buffer) = cacheless (λ f o. cond (eqb frame f) (getD buffer o 0) (m .word f o)) (m .frame)
-accepted m (evict line) = m
+unfoldable pub afterAccepted : Cacheless → Call → Cacheless
+afterAccepted m (map space page frame rights) = cacheless (m .word) (replaced (m .frame) space page (some frame))
+afterAccepted m (unmap space page) = cacheless (m .word) (replaced (m .frame) space page none)
+afterAccepted m (read space page offset) = m
+afterAccepted m (write space page offset word) = cacheless (stored (m .word) (m .frame space page) offset word) (m .frame)
+afterAccepted m (deviceRead frame buffer) = m
+afterAccepted m (deviceWrite frame buffer) = cacheless (λ f o. cond (eqb frame f) (getD buffer o 0) (m .word f o)) (m .frame)
+afterAccepted m (evict line) = m
 
 -- a refused call changes nothing
 abbrev pub after : Cacheless → Call → Bool → Cacheless
 after m call true = m
-after m call false = accepted m call
+after m call false = afterAccepted m call

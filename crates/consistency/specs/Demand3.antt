@@ -30,9 +30,9 @@ abbrev pub isRefused : Answer → Bool
 isRefused a = isRefusal (a .outcome)
 
 -- the word at an offset of the page's frame
-abbrev pub wordOf : Cacheless → Option ℕ → ℕ → Option ℕ
-wordOf m none offset = none
-wordOf m (some f) offset = some (m .word f offset)
+abbrev pub pageWord : Cacheless → Option ℕ → ℕ → Option ℕ
+pageWord m none offset = none
+pageWord m (some f) offset = some (m .word f offset)
 
 abbrev pub HasFrame : Option ℕ → Type 0
 HasFrame none = ⊥
@@ -41,7 +41,7 @@ HasFrame (some f) = Unit {0}
 abbrev pub Finds : Board → Cacheless → Call → Answer → Type 0
 Finds b m (map space page frame rights) a = Unit {0}
 Finds b m (unmap space page) a = Unit {0}
-Finds b m (read space page offset) a = a .word ≡ wordOf m (m .frame space page) offset
+Finds b m (read space page offset) a = a .word ≡ pageWord m (m .frame space page) offset
 Finds b m (write space page offset word) a = HasFrame (m .frame space page)
 Finds b m (deviceRead frame buffer) a = a .buffer ≡ tabulate (b .page) (m .word frame)
 Finds b m (deviceWrite frame buffer) a = Unit {0}

@@ -37,10 +37,10 @@ use Rattle.cache.proofs.Laws.Device.{deviceWrite-kept}
 use Rattle.cache.proofs.Laws.Evict.{evict-kept}
 use Rattle.machine.specs.Refusals.{storeLengths, lentCauses, ownCauses, bufferRight, causes}
 use Rattle.machine.specs.State.{State, state, Call, map, unmap, read, write, deviceRead, deviceWrite, evict}
-use Rattle.machine.specs.Step.{carryOut, frameOf, accept, step}
+use Rattle.machine.specs.Step.{carryOut, pageFrame, accept, step}
 use Rattle.machine.proofs.StepLaws.{clear, lengths-clear, store-clear, tables-clear, step-accepted}
 use Rattle.consistency.proofs.Map.{map-clear}
-use Rattle.consistency.proofs.Orders.{ordered-kept}
+use Rattle.consistency.proofs.Operations.{ordered-kept}
 use Rattle.demands.specs.Demands.{stepOf, Stepped, Modelled, Left}
 
 module _ (b : Board) (st : State) (call : Call) (e : firstRefusal (causes b st call) ≡ 0) where
@@ -55,7 +55,7 @@ module _ (b : Board) (st : State) where
   -- its page is mapped, so its frame is one of the board's, and its offset lies in the page
   pub record Reached (space page offset : ℕ) : Type 0 where
     pub mapped : isMapped (st .tables .list) space page ≡ true
-    pub frame-lt : frameOf st space page < b .frames
+    pub frame-lt : pageFrame st space page < b .frames
     pub offset-lt : offset < b .page
 
   reached : (space page offset : ℕ) → rulesKept b (st .tables) ≡ true → isMapped (st .tables .list) space page ≡ true → offset < b .page → Reached space page offset
@@ -141,7 +141,7 @@ module _ (b : Board) (t : Tables) (w : WellFormed b t) (f : ℕ) (h : f < b .fra
       let n = lengths-known b t (w .0) in
       record {
         few = few-operations (b .colours) s (recordAt (t .records) f) kept .0;
-        orders = refl;
+        answered = refl;
         states = λ k hk. ap (λ (r : FrameRecord). stateOf r k) (recordAt-putRecord-same (t .records) f (change .next) (omega arith)) ∙ state-after (b .colours) s (recordAt (t .records) f) kept k hk;
         others = λ g ne. recordAt-putRecord-other (t .records) f (change .next) g ne;
       }

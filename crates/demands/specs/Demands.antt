@@ -22,7 +22,7 @@ use Rattle.manager.specs.Theorems.{First, WellFormed}
 use Rattle.cache.specs.Tag.{tagsKeepRules}
 use Rattle.machine.specs.Refusals.{causes}
 use Rattle.machine.specs.State.{State, state, Call, map, unmap, read, write, deviceRead, deviceWrite, evict, lentBuffer}
-use Rattle.machine.specs.Step.{answer, result, frameOf, step}
+use Rattle.machine.specs.Step.{answer, result, pageFrame, step}
 use Rattle.consistency.specs.Demand3.{isRefused, Demand3}
 
 -- ---- 1. The answer to each call is a result, or the one refusal that the listed conditions and their order give; a refusal orders nothing
@@ -51,8 +51,8 @@ pub record FrameStep : Type 0 where
 abbrev pub stepOf : Board → State → Call → Option FrameStep
 stepOf b st (map space page frame rights) = none
 stepOf b st (unmap space page) = none
-stepOf b st (read space page offset) = some (record { frame = frameOf st space page; step = table.read (colourOf b page) })
-stepOf b st (write space page offset word) = some (record { frame = frameOf st space page; step = table.write (colourOf b page) })
+stepOf b st (read space page offset) = some (record { frame = pageFrame st space page; step = table.read (colourOf b page) })
+stepOf b st (write space page offset word) = some (record { frame = pageFrame st space page; step = table.write (colourOf b page) })
 stepOf b st (deviceRead frame buffer) = some (record { frame = frame; step = table.deviceRead })
 stepOf b st (deviceWrite frame buffer) = some (record { frame = frame; step = table.deviceWrite })
 stepOf b st (evict line) = none
@@ -60,7 +60,7 @@ stepOf b st (evict line) = none
 -- the orders are the table's, in order and on this frame; each of its colours is in the state of its cell, and other frames are as they were
 pub record Stepped (b : Board) (before after : Tables) (o : Outcome) (f : ℕ) (s : table.Step) : Type 0 where
   pub few : length (operations (b .colours) s (recordAt (before .records) f)) ≤ 2
-  pub orders : o ≡ accepted f (firstTwo (operations (b .colours) s (recordAt (before .records) f)))
+  pub answered : o ≡ accepted f (firstTwo (operations (b .colours) s (recordAt (before .records) f)))
   pub states : (k : ℕ) → k < b .colours → stateOf (recordAt (after .records) f) k ≡ cellAt s k (stateOf (recordAt (before .records) f) k) .next
   pub others : (g : ℕ) → g ≢ f → recordAt (after .records) g ≡ recordAt (before .records) g
 

@@ -1,6 +1,7 @@
--- Document 01, "At the edges" and the sheet of "The run sheet": each row is a case and what it must give, and every row holds.
+-- Document 01, "At the edges" and the sheet of "The run sheet", with the tags at their limits and a sheet of each kind of step: each row is a
+-- case and what it must give, and every row holds.
 use mathlib.Core.Bool.{cond}
-use mathlib.Core.List.{List, [], _∷_}
+use mathlib.Core.List.{List, [], _∷_, _++_}
 use mathlib.Core.Option.{Option, none, some}
 use mathlib.Core.Path.{_≡_}
 use Prim.Native.Nat.{ℕ, zero, suc, _+_, _*_}
@@ -169,6 +170,20 @@ exampleText =
     ∷ 101 ∷ 110 ∷ 100 ∷ 32 ∷ 49 ∷ 32 ∷ 50 ∷ 10
     ∷ []
 
+-- ---- a sheet of one step of each kind
+
+-- page 0 of space 0 mapped to frame 3, to read, and one step
+abbrev pub oneStep : List ℕ → List ℕ
+oneStep fields = 1 ∷ 0 ∷ 0 ∷ 0 ∷ 0 ∷ 3 ∷ 1 ∷ 1 ∷ 0 ∷ fields
+
+-- `m0 0`, `0 R - - V`, `end 0 0`, of R's digits and V's one character
+abbrev pub oneLine : List ℕ → ℕ → List ℕ
+oneLine r v =
+    109 ∷ 48 ∷ 32 ∷ 48 ∷ 10
+    ∷ 48 ∷ 32 ∷ (r ++ (32 ∷ 45 ∷ 32 ∷ 45 ∷ 32 ∷ v ∷ 10
+    ∷ 101 ∷ 110 ∷ 100 ∷ 32 ∷ 48 ∷ 32 ∷ 48 ∷ 10
+    ∷ []))
+
 -- ---- the table
 
 -- those of case 4, which take the longest to compute
@@ -210,6 +225,23 @@ table =
     ∷ (answers (ask (tagged 65) (evict 1 ∷ [])) gives answers (refuses 2 ∷ []))
     ∷ (answers (ask (tagged 64) (map 0 0 63 1 ∷ read 0 0 0 ∷ [])) gives answers (done ∷ finds 63 77 ∷ []))
     ∷ (numbers (frameOf 64 ∷ digit (isDirty 64) ∷ []) gives numbers (63 ∷ 0 ∷ []))
+    -- tags 128 and 193: 2; 129 and 192: dirty, frames 0 and 63, whose word an eviction brings to memory
+    ∷ (answers (ask (tagged 128) (evict 1 ∷ [])) gives answers (refuses 2 ∷ []))
+    ∷ (answers (ask (tagged 193) (evict 1 ∷ [])) gives answers (refuses 2 ∷ []))
+    ∷ (answers (ask (tagged 129) (evict 0 ∷ map 0 0 0 1 ∷ read 0 0 0 ∷ [])) gives answers (done ∷ done ∷ finds 0 77 ∷ []))
+    ∷ (answers (ask (tagged 192) (evict 0 ∷ map 0 0 63 1 ∷ read 0 0 0 ∷ [])) gives answers (done ∷ done ∷ finds 63 77 ∷ []))
+    -- kind 1, read: offset 64 gets 6
+    ∷ (text (sheetText board01 (oneStep (1 ∷ 0 ∷ 0 ∷ 0 ∷ 64 ∷ 0 ∷ 0 ∷ 0 ∷ 0 ∷ []))) gives text (oneLine (54 ∷ []) 45))
+    -- kind 2, write: the page is read only, 10
+    ∷ (text (sheetText board01 (oneStep (2 ∷ 0 ∷ 0 ∷ 0 ∷ 0 ∷ 0 ∷ 0 ∷ 0 ∷ 0 ∷ []))) gives text (oneLine (49 ∷ 48 ∷ []) 45))
+    -- kind 3, device read: the frame's first word
+    ∷ (text (sheetText board01 (oneStep (3 ∷ 3 ∷ 0 ∷ 0 ∷ 0 ∷ 0 ∷ 0 ∷ 0 ∷ 0 ∷ []))) gives text (oneLine (48 ∷ []) 48))
+    -- kind 4, device write
+    ∷ (text (sheetText board01 (oneStep (4 ∷ 3 ∷ 0 ∷ 0 ∷ 0 ∷ 5 ∷ 0 ∷ 0 ∷ 0 ∷ []))) gives text (oneLine (48 ∷ []) 45))
+    -- kind 5, evict: line 64 gets 6
+    ∷ (text (sheetText board01 (oneStep (5 ∷ 64 ∷ 0 ∷ 0 ∷ 0 ∷ 0 ∷ 0 ∷ 0 ∷ 0 ∷ []))) gives text (oneLine (54 ∷ []) 45))
+    -- kind 6, unmap: page 1 is not mapped, 8
+    ∷ (text (sheetText board01 (oneStep (6 ∷ 0 ∷ 1 ∷ 0 ∷ 0 ∷ 0 ∷ 0 ∷ 0 ∷ 0 ∷ []))) gives text (oneLine (56 ∷ []) 45))
     ∷ []
 
 -- every row of the table holds

@@ -31,7 +31,7 @@ use Rattle.cache.specs.Store.{Store, WellFormed}
 use Rattle.cache.specs.Tag.{tagsKeepRules}
 use Rattle.machine.specs.Refusals.{storeLengths, bufferRight, lentCauses, offsetCause, ownCauses, causes}
 use Rattle.machine.specs.State.{State, state, Call, map, unmap, read, write, deviceRead, deviceWrite, evict, Result, lentBuffer}
-use Rattle.machine.specs.Step.{answer, result, carryOut, listed, stepped, frameOf, accept, step}
+use Rattle.machine.specs.Step.{answer, result, carryOut, listed, stepped, pageFrame, accept, step}
 use Rattle.machine.specs.Plans.{planStep, planPlace, refusalOf, placeRefusal}
 use Rattle.machine.proofs.StoreLaws.{AccessReady, TransferReady, well-formed}
 
@@ -123,16 +123,16 @@ ready b st f s wf hf =
 pub access-ready : (b : Board) (st : State) (call : Call) (s : table.Step) (space page offset : ℕ) (rest : List Cause)
     → ownCauses b st call ≡ spaceCause space page ∷ offsetCause (b .page) offset ∷ unmappedCause (st .tables .list) space page ∷ rest
     → firstRefusal (causes b st call) ≡ 0
-    → Ready b st (changeOf b (st .tables) (frameOf st space page) s) × (offset < b .page)
+    → Ready b st (changeOf b (st .tables) (pageFrame st space page) s) × (offset < b .page)
 unfolding lentCauses
 access-ready b st call s space page offset rest own e =
     let n = subst (λ (cs : List Cause). NoneApplies (lentCauses b st call ++ cs)) own (clear b st call e) in
     let m = mapped-range b (st .tables) (tables-clear b st call e) space page (not-false _ (n .1 .1 .1 .1 .0)) in
-    (ready b st (frameOf st space page) s (store-clear b st call e) (m .frame-lt), leb-false (b .page) offset (n .1 .1 .1 .0))
+    (ready b st (pageFrame st space page) s (store-clear b st call e) (m .frame-lt), leb-false (b .page) offset (n .1 .1 .1 .0))
 
 -- so the change that is told, and the page's colour, are what `load` and `put` require
 pub access-requires : (b : Board) (st : State) (call : Call) (s : table.Step) (space page offset : ℕ) (rest : List Cause) {change : Change} {colour : ℕ} → Regular b
-    → planStep b st call (changeOf b (st .tables) (frameOf st space page) s) ≡ step-plan.Step change
+    → planStep b st call (changeOf b (st .tables) (pageFrame st space page) s) ≡ step-plan.Step change
     → ownCauses b st call ≡ spaceCause space page ∷ offsetCause (b .page) offset ∷ unmappedCause (st .tables .list) space page ∷ rest
     → colour ≡ colourOf b page
     → AccessReady b (st .store) (change .frame) (change .ops) colour offset
@@ -167,12 +167,12 @@ transfer-requires b st call s frame buffer rest {change} reg p own tested =
 -- each call's, for the theorems of consistency
 module _ (b : Board) (st : State) where
   pub read-ready : (space page offset : ℕ) → firstRefusal (causes b st (read space page offset)) ≡ 0
-      → Ready b st (changeOf b (st .tables) (frameOf st space page) (table.read (colourOf b page))) × (offset < b .page)
+      → Ready b st (changeOf b (st .tables) (pageFrame st space page) (table.read (colourOf b page))) × (offset < b .page)
   unfolding ownCauses
   read-ready space page offset = access-ready b st (read space page offset) (table.read (colourOf b page)) space page offset [] refl
 
   pub write-ready : (space page offset word : ℕ) → firstRefusal (causes b st (write space page offset word)) ≡ 0
-      → Ready b st (changeOf b (st .tables) (frameOf st space page) (table.write (colourOf b page))) × (offset < b .page)
+      → Ready b st (changeOf b (st .tables) (pageFrame st space page) (table.write (colourOf b page))) × (offset < b .page)
   unfolding ownCauses
   write-ready space page offset word = access-ready b st (write space page offset word) (table.write (colourOf b page)) space page offset _ refl
 

@@ -16,7 +16,7 @@ use Rattle.page_model.specs.Step.{OpBelow}
 use Rattle.manager.specs.Answers.{operationOn, accepted}
 use Rattle.cache.specs.Store.{Store, WellFormed}
 use Rattle.cache.specs.Tag.{tagsKeepRules}
-use Rattle.cache.proofs.Laws.Orders.{flush-kept, purge-kept}
+use Rattle.cache.proofs.Laws.Operations.{flush-kept, purge-kept}
 use Rattle.machine.specs.Refusals.{storeLengths}
 use Rattle.machine.specs.Step.{operate, carryOut}
 

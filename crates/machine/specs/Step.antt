@@ -8,10 +8,10 @@ use Rattle.board.specs.Board.{colourOf}
 use Rattle.page_model.specs.Table as table
 use Rattle.mapping.specs.Lookup.{lookup}
 use Rattle.manager.specs.declared.Change.{Change}
-use Rattle.manager.specs.Answers as order
-use Rattle.manager.specs.Answers.{Outcome, refused, accepted, FrameOperation, firstOf, secondOf}
+use Rattle.manager.specs.Answers as operation
+use Rattle.manager.specs.Answers.{Outcome, refused, accepted, FrameOperation, firstOperation, secondOperation}
 use Rattle.manager.specs.Calls.{noOps, changeOf, commitChange, commitMap, commitUnmap}
-use Rattle.manager.specs.Refusals.{firstRefusal, placeOf, mappingOf}
+use Rattle.manager.specs.Refusals.{firstRefusal, placeOf, listedMapping}
 use Rattle.manager.specs.Tables.{Tables, refill}
 use Rattle.cache.specs.Cache as hardware
 use Rattle.cache.specs.Store.{Store}
@@ -21,14 +21,14 @@ use Rattle.machine.specs.Refusals.{causes}
 -- ---- the orders
 
 unfoldable pub operate : Board → FrameOperation → Store → Store
-operate b order.none s = s
-operate b (order.flush f c) s = hardware.flush b f c s
-operate b (order.purge f c) s = hardware.purge b f c s
+operate b operation.none s = s
+operate b (operation.flush f c) s = hardware.flush b f c s
+operate b (operation.purge f c) s = hardware.purge b f c s
 
 -- the store after an answer's orders, in order
 unfoldable pub carryOut : Board → Outcome → Store → Store
 unfolding operate
-carryOut b o s = operate b (secondOf o) (operate b (firstOf o) s)
+carryOut b o s = operate b (secondOperation o) (operate b (firstOperation o) s)
 
 -- ---- answers
 
@@ -52,19 +52,19 @@ stepped b st change word buffer access =
     result (answer o (word s) (buffer s)) (state (commitChange b (st .tables) (change .frame) (change .next)) (access s))
 
 -- the frame of a page of a space
-abbrev pub frameOf : State → ℕ → ℕ → ℕ
-frameOf st space page = mappingOf (st .tables .list) space page .frame
+abbrev pub pageFrame : State → ℕ → ℕ → ℕ
+pageFrame st space page = listedMapping (st .tables .list) space page .frame
 
 unfoldable pub accept : Board → State → Call → Result
 accept b st (map space page frame rights) =
     listed (commitMap b (st .tables) (record { space = space; page = page; frame = frame; rights = rights })) (st .store)
 accept b st (unmap space page) = listed (commitUnmap b (st .tables) (placeOf (lookup (st .tables .list) space page))) (st .store)
 accept b st (read space page offset) =
-    let f : ℕ = frameOf st space page in
+    let f : ℕ = pageFrame st space page in
     let c : ℕ = colourOf b page in
     stepped b st (changeOf b (st .tables) f (table.read c)) (λ s. some (hardware.readWord b f c offset s)) (λ s. []) (hardware.access b f c offset)
 accept b st (write space page offset word) =
-    let f : ℕ = frameOf st space page in
+    let f : ℕ = pageFrame st space page in
     let c : ℕ = colourOf b page in
     stepped b st (changeOf b (st .tables) f (table.write c)) (λ s. none) (λ s. []) (hardware.writeWord b f c offset word)
 accept b st (deviceRead frame buffer) =

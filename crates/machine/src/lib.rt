@@ -1,5 +1,5 @@
 // The machine: memory and cache as the hardware has them. Each call asks the manager, carries out its orders, then makes the access.
-mod orders;
+mod operations;
 mod plans;
 
 ghost use mathlib.Core.Path.{_≡_};
@@ -121,7 +121,7 @@ pub fn read(
     let ops = change.ops;
     manager::commit_change(BOARD01, list, records, protections, frame, next);
     let colour = board::colour_of(BOARD01, page as usize);
-    let word = orders::load(
+    let word = operations::load(
         BOARD01,
         memory,
         words,
@@ -173,7 +173,7 @@ pub fn write(
     let ops = change.ops;
     manager::commit_change(BOARD01, list, records, protections, frame, next);
     let colour = board::colour_of(BOARD01, page as usize);
-    orders::put(
+    operations::put(
         BOARD01,
         memory,
         words,
@@ -222,7 +222,7 @@ pub fn device_read(
     let next = change.next;
     let ops = change.ops;
     manager::commit_change(BOARD01, list, records, protections, frame, next);
-    orders::send(BOARD01, memory, words, tags, frame as usize, ops, buffer);
+    operations::send(BOARD01, memory, words, tags, frame as usize, ops, buffer);
     Answer::Accepted(FrameOps { frame, ops })
 }
 
@@ -261,7 +261,7 @@ pub fn device_write(
     let next = change.next;
     let ops = change.ops;
     manager::commit_change(BOARD01, list, records, protections, frame, next);
-    orders::receive(BOARD01, memory, words, tags, frame as usize, ops, buffer);
+    operations::receive(BOARD01, memory, words, tags, frame as usize, ops, buffer);
     Answer::Accepted(FrameOps { frame, ops })
 }
 
@@ -296,7 +296,7 @@ pub fn evict(
     }
     manager::records::refill(BOARD01, list, records, protections);
     cache::line::evict(BOARD01, memory, words, tags, line);
-    manager::no_orders()
+    manager::no_operations()
 }
 
 // The number of a plan that is a refusal, else 0.

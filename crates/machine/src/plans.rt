@@ -8,7 +8,7 @@ ghost use Rattle.page_model.specs.Table as step;
 ghost use Rattle.mapping.specs.Lookup.{lookup};
 ghost use Rattle.manager.specs.Calls.{changeOf};
 ghost use Rattle.manager.specs.Tables.{tables};
-ghost use Rattle.manager.specs.Refusals.{firstRefusal, placeOf, mappingOf};
+ghost use Rattle.manager.specs.Refusals.{firstRefusal, placeOf, listedMapping};
 ghost use Rattle.cache.specs.Store.{store};
 ghost use Rattle.machine.specs.Refusals.{causes};
 ghost use Rattle.machine.specs.State as call;
@@ -81,7 +81,7 @@ pub fn plan_read(
     ensures { λ r. ⌜ r ≡ planStep board
         (machineOf list (now (records .entry)) (now (protections .entry)) (now (memory .entry)) (now (words .entry)) (now (tags .entry)))
         (call.read space page offset)
-        (changeOf board (tables list (now (records .entry)) (now (protections .entry))) (mappingOf list space page .frame) (step.read (colourOf board page))) ⌝ }
+        (changeOf board (tables list (now (records .entry)) (now (protections .entry))) (listedMapping list space page .frame) (step.read (colourOf board page))) ⌝ }
 {
     let own = access_refusal(board, memory, words, tags, board.page, offset);
     let plan = manager::plan_read(board, list, records, protections, space, page);
@@ -105,7 +105,7 @@ pub fn plan_write(
     ensures { λ r. ⌜ r ≡ planStep board
         (machineOf list (now (records .entry)) (now (protections .entry)) (now (memory .entry)) (now (words .entry)) (now (tags .entry)))
         (call.write space page offset 0)
-        (changeOf board (tables list (now (records .entry)) (now (protections .entry))) (mappingOf list space page .frame) (step.write (colourOf board page))) ⌝ }
+        (changeOf board (tables list (now (records .entry)) (now (protections .entry))) (listedMapping list space page .frame) (step.write (colourOf board page))) ⌝ }
 {
     let own = access_refusal(board, memory, words, tags, board.page, offset);
     let plan = manager::plan_write(board, list, records, protections, space, page);

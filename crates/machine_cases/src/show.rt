@@ -84,7 +84,7 @@ pub fn read(
     io::write_all(STDOUT_FILENO, b"read ");
     match loaded {
         Loaded::Refused(number) => refused(number),
-        Loaded::Word(orders, word) => found(orders, word),
+        Loaded::Word(operations, word) => found(operations, word),
     }
     apart();
 }
@@ -236,7 +236,7 @@ pub fn count_up(to: &mut [u32], first: u32) {
 fn told(answer: Answer) {
     match answer {
         Answer::Refused(n) => refused(n),
-        Answer::Accepted(orders) => both(orders),
+        Answer::Accepted(operations) => both(operations),
     }
 }
 
@@ -244,22 +244,22 @@ fn refused(n: u8) {
     io::print_decimal(STDOUT_FILENO, wide(n));
 }
 
-fn found(orders: FrameOps, word: u32) {
-    both(orders);
+fn found(operations: FrameOps, word: u32) {
+    both(operations);
     spaced(long(word));
 }
 
-fn both(orders: FrameOps) {
-    let ops = orders.ops;
+fn both(operations: FrameOps) {
+    let ops = operations.ops;
     let first = ops.first;
     let second = ops.second;
     io::write_all(STDOUT_FILENO, b"0");
-    order(orders.frame, first);
-    order(orders.frame, second);
+    operation(operations.frame, first);
+    operation(operations.frame, second);
 }
 
 // An order, with its frame and colour.
-fn order(frame: u8, op: Op) {
+fn operation(frame: u8, op: Op) {
     match op {
         Op::None => none(),
         Op::Flush(colour) => on(b'F', frame, colour),

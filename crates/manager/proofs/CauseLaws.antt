@@ -18,7 +18,7 @@ use Rattle.mapping.specs.Facts.{InRange, Rules, FoundAt}
 use Rattle.mapping.specs.Lookup.{lookup}
 use Rattle.mapping.specs.Rules as list-of
 use Rattle.mapping.proofs.Laws.{keepsRules-true, lookup-at}
-use Rattle.manager.specs.Refusals.{Cause, firstRefusal, tableCauses, mapCauses, pageCauses, writeCauses, transferCauses, outOfSpace, isRight, found, isMapped, placeOf, mappingOf}
+use Rattle.manager.specs.Refusals.{Cause, firstRefusal, tableCauses, mapCauses, pageCauses, writeCauses, transferCauses, outOfSpace, isRight, found, isMapped, placeOf, listedMapping}
 use Rattle.manager.specs.Tables.{Tables, recordWords, recordAt, recordsKeepRules, lengthsRight, rulesKept}
 
 -- ---- the lent tables
@@ -150,12 +150,12 @@ module _ (b : Board) (t : Tables) (kept : rulesKept b t ≡ true) where
       go (At i) z k = lookup-at (t .list) space page i z
       go Nothing z k = absurd (false≢true k)
 
-  pub mapped-range : (space page : ℕ) → isMapped (t .list) space page ≡ true → InRange b (mappingOf (t .list) space page)
+  pub mapped-range : (space page : ℕ) → isMapped (t .list) space page ≡ true → InRange b (listedMapping (t .list) space page)
   mapped-range space page e = list-rules .in-range _ (mapped-found space page e .listed)
 
   -- so the record of its frame keeps the rules
   pub mapped-rules : (space page : ℕ) → isMapped (t .list) space page ≡ true
-      → record-of.keepsRules (b .colours) (recordAt (t .records) (mappingOf (t .list) space page .frame)) ≡ true
+      → record-of.keepsRules (b .colours) (recordAt (t .records) (listedMapping (t .list) space page .frame)) ≡ true
   mapped-rules space page e = record-rules _ (mapped-range space page e .frame-lt)
 
 -- ---- an accepted step: the record that it is made of keeps the rules
@@ -163,16 +163,16 @@ module _ (b : Board) (t : Tables) (kept : rulesKept b t ≡ true) where
 module _ (b : Board) (t : Tables) (space page : ℕ) where
   -- the causes that a write shares with a read
   page-rules′ : not (rulesKept b t) ≡ false → not (isMapped (t .list) space page) ≡ false
-      → record-of.keepsRules (b .colours) (recordAt (t .records) (mappingOf (t .list) space page .frame)) ≡ true
+      → record-of.keepsRules (b .colours) (recordAt (t .records) (listedMapping (t .list) space page .frame)) ≡ true
   page-rules′ r m = mapped-rules b t (not-false _ r) space page (not-false _ m)
 
   pub page-rules : firstRefusal (pageCauses b t space page) ≡ 0
-      → record-of.keepsRules (b .colours) (recordAt (t .records) (mappingOf (t .list) space page .frame)) ≡ true
+      → record-of.keepsRules (b .colours) (recordAt (t .records) (listedMapping (t .list) space page .frame)) ≡ true
   unfolding pageCauses
   page-rules e = let n = none-applies (pageCauses b t space page) refl e in page-rules′ (n .1 .0) (n .1 .1 .1 .0)
 
   pub write-rules : firstRefusal (writeCauses b t space page) ≡ 0
-      → record-of.keepsRules (b .colours) (recordAt (t .records) (mappingOf (t .list) space page .frame)) ≡ true
+      → record-of.keepsRules (b .colours) (recordAt (t .records) (listedMapping (t .list) space page .frame)) ≡ true
   unfolding writeCauses
   write-rules e = let n = none-applies (writeCauses b t space page) refl e in page-rules′ (n .1 .0) (n .1 .1 .1 .0)
 

@@ -15,7 +15,7 @@ use Rattle.mapping.specs.Facts.{InRange, Rules}
 use Rattle.mapping.specs.Lookup.{lookup}
 use Rattle.mapping.proofs.Laws.{rules-keepsRules, append-length, append-rules, remove-length, remove-rules}
 use Rattle.manager.specs.Calls.{commitMap, commitUnmap, commitChange}
-use Rattle.manager.specs.Refusals.{isMapped, placeOf, mappingOf}
+use Rattle.manager.specs.Refusals.{isMapped, placeOf, listedMapping}
 use Rattle.manager.specs.Tables.{Tables, tables, recordWords, recordAt, putRecord, recordsKeepRules, refill}
 use Rattle.manager.specs.Theorems.{WellFormed}
 use Rattle.manager.proofs.CauseLaws.{lengths-right, rules-kept, list-rules, record-rules, mapped-found, mapped-range}
@@ -42,7 +42,7 @@ module _ (b : Board) (t : Tables) (w : WellFormed b t) where
 
   -- a step through a page that is mapped
   pub page-keeps : (space page : ℕ) (s : step.Step) → isMapped (t .list) space page ≡ true
-      → WellFormed b (commitChange b t (mappingOf (t .list) space page .frame) (stepped (b .colours) s (recordAt (t .records) (mappingOf (t .list) space page .frame)) .next))
+      → WellFormed b (commitChange b t (listedMapping (t .list) space page .frame) (stepped (b .colours) s (recordAt (t .records) (listedMapping (t .list) space page .frame)) .next))
   page-keeps space page s m = step-keeps _ s (mapped-range b t (w .1) space page m .frame-lt)
 
   pub map-keeps : (m : Mapping) → InRange b m → lookup (t .list) (m .space) (m .page) ≡ Nothing → t .list .count < capacity → WellFormed b (commitMap b t m)

@@ -7,6 +7,7 @@ use Rattle.page_model.specs.declared.Op.the-variants.{None, Flush, Purge}
 use Rattle.page_model.specs.declared.Ops.{Ops}
 use Rattle.manager.specs.declared.Answer.{Answer}
 use Rattle.manager.specs.declared.Answer.the-variants.{Refused, Accepted}
+use Rattle.manager.specs.declared.FrameOps.{FrameOps}
 
 -- A refusal is never an acceptance, whatever its number. An accepted call names the frame of its operations, and 0 where it has none by its kind.
 pub data Outcome : Type 0 where
@@ -36,11 +37,13 @@ operationOn f None = none
 operationOn f (Flush c) = flush f c
 operationOn f (Purge c) = purge f c
 
--- the first and the second order
-abbrev pub firstOf : Outcome → FrameOperation
-firstOf (refused n) = none
-firstOf (accepted f ops) = operationOn f (ops .first)
+-- the operations with their frame: of a refusal none, on frame 0
+abbrev pub operationsOf : Outcome → FrameOps
+operationsOf (refused n) = record { frame = 0; ops = record { first = None; second = None } }
+operationsOf (accepted f ops) = record { frame = f; ops = ops }
 
-abbrev pub secondOf : Outcome → FrameOperation
-secondOf (refused n) = none
-secondOf (accepted f ops) = operationOn f (ops .second)
+abbrev pub firstOperation : Outcome → FrameOperation
+firstOperation o = operationOn (operationsOf o .frame) (operationsOf o .ops .first)
+
+abbrev pub secondOperation : Outcome → FrameOperation
+secondOperation o = operationOn (operationsOf o .frame) (operationsOf o .ops .second)

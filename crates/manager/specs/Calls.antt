@@ -16,7 +16,7 @@ use Rattle.manager.specs.declared.Plan.the-variants as step-plan
 use Rattle.manager.specs.declared.ListPlan.{ListPlan}
 use Rattle.manager.specs.declared.ListPlan.the-variants as list-plan
 use Rattle.manager.specs.Answers.{Outcome, refused, accepted}
-use Rattle.manager.specs.Refusals.{firstRefusal, placeOf, mappingOf, mapCauses, pageCauses, writeCauses, transferCauses}
+use Rattle.manager.specs.Refusals.{firstRefusal, placeOf, listedMapping, mapCauses, pageCauses, writeCauses, transferCauses}
 use Rattle.manager.specs.Tables.{Tables, tables, recordAt, putRecord, refill}
 
 -- ---- steps of a frame's record
@@ -33,11 +33,11 @@ planned (suc n) change = step-plan.Refused (suc n)
 
 abbrev pub planRead : Board → Tables → ℕ → ℕ → Plan
 planRead b t space page =
-    planned (firstRefusal (pageCauses b t space page)) (changeOf b t (mappingOf (t .list) space page .frame) (read (colourOf b page)))
+    planned (firstRefusal (pageCauses b t space page)) (changeOf b t (listedMapping (t .list) space page .frame) (read (colourOf b page)))
 
 abbrev pub planWrite : Board → Tables → ℕ → ℕ → Plan
 planWrite b t space page =
-    planned (firstRefusal (writeCauses b t space page)) (changeOf b t (mappingOf (t .list) space page .frame) (write (colourOf b page)))
+    planned (firstRefusal (writeCauses b t space page)) (changeOf b t (listedMapping (t .list) space page .frame) (write (colourOf b page)))
 
 abbrev pub planDeviceRead : Board → Tables → ℕ → Plan
 planDeviceRead b t frame = planned (firstRefusal (transferCauses b t frame)) (changeOf b t frame deviceRead)

@@ -71,8 +71,8 @@ placeOf (At i) = i
 placeOf Nothing = capacity
 
 -- the listed mapping of this space and page, all 0 where there is none
-abbrev pub mappingOf : MappingList → ℕ → ℕ → Mapping
-mappingOf l space page = mappingAt l (placeOf (lookup l space page))
+abbrev pub listedMapping : MappingList → ℕ → ℕ → Mapping
+listedMapping l space page = mappingAt l (placeOf (lookup l space page))
 
 -- ---- the causes that lie in a call's numbers, each with its place in document 01's table
 
@@ -95,7 +95,7 @@ abbrev pub fullCause : MappingList → Cause
 fullCause l = 9 if eqb (l .count) capacity
 
 abbrev pub readOnlyCause : MappingList → ℕ → ℕ → Cause
-readOnlyCause l space page = 10 if eqb (mappingOf l space page .rights) readOnly
+readOnlyCause l space page = 10 if eqb (listedMapping l space page .rights) readOnly
 
 -- ---- the causes of each call
 

@@ -18,8 +18,8 @@ use page_model::Stepped;
 use records::put_record;
 use records::record_at;
 use records::refill;
+use refusals::listed_mapping;
 use refusals::map_refusal;
-use refusals::mapping_of;
 use refusals::page_refusal;
 use refusals::place_of;
 use refusals::transfer_refusal;
@@ -213,7 +213,7 @@ pub fn plan_read(
     if refusal != 0 {
         return Plan::Refused(refusal);
     }
-    let m = mapping_of(list, space, page);
+    let m = listed_mapping(list, space, page);
     let colour = board::colour_of(board, page as usize);
     step_of(m.frame, record_at(records, m.frame).read(colour))
 }
@@ -234,7 +234,7 @@ pub fn plan_write(
     if refusal != 0 {
         return Plan::Refused(refusal);
     }
-    let m = mapping_of(list, space, page);
+    let m = listed_mapping(list, space, page);
     let colour = board::colour_of(board, page as usize);
     step_of(m.frame, record_at(records, m.frame).write(colour))
 }
@@ -377,13 +377,13 @@ pub fn listed_as(list: MappingList) -> Listed
     ensures { λ r. ⌜ (outcome (r .answer) ≡ accepted 0 noOps) × (r .list ≡ list) ⌝ }
 {
     Listed {
-        answer: no_orders(),
+        answer: no_operations(),
         list,
     }
 }
 
 // An accepted call that orders nothing.
-pub fn no_orders() -> Answer
+pub fn no_operations() -> Answer
     ensures { λ r. ⌜ outcome r ≡ accepted 0 noOps ⌝ }
 {
     let nothing = FrameOps {

@@ -2,7 +2,7 @@
 ghost use mathlib.Core.Path.{_≡_};
 ghost use Rattle.board.specs.Board.{Regular};
 ghost use Rattle.manager.specs.Tables.{tables};
-ghost use Rattle.manager.specs.Refusals.{firstRefusal, refusalPlace, tableCauses, mapCauses, pageCauses, writeCauses, transferCauses, outOfSpace, isRight, isMapped, placeOf, mappingOf};
+ghost use Rattle.manager.specs.Refusals.{firstRefusal, refusalPlace, tableCauses, mapCauses, pageCauses, writeCauses, transferCauses, outOfSpace, isRight, isMapped, placeOf, listedMapping};
 ghost use Rattle.mapping.specs.Lookup.{lookup};
 use super::records::RECORD_WORDS;
 use super::records::records_keep_rules;
@@ -122,7 +122,7 @@ pub fn write_refusal(
     if refusal != 0 {
         return refusal;
     }
-    let m = mapping_of(list, space, page);
+    let m = listed_mapping(list, space, page);
     if m.rights == mapping::READ_ONLY {
         return 10;
     }
@@ -151,8 +151,8 @@ pub fn transfer_refusal(
 }
 
 // The listed mapping of a page of a space, all 0 where there is none.
-pub fn mapping_of(list: MappingList, space: u8, page: u16) -> Mapping
-    ensures { λ r. ⌜ r ≡ mappingOf list space page ⌝ }
+pub fn listed_mapping(list: MappingList, space: u8, page: u16) -> Mapping
+    ensures { λ r. ⌜ r ≡ listedMapping list space page ⌝ }
 {
     mapping::at(list, place_of(list, space, page))
 }

@@ -73,7 +73,7 @@ pub fn device_write(list: MappingList, records: &mut [u32], protections: &mut [u
 fn line(answer: Answer, protections: &[u8]) {
     match answer {
         Answer::Refused(number) => refused(number),
-        Answer::Accepted(orders) => accepted(orders),
+        Answer::Accepted(operations) => accepted(operations),
     }
     three(protections);
 }
@@ -83,17 +83,17 @@ fn refused(number: u8) {
     io::write_all(STDOUT_FILENO, b" - -");
 }
 
-fn accepted(orders: FrameOps) {
-    let ops = orders.ops;
+fn accepted(operations: FrameOps) {
+    let ops = operations.ops;
     let first = ops.first;
     let second = ops.second;
     io::write_all(STDOUT_FILENO, b"0");
-    order(orders.frame, first);
-    order(orders.frame, second);
+    operation(operations.frame, first);
+    operation(operations.frame, second);
 }
 
 // An order, with its frame and colour.
-fn order(frame: u8, op: Op) {
+fn operation(frame: u8, op: Op) {
     match op {
         Op::None => none(),
         Op::Flush(colour) => on(b'F', frame, colour),

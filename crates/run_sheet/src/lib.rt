@@ -9,22 +9,27 @@ use sheet_codec::format;
 use sheet_codec::text;
 ghost use mathlib.Core.List.{[], _∷_};
 ghost use mathlib.Core.Path.{_≡_};
+ghost use Prim.Native.Nat.{_+_};
 ghost use lib.ListN.{length};
 ghost use Rattle.io.specs.Counts.{Counts};
 ghost use Rattle.sheet_codec.specs.Format.{sheetBytes};
 ghost use Rattle.sheet_codec.specs.Put.{Put};
 ghost use Rattle.run_sheet.specs.Run.{textBytes, printed};
 
-// The bytes of the largest sheet, and how much room a text needs, so that the largest sheet's fits.
+// The bytes of the largest sheet.
 pub const SHEET_BYTES: usize = format::SHEET_BYTES;
 
+// How much is read as a sheet: a byte more than the largest has, since a sheet with that byte is broken.
+pub const INPUT_BYTES: usize = SHEET_BYTES + 1;
+
+// How much room a text needs, so that the largest sheet's fits.
 pub const TEXT_BYTES: usize = text::LINE_BYTES * (format::MOST_MAPPINGS + format::MOST_STEPS + 1);
 
-// Both constants. A constant carries no contract, so this function ties them to the definitions.
-pub fn sizes() -> [usize; 2]
-    ensures { λ r. ⌜ r ≡ sheetBytes ∷ textBytes ∷ [] ⌝ }
+// The constants. A constant carries no contract, so this function ties them to the definitions.
+pub fn sizes() -> [usize; 3]
+    ensures { λ r. ⌜ r ≡ sheetBytes ∷ sheetBytes + 1 ∷ textBytes ∷ [] ⌝ }
 {
-    [SHEET_BYTES, TEXT_BYTES]
+    [SHEET_BYTES, INPUT_BYTES, TEXT_BYTES]
 }
 
 // Runs a sheet on a machine that starts empty, and writes what is printed to the front of text. Answers how many bytes it wrote: none

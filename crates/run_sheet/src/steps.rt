@@ -252,9 +252,9 @@ fn made_of(list: MappingList, got: Loaded) -> Made
             answer: Answer::Refused(number),
             shown: Shown::Absent,
         },
-        Loaded::Word(orders, word) => Made {
+        Loaded::Word(operations, word) => Made {
             list,
-            answer: Answer::Accepted(orders),
+            answer: Answer::Accepted(operations),
             shown: Shown::Word(word),
         },
     }

@@ -4,11 +4,9 @@ mod hex;
 mod large;
 
 use libc::STDOUT_FILENO;
+use run_sheet::INPUT_BYTES;
 use run_sheet::SHEET_BYTES;
 use run_sheet::TEXT_BYTES;
-
-// The bytes of the largest sheet and one more.
-const INPUT_BYTES: usize = SHEET_BYTES + 1;
 
 // The last line of the largest sheet's text, with its line end.
 const LAST_BYTES: usize = 14;

@@ -6,8 +6,8 @@ use Prim.Native.Nat.{ℕ, zero, suc, _+_, _*_, _/_}
 use lib.Dec.{ltb}
 use lib.ListN.{getD}
 use Rattle.io.specs.Digits.{digits}
-use Rattle.manager.specs.Answers as order
-use Rattle.manager.specs.Answers.{FrameOperation, Outcome, refused, accepted, numberOf, firstOf, secondOf}
+use Rattle.manager.specs.Answers as operation
+use Rattle.manager.specs.Answers.{FrameOperation, Outcome, refused, accepted, numberOf, firstOperation, secondOperation}
 use Rattle.machine.specs.State.{Call, map, unmap, read, write, deviceRead, deviceWrite, evict, Answer}
 use Rattle.sheet_codec.specs.declared.Shown.{Shown}
 use Rattle.sheet_codec.specs.declared.Shown.the-variants.{Absent, Word}
@@ -71,9 +71,9 @@ decimal n = digits 10 (places 19 n) n
 -- F or P, then frame, a dot, colour; or a dash
 unfoldable pub operationText : FrameOperation → List ℕ
 unfolding decimal
-operationText order.none = dash ∷ []
-operationText (order.flush f c) = flushLetter ∷ (decimal f ++ (dot ∷ decimal c))
-operationText (order.purge f c) = purgeLetter ∷ (decimal f ++ (dot ∷ decimal c))
+operationText operation.none = dash ∷ []
+operationText (operation.flush f c) = flushLetter ∷ (decimal f ++ (dot ∷ decimal c))
+operationText (operation.purge f c) = purgeLetter ∷ (decimal f ++ (dot ∷ decimal c))
 
 unfoldable pub wordText : Option ℕ → List ℕ
 unfolding decimal
@@ -107,7 +107,7 @@ mappingLineOf k call a = mappingLine k (numberOf (a .outcome))
 
 -- `R A B`
 unfoldable pub answerText : Outcome → List ℕ
-answerText o = decimal (numberOf o) ++ (space ∷ (operationText (firstOf o) ++ (space ∷ operationText (secondOf o))))
+answerText o = decimal (numberOf o) ++ (space ∷ (operationText (firstOperation o) ++ (space ∷ operationText (secondOperation o))))
 
 -- `k R A B V`
 unfoldable pub stepLine : ℕ → Outcome → Option ℕ → List ℕ

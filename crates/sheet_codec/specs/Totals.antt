@@ -1,20 +1,20 @@
 -- Document 01, "The run sheet": how many flushes and how many purges an answer has.
 use Prim.Native.Nat.{ℕ, _+_}
-use Rattle.manager.specs.Answers as order
-use Rattle.manager.specs.Answers.{FrameOperation, Outcome, firstOf, secondOf}
+use Rattle.manager.specs.Answers as operation
+use Rattle.manager.specs.Answers.{FrameOperation, Outcome, firstOperation, secondOperation}
 
 abbrev pub flushOf : FrameOperation → ℕ
-flushOf order.none = 0
-flushOf (order.flush f c) = 1
-flushOf (order.purge f c) = 0
+flushOf operation.none = 0
+flushOf (operation.flush f c) = 1
+flushOf (operation.purge f c) = 0
 
 abbrev pub purgeOf : FrameOperation → ℕ
-purgeOf order.none = 0
-purgeOf (order.flush f c) = 0
-purgeOf (order.purge f c) = 1
+purgeOf operation.none = 0
+purgeOf (operation.flush f c) = 0
+purgeOf (operation.purge f c) = 1
 
 abbrev pub flushesOf : Outcome → ℕ
-flushesOf o = flushOf (firstOf o) + flushOf (secondOf o)
+flushesOf o = flushOf (firstOperation o) + flushOf (secondOperation o)
 
 abbrev pub purgesOf : Outcome → ℕ
-purgesOf o = purgeOf (firstOf o) + purgeOf (secondOf o)
+purgesOf o = purgeOf (firstOperation o) + purgeOf (secondOperation o)

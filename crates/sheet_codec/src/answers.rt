@@ -5,7 +5,7 @@ use page_model::Op;
 use page_model::Ops;
 ghost use mathlib.Core.Path.{_≡_};
 ghost use Prim.Native.Nat.{_≤_};
-ghost use Rattle.manager.specs.Answers.{operationOn, outcome, numberOf, firstOf, secondOf};
+ghost use Rattle.manager.specs.Answers.{operationOn, operationsOf, outcome, numberOf};
 ghost use Rattle.sheet_codec.specs.Totals.{flushOf, purgeOf, flushesOf, purgesOf};
 
 // The refusal's number, or 0.
@@ -18,9 +18,9 @@ pub fn number_of(answer: Answer) -> u8
     }
 }
 
-// The operations, of which a refusal has none.
+// The operations with their frame: of a refusal none, on frame 0.
 pub fn operations_of(answer: Answer) -> FrameOps
-    ensures { λ r. ⌜ (operationOn (r .frame) (r .ops .first) ≡ firstOf (outcome answer)) × (operationOn (r .frame) (r .ops .second) ≡ secondOf (outcome answer)) ⌝ }
+    ensures { λ r. ⌜ r ≡ operationsOf (outcome answer) ⌝ }
 {
     match answer {
         Answer::Refused(_) => FrameOps {

@@ -15,7 +15,7 @@ use Rattle.cache.specs.Cache.{writeBack, evict, flush, replace, access}
 use Rattle.cache.specs.Current.{Current, LosesNone}
 use Rattle.cache.proofs.Laws.WriteBack.{writeBack-memory-same, writeBack-memory-other}
 use Rattle.cache.proofs.Laws.Evict.{evict-tag-same, evict-tag-other, evict-words, evict-memory}
-use Rattle.cache.proofs.Laws.Orders.{flush-keeps}
+use Rattle.cache.proofs.Laws.Operations.{flush-keeps}
 use Rattle.cache.proofs.Laws.Access.{replace-tag-same, replace-tag-other, replace-word-other, replace-memory, access-cases}
 
 -- line n is written back and its tag then is no dirty one of f; the other lines are as they were

@@ -14,7 +14,7 @@ use Rattle.cache.specs.Cache.{purge}
 use Rattle.cache.specs.Current.{Current}
 use Rattle.cache.proofs.Laws.Tag.{names-dirty, names-one}
 use Rattle.cache.proofs.Laws.WriteBack.{dirty-frame-lt}
-use Rattle.cache.proofs.Laws.Orders.{purge-tag-left, purge-tag-other, purge-tag-from, purge-words, purge-memory}
+use Rattle.cache.proofs.Laws.Operations.{purge-tag-left, purge-tag-other, purge-tag-from, purge-words, purge-memory}
 
 module _ (b : Board) (reg : Regular b) (g c : ℕ) (hg : g < b .frames) (hc : c < b .colours) (f : ℕ) (current : ℕ → ℕ) (s : Store) (wf : WellFormed b s) (was : Current b f current s) where
   -- it loses none of f, unless f is g and has a dirty line in colour c

@@ -32,7 +32,7 @@ returns-2 c =
     let refilled = evicted .before .before .before .before .before in
     let at = refilled .before .before in
     let a = start-of (at .before) .args in
-    listed-made _ _ _ (sym (at .before .evict-refusal .ensures) ∙ at .if1 .left) _ _ refl (c .no-orders .ensures)
+    listed-made _ _ _ (sym (at .before .evict-refusal .ensures) ∙ at .if1 .left) _ _ refl (c .no-operations .ensures)
     (ap (tables (a .list) (a .records .now)) (refilled .refill .ensures)) (evicted .evict .ensures)
 
 pub evict-spec : {M : Type 1} → statement M

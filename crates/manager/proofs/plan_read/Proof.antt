@@ -20,8 +20,8 @@ page-refusal-requires c κs = search needs
 returns : tie.Need-returns
 returns c = ap step-plan.Refused (c .before .page-refusal .ensures) ∙ planned-refused _ _ (λ z. c .if1 .taken (c .before .page-refusal .ensures ∙ z))
 
-mapping-of-requires : tie.Need-mapping-of-requires
-mapping-of-requires c κs = search needs
+listed-mapping-requires : tie.Need-listed-mapping-requires
+listed-mapping-requires c κs = search needs
 
 colour-of-requires : tie.Need-colour-of-requires
 colour-of-requires c κs = search needs
@@ -43,11 +43,11 @@ returns-2 c =
     let s = at-mapping .before .before .before .before .before in
     let accepted = sym (at-mapping .before .before .page-refusal .ensures) ∙ at-mapping .before .if1 .left in
     let rules =
-    ap (keepsRules _) (at-record .record-at .ensures ∙ ap (λ (m : Mapping). recordAt (s .args .records .now) (m .frame)) (at-mapping .mapping-of .ensures))
+    ap (keepsRules _) (at-record .record-at .ensures ∙ ap (λ (m : Mapping). recordAt (s .args .records .now) (m .frame)) (at-mapping .listed-mapping .ensures))
     ∙ page-rules _ (T s) (s .args .space) (s .args .page) accepted in
     c .step-of .ensures
     ∙ simp
-    (c .before .read .ensures _ (s .pre .few-colours) (at-colour .colour-of .ensures .1) rules, at-record .record-at .ensures, at-colour .colour-of .ensures .0, at-mapping .mapping-of .ensures, accepted)
+    (c .before .read .ensures _ (s .pre .few-colours) (at-colour .colour-of .ensures .1) rules, at-record .record-at .ensures, at-colour .colour-of .ensures .0, at-mapping .listed-mapping .ensures, accepted)
 
 pub plan-read-spec : {M : Type 1} → statement M
 plan-read-spec =
@@ -55,7 +55,7 @@ plan-read-spec =
     (tie.spec
     page-refusal-requires
     returns
-    mapping-of-requires
+    listed-mapping-requires
     colour-of-requires
     record-at-requires
     read-requires

@@ -1,6 +1,6 @@
 -- `sheet_codec::flushes_of` meets its contract.
 use Rattle.sheet_codec.specs.Totals.{flushOf}
-use Rattle.sheet_codec.proofs.Totals.{counted}
+use Rattle.sheet_codec.proofs.Totals.{both-operations, counted}
 use borrow.Author.Needs.{needs}
 use Rattle.sheet_codec.proofs.answers.flushes_of.Statement.{statement}
 use Rattle.sheet_codec.proofs.answers.flushes_of.Tie as tie
@@ -18,7 +18,9 @@ add-result : tie.Need-add-result
 add-result c = search needs
 
 returns : tie.Need-returns
-returns c = counted flushOf (c .before .before .before .operations-of .ensures) (c .before .flush-of .ensures) (c .flush-of2 .ensures)
+returns c =
+    let at = c .before .before .before in
+    counted flushOf (both-operations (at .before .args .answer) (at .operations-of .ensures)) (c .before .flush-of .ensures) (c .flush-of2 .ensures)
 
 pub flushes-of-spec : {M : Type 1} → statement M
 flushes-of-spec =

@@ -1,5 +1,4 @@
 -- `sheet_codec::operations_of` meets its contract.
-use mathlib.Core.Path.{refl}
 use borrow.Author.Needs.{needs}
 use Rattle.sheet_codec.proofs.answers.operations_of.Statement.{statement}
 use Rattle.sheet_codec.proofs.answers.operations_of.Tie as tie
@@ -11,10 +10,10 @@ enum-known-answer : tie.Need-enum-known-answer
 enum-known-answer c = search needs
 
 returns : tie.Need-returns
-returns c = search needs
+returns c = rw (c .enum-told .given .1)
 
 returns-2 : tie.Need-returns-2
-returns-2 c = rw (c .before .answer .given .1) (refl, refl)
+returns-2 c = rw (c .before .answer .given .1)
 
 pub operations-of-spec : {M : Type 1} → statement M
 operations-of-spec = tie.close (tie.spec enum-told enum-known-answer returns returns-2)

@@ -1,6 +1,6 @@
 -- `sheet_codec::purges_of` meets its contract.
 use Rattle.sheet_codec.specs.Totals.{purgeOf}
-use Rattle.sheet_codec.proofs.Totals.{counted}
+use Rattle.sheet_codec.proofs.Totals.{both-operations, counted}
 use borrow.Author.Needs.{needs}
 use Rattle.sheet_codec.proofs.answers.purges_of.Statement.{statement}
 use Rattle.sheet_codec.proofs.answers.purges_of.Tie as tie
@@ -18,7 +18,9 @@ add-result : tie.Need-add-result
 add-result c = search needs
 
 returns : tie.Need-returns
-returns c = counted purgeOf (c .before .before .before .operations-of .ensures) (c .before .purge-of .ensures) (c .purge-of2 .ensures)
+returns c =
+    let at = c .before .before .before in
+    counted purgeOf (both-operations (at .before .args .answer) (at .operations-of .ensures)) (c .before .purge-of .ensures) (c .purge-of2 .ensures)
 
 pub purges-of-spec : {M : Type 1} → statement M
 purges-of-spec =

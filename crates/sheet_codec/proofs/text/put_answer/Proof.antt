@@ -3,6 +3,7 @@ use native.Mathlib.Omega.{arith}
 use Rattle.sheet_codec.proofs.Written.{put-both, put-as}
 use Rattle.sheet_codec.specs.Text.{answerText}
 use borrow.Author.Needs.{needs}
+use Rattle.sheet_codec.proofs.Totals.{both-operations}
 use Rattle.sheet_codec.proofs.text.put_answer.Statement.{statement}
 use Rattle.sheet_codec.proofs.text.put_answer.Tie as tie
 
@@ -41,9 +42,9 @@ returns c =
     let first = space2 .before .before .before .before in
     let space = first .before .before .before .before in
     let number = space .before .before .before .before in
-    let n = number .before .before .before .before .number-of .ensures in
-    let e = number .before .before .before .operations-of .ensures in
-    put-as (rw (n, e .0, e .1)) (omega arith)
+    let told = number .before .before .before in
+    let e = both-operations (told .before .before .before .args .answer) (told .operations-of .ensures) in
+    put-as (rw (told .before .number-of .ensures, e .0, e .1)) (omega arith)
     (put-both (number .put-number .ensures)
     (put-both (space .put-byte .ensures)
     (put-both (first .put-operation .ensures)

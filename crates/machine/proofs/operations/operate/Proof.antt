@@ -3,8 +3,8 @@ use mathlib.Core.Path.{subst}
 use Rattle.page_model.specs.Step.{OpBelow}
 use Rattle.machine.specs.Step.{operate}
 use borrow.Author.Needs.{needs}
-use Rattle.machine.proofs.orders.operate.Statement.{statement}
-use Rattle.machine.proofs.orders.operate.Tie as tie
+use Rattle.machine.proofs.operations.operate.Statement.{statement}
+use Rattle.machine.proofs.operations.operate.Tie as tie
 
 flush-requires : tie.Need-flush-requires
 flush-requires c κs =

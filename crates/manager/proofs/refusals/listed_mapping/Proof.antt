@@ -1,9 +1,9 @@
--- `manager::mapping_of` meets its contract.
+-- `manager::listed_mapping` meets its contract.
 use mathlib.Core.Path.{ap, _∙_}
 use Rattle.mapping.specs.Entry.{mappingAt}
 use borrow.Author.Needs.{needs}
-use Rattle.manager.proofs.refusals.mapping_of.Statement.{statement}
-use Rattle.manager.proofs.refusals.mapping_of.Tie as tie
+use Rattle.manager.proofs.refusals.listed_mapping.Statement.{statement}
+use Rattle.manager.proofs.refusals.listed_mapping.Tie as tie
 
 place-of-requires : tie.Need-place-of-requires
 place-of-requires c κs = search needs
@@ -14,5 +14,5 @@ at-requires c κs = search needs
 returns : tie.Need-returns
 returns c = c .at .ensures ∙ ap (mappingAt (c .before .before .args .list)) (c .before .place-of .ensures)
 
-pub mapping-of-spec : {M : Type 1} → statement M
-mapping-of-spec = tie.close (tie.spec place-of-requires at-requires returns)
+pub listed-mapping-spec : {M : Type 1} → statement M
+listed-mapping-spec = tie.close (tie.spec place-of-requires at-requires returns)

@@ -2,8 +2,8 @@
 use mathlib.Core.Path.{ap, _∙_}
 use Rattle.cache.specs.Cache.{deviceWrite}
 use borrow.Author.Needs.{needs}
-use Rattle.machine.proofs.orders.receive.Statement.{statement}
-use Rattle.machine.proofs.orders.receive.Tie as tie
+use Rattle.machine.proofs.operations.receive.Statement.{statement}
+use Rattle.machine.proofs.operations.receive.Tie as tie
 
 returns : tie.Need-returns
 returns c =

@@ -1,4 +1,4 @@
--- `cache::order::flush` meets its contract: after i turns the buffers are as the sweep of i lines leaves them.
+-- `cache::operation::flush` meets its contract: after i turns the buffers are as the sweep of i lines leaves them.
 use mathlib.Core.Path.{_≡_, refl, sym, ap₂, _∙_, subst⁻¹}
 use Prim.Native.Nat.{_≤_, _-_}
 use native.Mathlib.Omega.{arith}
@@ -7,9 +7,9 @@ use lib.ListN.{length}
 use Rattle.cache.specs.Store.{store, WellFormed}
 use Rattle.cache.specs.Cache.{sweep, flushLine}
 use Rattle.cache.proofs.Laws.Sweep.{turn-kept, sweep-more}
-use Rattle.cache.proofs.Laws.Orders.{flushLine-empties, flush-done}
-use Rattle.cache.proofs.order.flush.Statement.{statement}
-use Rattle.cache.proofs.order.flush.Tie as tie
+use Rattle.cache.proofs.Laws.Operations.{flushLine-empties, flush-done}
+use Rattle.cache.proofs.operation.flush.Statement.{statement}
+use Rattle.cache.proofs.operation.flush.Tie as tie
 
 abbrev Inv-loop : tie.InvT-loop
 Inv-loop board memory₀ words tags₀ frame colour lines i₀ memory tags i =

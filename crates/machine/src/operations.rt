@@ -19,8 +19,8 @@ fn operate(board: Board, memory: &mut [u32], words: &[u32], tags: &mut [u8], fra
 {
     match op {
         Op::None => {}
-        Op::Flush(colour) => cache::order::flush(board, memory, words, tags, frame, colour),
-        Op::Purge(colour) => cache::order::purge(board, tags, frame, colour),
+        Op::Flush(colour) => cache::operation::flush(board, memory, words, tags, frame, colour),
+        Op::Purge(colour) => cache::operation::purge(board, tags, frame, colour),
     }
 }
 

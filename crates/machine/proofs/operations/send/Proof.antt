@@ -2,8 +2,8 @@
 use mathlib.Core.Path.{ap, _∙_}
 use Rattle.cache.specs.Cache.{deviceRead}
 use borrow.Author.Needs.{needs}
-use Rattle.machine.proofs.orders.send.Statement.{statement}
-use Rattle.machine.proofs.orders.send.Tie as tie
+use Rattle.machine.proofs.operations.send.Statement.{statement}
+use Rattle.machine.proofs.operations.send.Tie as tie
 
 returns : tie.Need-returns
 returns c =

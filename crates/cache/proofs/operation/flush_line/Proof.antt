@@ -1,9 +1,9 @@
--- `cache::order::flush_line` meets its contract.
+-- `cache::operation::flush_line` meets its contract.
 use borrow.Author.Needs.{needs}
 use mathlib.Core.Path.{sym, _∙_}
-use Rattle.cache.proofs.Laws.Orders.{flushLine-named, flushLine-other}
-use Rattle.cache.proofs.order.flush_line.Statement.{statement}
-use Rattle.cache.proofs.order.flush_line.Tie as tie
+use Rattle.cache.proofs.Laws.Operations.{flushLine-named, flushLine-other}
+use Rattle.cache.proofs.operation.flush_line.Statement.{statement}
+use Rattle.cache.proofs.operation.flush_line.Tie as tie
 
 slice-read-names : tie.Need-slice-read-names
 slice-read-names c = search needs

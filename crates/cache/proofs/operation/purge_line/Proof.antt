@@ -1,10 +1,10 @@
--- `cache::order::purge_line` meets its contract.
+-- `cache::operation::purge_line` meets its contract.
 use borrow.Author.Needs.{needs}
 use mathlib.Core.Path.{sym, _∙_}
 use Rattle.cache.specs.Cache.{empty}
-use Rattle.cache.proofs.Laws.Orders.{purgeLine-named, purgeLine-other}
-use Rattle.cache.proofs.order.purge_line.Statement.{statement}
-use Rattle.cache.proofs.order.purge_line.Tie as tie
+use Rattle.cache.proofs.Laws.Operations.{purgeLine-named, purgeLine-other}
+use Rattle.cache.proofs.operation.purge_line.Statement.{statement}
+use Rattle.cache.proofs.operation.purge_line.Tie as tie
 
 slice-read-names : tie.Need-slice-read-names
 slice-read-names c = search needs

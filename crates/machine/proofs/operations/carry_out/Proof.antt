@@ -5,8 +5,8 @@ use Rattle.manager.specs.Answers.{operationOn}
 use Rattle.cache.specs.Store.{WellFormed}
 use Rattle.machine.specs.Step.{operate, carryOut}
 use Rattle.machine.proofs.StoreLaws.{operate-kept}
-use Rattle.machine.proofs.orders.carry_out.Statement.{statement}
-use Rattle.machine.proofs.orders.carry_out.Tie as tie
+use Rattle.machine.proofs.operations.carry_out.Statement.{statement}
+use Rattle.machine.proofs.operations.carry_out.Tie as tie
 
 -- the places that the proof goes back to
 abbrev start-of : tie.After-operate → tie.Start

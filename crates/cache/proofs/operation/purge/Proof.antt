@@ -1,4 +1,4 @@
--- `cache::order::purge` meets its contract: after i turns the tags are as the sweep of i lines leaves them.
+-- `cache::operation::purge` meets its contract: after i turns the tags are as the sweep of i lines leaves them.
 use mathlib.Core.Path.{_≡_, refl, sym, ap₂, _∙_}
 use mathlib.Core.List.{List}
 use Prim.Native.Nat.{ℕ, _≤_, _-_}
@@ -8,9 +8,9 @@ use lib.ListN.{length}
 use Rattle.cache.specs.Store.{store}
 use Rattle.cache.specs.Cache.{sweep, purgeLine}
 use Rattle.cache.proofs.Laws.Sweep.{sweep-more}
-use Rattle.cache.proofs.Laws.Orders.{purge-done}
-use Rattle.cache.proofs.order.purge.Statement.{statement}
-use Rattle.cache.proofs.order.purge.Tie as tie
+use Rattle.cache.proofs.Laws.Operations.{purge-done}
+use Rattle.cache.proofs.operation.purge.Statement.{statement}
+use Rattle.cache.proofs.operation.purge.Tie as tie
 
 abbrev Inv-loop : tie.InvT-loop
 Inv-loop board tags₀ frame colour lines i₀ tags i =

@@ -3,8 +3,8 @@ use mathlib.Core.Path.{ap, _∙_}
 use borrow.Author.Needs.{needs}
 use Rattle.cache.specs.Cache.{readWord, access}
 use Rattle.machine.proofs.StoreLaws.{access-follows}
-use Rattle.machine.proofs.orders.load.Statement.{statement}
-use Rattle.machine.proofs.orders.load.Tie as tie
+use Rattle.machine.proofs.operations.load.Statement.{statement}
+use Rattle.machine.proofs.operations.load.Tie as tie
 
 -- the places that the proof goes back to
 abbrev start-of : tie.After-carry-out → tie.Start
