@@ -10,12 +10,10 @@ ghost use Prim.Native.Nat.{_≤_};
 
 fn main() {
     lengths();
-    buffers();
     tags();
     tables();
     refused();
     accepted();
-    last_frame();
 }
 
 // Frame 3 behind pages of colours 0 and 1: page 0 of space 0, and page 9 of space 1, which is read only.
@@ -38,12 +36,12 @@ fn tried(
     b: usize,
     tag: u8,
     flag: u32,
-)
-    requires { ⌜ (r ≤ 193) × (p ≤ 257) × (m ≤ 4097) × (w ≤ 513) × (t ≤ 65) × (b ≤ 65) ⌝ }
-{
+) {
     show::case(r, p, m, w, t, b, tag, flag);
-    row(list, r, p, m, w, t, b, tag, flag, 0, 3, 0);
-    row(list, r, p, m, w, t, b, tag, flag, 16, 64, 64);
+    if r <= 193 && p <= 257 && m <= 4097 && w <= 513 && t <= 65 && b <= 65 {
+        row(list, r, p, m, w, t, b, tag, flag, 0, 3, 0);
+        row(list, r, p, m, w, t, b, tag, flag, 16, 64, 64);
+    }
 }
 
 // Frame 3 is dirty in colour 0 by line 0. Protections are nines; memory has words of 70, the cache of 80, the buffer of 90.
@@ -90,7 +88,7 @@ fn row(
     show::parts(r, p, m, w, t);
 }
 
-// Memory, cache words and tags, each one short and one long; then the manager's own alone, and all at once.
+// Memory, cache words and tags, each one short and one long; the manager's own alone, and all at once; then the buffer, which only the transfers are lent.
 fn lengths() {
     io::write_all(STDOUT_FILENO, b"lengths\n");
     let list = two_pages();
@@ -103,12 +101,6 @@ fn lengths() {
     tried(list, 192, 256, 4096, 512, 65, 64, 0, 0);
     tried(list, 193, 257, 4096, 512, 64, 64, 0, 0);
     tried(list, 191, 255, 4095, 511, 63, 63, 0, 0);
-}
-
-// Only the transfers are lent the buffer.
-fn buffers() {
-    io::write_all(STDOUT_FILENO, b"buffers\n");
-    let list = two_pages();
     tried(list, 192, 256, 4096, 512, 64, 63, 0, 0);
     tried(list, 192, 256, 4096, 512, 64, 65, 0, 0);
 }
@@ -234,6 +226,7 @@ fn pages(n: u16) -> MappingList {
 // ---- accepted calls: memory starts as 64 f + o at offset o of frame f, cache words as 7, tags and records as 0
 
 fn accepted() {
+    io::write_all(STDOUT_FILENO, b"accesses\n");
     let mut r = [0u32; 192];
     let mut p = [9u8; 256];
     let mut m = [0u32; 4096];
@@ -242,29 +235,12 @@ fn accepted() {
     let mut b = [0u32; 64];
     show::count_up(&mut m, 0);
     show::count_up(&mut b, 1000);
-    let two = mapped(&r, &mut p, &m, &w, &t);
+    let two = two_pages();
     accesses(two, &mut r, &mut p, &mut m, &mut w, &mut t);
     writes_in(two, &mut r, &mut p, &mut m, &mut w, &mut t, &b);
     reads_out(two, &mut r, &mut p, &mut m, &mut w, &mut t);
     evictions(two, &mut r, &mut p, &mut m, &mut w, &mut t);
-    let left = unmapped(two, &mut r, &mut p, &mut m, &mut w, &mut t);
-    aligned(left, &mut r, &mut p, &mut m, &mut w, &mut t);
-}
-
-// The two pages, by the machine.
-fn mapped(
-    r: &[u32; 192],
-    p: &mut [u8; 256],
-    m: &[u32; 4096],
-    w: &[u32; 512],
-    t: &[u8; 64],
-) -> MappingList {
-    io::write_all(STDOUT_FILENO, b"accesses\n");
-    let one = show::map(mapping::empty(), r, p, m, w, t, entry(0, 0, 3, 2));
-    show::left(r, p, m, w, t);
-    let two = show::map(one, r, p, m, w, t, entry(1, 9, 3, 1));
-    show::left(r, p, m, w, t);
-    two
+    unmapped(two, &mut r, &mut p, &mut m, &mut w, &mut t);
 }
 
 // A miss; a hit, which does not see what memory holds meanwhile; a write; a read through the other colour; a write through rights 1.
@@ -362,7 +338,7 @@ fn unmapped(
     m: &mut [u32; 4096],
     w: &mut [u32; 512],
     t: &mut [u8; 64],
-) -> MappingList {
+) {
     io::write_all(STDOUT_FILENO, b"unmapped\n");
     show::write(list, r, p, m, w, t, 0, 0, 0, 21);
     show::left(r, p, m, w, t);
@@ -374,45 +350,4 @@ fn unmapped(
     show::left(r, p, m, w, t);
     show::read(two, r, p, m, w, t, 0, 17, 0);
     show::left(r, p, m, w, t);
-    two
-}
-
-// Two pages of one colour; and a page of the same colour on frame 5, whose miss writes the dirty line of frame 3 back.
-fn aligned(
-    list: MappingList,
-    r: &mut [u32; 192],
-    p: &mut [u8; 256],
-    m: &mut [u32; 4096],
-    w: &mut [u32; 512],
-    t: &mut [u8; 64],
-) {
-    io::write_all(STDOUT_FILENO, b"aligned\n");
-    show::write(list, r, p, m, w, t, 0, 17, 0, 22);
-    show::left(r, p, m, w, t);
-    show::read(list, r, p, m, w, t, 1, 9, 0);
-    show::left(r, p, m, w, t);
-    let three = show::map(list, r, p, m, w, t, entry(0, 1, 5, 2));
-    show::left(r, p, m, w, t);
-    show::read(three, r, p, m, w, t, 0, 1, 0);
-    show::left(r, p, m, w, t);
-}
-
-// Frame 63 in the last line: clean by tag 64, and found there; dirty by tag 192, and written back. A read of offset 63 and a line of 63 are accepted.
-fn last_frame() {
-    io::write_all(STDOUT_FILENO, b"last frame\n");
-    let mut r = [0u32; 192];
-    let mut p = [9u8; 256];
-    let mut m = [70u32; 4096];
-    let mut w = [80u32; 512];
-    let mut t = [0u8; 64];
-    let list = mapping::append(mapping::empty(), entry(15, 1023, 63, 2));
-    t[63] = 64;
-    show::read(list, &mut r, &mut p, &mut m, &mut w, &mut t, 15, 1023, 63);
-    show::left(&r, &p, &m, &w, &t);
-    t[63] = 192;
-    show::evict(list, &r, &mut p, &mut m, &w, &mut t, 63);
-    show::left(&r, &p, &m, &w, &t);
-    show::word(b"memory", &m, 4087);
-    show::word(b"memory", &m, 4088);
-    show::word(b"memory", &m, 4095);
 }

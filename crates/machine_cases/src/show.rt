@@ -32,7 +32,7 @@ pub fn map(
     let listed = machine::map(list, records, protections, memory, words, tags, m);
     let answer = listed.answer;
     let next = listed.list;
-    io::write_all(STDOUT_FILENO, b"map ");
+    io::write_all(STDOUT_FILENO, b"map");
     told(answer);
     apart();
     next
@@ -52,7 +52,7 @@ pub fn unmap(
     let listed = machine::unmap(list, records, protections, memory, words, tags, space, page);
     let answer = listed.answer;
     let next = listed.list;
-    io::write_all(STDOUT_FILENO, b"unmap ");
+    io::write_all(STDOUT_FILENO, b"unmap");
     told(answer);
     apart();
     next
@@ -81,10 +81,13 @@ pub fn read(
         page,
         offset,
     );
-    io::write_all(STDOUT_FILENO, b"read ");
+    io::write_all(STDOUT_FILENO, b"read");
     match loaded {
-        Loaded::Refused(number) => refused(number),
-        Loaded::Word(operations, word) => found(operations, word),
+        Loaded::Refused(n) => spaced(wide(n)),
+        Loaded::Word(operations, word) => {
+            both(operations);
+            spaced(long(word));
+        }
     }
     apart();
 }
@@ -114,7 +117,7 @@ pub fn write(
         offset,
         word,
     );
-    io::write_all(STDOUT_FILENO, b"write ");
+    io::write_all(STDOUT_FILENO, b"write");
     told(answer);
     apart();
 }
@@ -140,7 +143,7 @@ pub fn device_read(
         buffer,
         frame,
     );
-    io::write_all(STDOUT_FILENO, b"device read ");
+    io::write_all(STDOUT_FILENO, b"device read");
     told(answer);
     first(buffer);
     apart();
@@ -167,7 +170,7 @@ pub fn device_write(
         buffer,
         frame,
     );
-    io::write_all(STDOUT_FILENO, b"device write ");
+    io::write_all(STDOUT_FILENO, b"device write");
     told(answer);
     first(buffer);
     apart();
@@ -184,7 +187,7 @@ pub fn evict(
     line: usize,
 ) {
     let answer = machine::evict(list, records, protections, memory, words, tags, line);
-    io::write_all(STDOUT_FILENO, b"evict ");
+    io::write_all(STDOUT_FILENO, b"evict");
     told(answer);
     apart();
 }
@@ -235,25 +238,16 @@ pub fn count_up(to: &mut [u32], first: u32) {
 
 fn told(answer: Answer) {
     match answer {
-        Answer::Refused(n) => refused(n),
+        Answer::Refused(n) => spaced(wide(n)),
         Answer::Accepted(operations) => both(operations),
     }
-}
-
-fn refused(n: u8) {
-    io::print_decimal(STDOUT_FILENO, wide(n));
-}
-
-fn found(operations: FrameOps, word: u32) {
-    both(operations);
-    spaced(long(word));
 }
 
 fn both(operations: FrameOps) {
     let ops = operations.ops;
     let first = ops.first;
     let second = ops.second;
-    io::write_all(STDOUT_FILENO, b"0");
+    spaced(0);
     operation(operations.frame, first);
     operation(operations.frame, second);
 }

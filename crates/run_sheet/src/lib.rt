@@ -27,7 +27,7 @@ pub const TEXT_BYTES: usize = text::LINE_BYTES * (format::MOST_MAPPINGS + format
 
 // The constants. A constant carries no contract, so this function ties them to the definitions.
 pub fn sizes() -> [usize; 3]
-    ensures { λ r. ⌜ r ≡ sheetBytes ∷ sheetBytes + 1 ∷ textBytes ∷ [] ⌝ }
+    ensures { λ r. ⌜ r ≡ sheetBytes ∷ (sheetBytes + 1) ∷ textBytes ∷ [] ⌝ }
 {
     [SHEET_BYTES, INPUT_BYTES, TEXT_BYTES]
 }
