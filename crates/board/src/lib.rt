@@ -11,7 +11,7 @@ pub struct Board {
     pub frames: usize,
 }
 
-// Document 01's board, which every call passes on. Nothing below the calls knows it.
+// Document 01's board, which every call of the manager and the machine passes on. Nothing below these calls knows it.
 pub const BOARD01: Board = Board {
     page: 64,
     line: 8,

@@ -1,4 +1,4 @@
-// The two orders on a frame in a colour: flush and purge.
+// The two operations on a frame in a colour, flush and purge: document 01's orders.
 use crate::line::evict;
 use crate::tag::EMPTY;
 use crate::tag::names;

@@ -13,7 +13,7 @@ use Rattle.machine.specs.Step.{step}
 use Rattle.machine.proofs.StepLaws.{step-refused, step-accepted}
 use Rattle.consistency.specs.Demand3.{isRefused}
 use Rattle.consistency.proofs.Refused.{step-cases, accept-accepted}
-use Rattle.demands.specs.Demands.{Accepted, Refused, Demand1}
+use Rattle.demands.specs.Demands.{NoCause, FirstCause, Demand1}
 
 causes-in-order : (b : Board) (st : State) (call : Call) → inOrder 0 (causes b st call) ≡ true
 unfolding causes lentCauses ownCauses inOrder refusalPlace placeIn
@@ -33,7 +33,7 @@ accepted-clear b st call =
 pub demand1 : (b : Board) → Demand1 b
 demand1 b st call = go (firstRefusal (causes b st call)) refl
   where
-    go : (n : ℕ) → firstRefusal (causes b st call) ≡ n → Accepted b st call ⊎ ((n : ℕ) × Refused b st call n)
+    go : (n : ℕ) → firstRefusal (causes b st call) ≡ n → NoCause b st call ⊎ ((n : ℕ) × FirstCause b st call n)
     go zero e =
         inl (
           first-refusal (causes b st call) (causes-in-order b st call) .0 e,

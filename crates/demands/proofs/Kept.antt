@@ -12,7 +12,7 @@ use Rattle.board.specs.declared.Board.{Board}
 use Rattle.board.specs.Board.{Regular, lines, colourOf}
 use Rattle.board.proofs.Geometry.{colourOf-lt}
 use Rattle.page_model.specs.declared.FrameRecord.{FrameRecord}
-use Rattle.page_model.specs.declared.Stepped as code
+use Rattle.page_model.specs.declared.Stepped.{Stepped}
 use Rattle.page_model.specs.Record.{stateOf}
 use Rattle.page_model.specs.Step.{cellOf, stepped}
 use Rattle.page_model.specs.Table as table
@@ -37,11 +37,11 @@ use Rattle.cache.proofs.Laws.Device.{deviceWrite-kept}
 use Rattle.cache.proofs.Laws.Evict.{evict-kept}
 use Rattle.machine.specs.Refusals.{storeLengths, lentCauses, ownCauses, bufferRight, causes}
 use Rattle.machine.specs.State.{State, state, Call, map, unmap, read, write, deviceRead, deviceWrite, evict}
-use Rattle.machine.specs.Step.{carryOut, pageFrame, accept, step}
+use Rattle.machine.specs.Step.{operate, carryOut, pageFrame, accept, step}
 use Rattle.machine.proofs.StepLaws.{clear, lengths-clear, store-clear, tables-clear, step-accepted}
 use Rattle.consistency.proofs.Map.{map-clear}
 use Rattle.consistency.proofs.Operations.{ordered-kept}
-use Rattle.demands.specs.Demands.{stepOf, Stepped, Modelled, Left}
+use Rattle.demands.specs.Demands.{stepOf, ByTable, Modelled, listAfter, accessed, accessOf, Left}
 
 module _ (b : Board) (st : State) (call : Call) (e : firstRefusal (causes b st call) ≡ 0) where
   -- an accepted call was lent tables of their lengths that keep the rules
@@ -131,17 +131,17 @@ module _ (b : Board) (reg : Regular b) (st : State) where
 -- ---- orders and states
 
 module _ (b : Board) (t : Tables) (w : WellFormed b t) (f : ℕ) (h : f < b .frames) (s : table.Step) where
-  abbrev change : code.Stepped
+  abbrev change : Stepped
   change = stepped (b .colours) s (recordAt (t .records) f)
 
-  pub stepped-by : Stepped b t (commitChange b t f (change .next)) (accepted f (change .ops)) f s
+  pub stepped-by : ByTable b t (commitChange b t f (change .next)) (accepted f (change .ops)) f s
   unfolding refill cellOf
   stepped-by =
       let kept = record-rules b t (w .1) f h in
       let n = lengths-known b t (w .0) in
       record {
         few = few-operations (b .colours) s (recordAt (t .records) f) kept .0;
-        answered = refl;
+        ordered = refl;
         states = λ k hk. ap (λ (r : FrameRecord). stateOf r k) (recordAt-putRecord-same (t .records) f (change .next) (omega arith)) ∙ state-after (b .colours) s (recordAt (t .records) f) kept k hk;
         others = λ g ne. recordAt-putRecord-other (t .records) f (change .next) g ne;
       }
@@ -161,6 +161,31 @@ module _ (b : Board) (st : State) where
   modelled-after (deviceWrite frame buffer) e =
       stepped-by b (st .tables) (tables-lent b st (deviceWrite frame buffer) e) frame (leb-false (b .frames) frame (clear b st (deviceWrite frame buffer) e .1 .1 .0)) table.deviceWrite
   modelled-after (evict line) e = (refl, refl)
+
+-- ---- list, memory and cache
+
+module _ (b : Board) (st : State) where
+  pub listed-after : (call : Call) → accept b st call .after .tables .list ≡ listAfter (st .tables .list) call
+  unfolding accept refill
+  listed-after (map space page frame rights) = refl
+  listed-after (unmap space page) = refl
+  listed-after (read space page offset) = refl
+  listed-after (write space page offset word) = refl
+  listed-after (deviceRead frame buffer) = refl
+  listed-after (deviceWrite frame buffer) = refl
+  listed-after (evict line) = refl
+
+  pub made-after : (call : Call)
+      → accessed (accept b st call .answer .word) (accept b st call .answer .buffer) (accept b st call .after .store)
+      ≡ accessOf b st call (carryOut b (accept b st call .answer .outcome) (st .store))
+  unfolding accept carryOut operate
+  made-after (map space page frame rights) = refl
+  made-after (unmap space page) = refl
+  made-after (read space page offset) = refl
+  made-after (write space page offset word) = refl
+  made-after (deviceRead frame buffer) = refl
+  made-after (deviceWrite frame buffer) = refl
+  made-after (evict line) = refl
 
 -- ---- protections
 
@@ -223,15 +248,17 @@ module _ (b : Board) (t : Tables) (w : WellFormed b t) (agree : Agreeing b t) (i
 -- ---- all of it
 
 module _ (b : Board) (reg : Regular b) (st : State) (call : Call) (e : firstRefusal (causes b st call) ≡ 0) where
-  pub left : Left b st call (accept b st call .after) (accept b st call .answer .outcome)
+  pub left : Left b st call (accept b st call .after) (accept b st call .answer)
   left =
       let w = tables-after b st call e in
       let agree = protections-after b st call e in
       let t = accept b st call .after .tables in
       record {
         tables-kept = w;
-        tags-kept = store-after b reg st call e .tags-rules;
+        store-kept = store-after b reg st call e;
         modelled = modelled-after b st call e;
+        listed = listed-after b st call;
+        made = made-after b st call;
         protections = agree;
         unread = λ ps same. unread-after b st ps same call e;
         read-passes = λ i h.

@@ -1,4 +1,5 @@
 -- The proofs of the demands.
 pub mod Answers
 pub mod Kept
+pub mod Manager
 pub mod Theorem

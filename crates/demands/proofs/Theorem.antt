@@ -9,14 +9,15 @@ use Rattle.consistency.proofs.Theorem.{demand3}
 use Rattle.demands.specs.Demands.{Left, Demand2, EveryBoard, Board01}
 use Rattle.demands.proofs.Answers.{accepted-clear, demand1}
 use Rattle.demands.proofs.Kept.{left}
+use Rattle.demands.proofs.Manager.{manager-agrees}
 
 demand2 : (b : Board) → Regular b → Demand2 b
 demand2 b reg st call a =
     let e = accepted-clear b st call a in
-    subst (λ (r : Result). Left b st call (r .after) (r .answer .outcome)) (step-accepted b st call e) (left b reg st call e)
+    subst (λ (r : Result). Left b st call (r .after) (r .answer)) (step-accepted b st call e) (left b reg st call e)
 
 pub every-board : EveryBoard
-every-board b reg = (demand1 b, demand2 b reg, demand3 b reg)
+every-board b reg = (demand1 b, demand2 b reg, demand3 b reg, manager-agrees b)
 
 pub board-01 : Board01
 board-01 = every-board board01 board01-regular

@@ -1,6 +1,6 @@
 -- The three demands, over the machine's `step` at every call, with any numbers and any content of what is lent.
 use mathlib.Core.Bool.{true, false}
-use mathlib.Core.List.{List, List·Memᴰ}
+use mathlib.Core.List.{List, [], List·Memᴰ}
 use mathlib.Core.Logic.{_↔_, _⊎_, _≢_}
 use mathlib.Core.Option.{Option, none, some}
 use mathlib.Core.Path.{_≡_}
@@ -13,41 +13,47 @@ use Rattle.page_model.specs.Step.{operations, firstTwo}
 use Rattle.page_model.specs.Table as table
 use Rattle.page_model.specs.Table.{cellAt}
 use Rattle.page_model.specs.Theorems.{Idle}
+use Rattle.mapping.specs.declared.MappingList.{MappingList}
+use Rattle.mapping.specs.Change.{append, remove}
 use Rattle.mapping.specs.Entry.{capacity, readWrite, mappingAt}
+use Rattle.mapping.specs.Lookup.{lookup}
 use Rattle.manager.specs.Answers.{Outcome, refused, accepted}
+use Rattle.manager.specs.Calls as managers
 use Rattle.manager.specs.Calls.{noOps}
-use Rattle.manager.specs.Refusals.{Cause, isRight}
+use Rattle.manager.specs.Refusals.{Cause, isRight, placeOf}
 use Rattle.manager.specs.Tables.{Tables, tables, recordAt, protectionAt, tabulate}
 use Rattle.manager.specs.Theorems.{First, WellFormed}
-use Rattle.cache.specs.Tag.{tagsKeepRules}
+use Rattle.cache.specs.Cache as hardware
+use Rattle.cache.specs.Cache.{access, readWord, writeWord}
+use Rattle.cache.specs.Store as hardware-store
+use Rattle.cache.specs.Store.{Store}
 use Rattle.machine.specs.Refusals.{causes}
-use Rattle.machine.specs.State.{State, state, Call, map, unmap, read, write, deviceRead, deviceWrite, evict, lentBuffer}
-use Rattle.machine.specs.Step.{answer, result, pageFrame, step}
+use Rattle.machine.specs.State.{State, state, Call, map, unmap, read, write, deviceRead, deviceWrite, evict, Answer, lentBuffer}
+use Rattle.machine.specs.Step.{answer, result, pageFrame, carryOut, step}
 use Rattle.consistency.specs.Demand3.{isRefused, Demand3}
 
 -- ---- 1. The answer to each call is a result, or the one refusal that the listed conditions and their order give; a refusal orders nothing
 -- and changes nothing.
 
 -- no cause applies, and the call is accepted
-abbrev pub Accepted : Board → State → Call → Type 0
-Accepted b st call = ((c : Cause) → List·Memᴰ c (causes b st call) → c .applies ≡ false) × (isRefused (step b st call .answer) ≡ false)
+abbrev pub NoCause : Board → State → Call → Type 0
+NoCause b st call = ((c : Cause) → List·Memᴰ c (causes b st call) → c .applies ≡ false) × (isRefused (step b st call .answer) ≡ false)
 
 -- n is the first cause that applies; the answer is this number, with no order and no word, and everything lent is as it was
-abbrev pub Refused : Board → State → Call → ℕ → Type 0
-Refused b st call n = First (causes b st call) n × (step b st call ≡ result (answer (refused n) none (lentBuffer call)) st)
+abbrev pub FirstCause : Board → State → Call → ℕ → Type 0
+FirstCause b st call n = First (causes b st call) n × (step b st call ≡ result (answer (refused n) none (lentBuffer call)) st)
 
 abbrev pub Demand1 : Board → Type 0
-Demand1 b = (st : State) (call : Call) → Accepted b st call ⊎ ((n : ℕ) × Refused b st call n)
+Demand1 b = (st : State) (call : Call) → NoCause b st call ⊎ ((n : ℕ) × FirstCause b st call n)
 
--- ---- 2. Orders, page states and protections are those of the page model. An access passes without a stop exactly if its right allows it
--- and the model would order nothing and alter nothing.
+-- ---- 2. Orders, page states and protections are those of the page model; list, memory, cache words and tags after each call are what the
+-- board's rules leave. An access passes without a stop exactly if its right allows it and the model would order nothing and alter nothing.
 
--- a step of the page model on a frame
+-- a step of the page model on a frame, and the one that a call makes, if any
 pub record FrameStep : Type 0 where
   pub frame : ℕ
   pub step : table.Step
 
--- the one that a call makes, if any
 abbrev pub stepOf : Board → State → Call → Option FrameStep
 stepOf b st (map space page frame rights) = none
 stepOf b st (unmap space page) = none
@@ -58,22 +64,53 @@ stepOf b st (deviceWrite frame buffer) = some (record { frame = frame; step = ta
 stepOf b st (evict line) = none
 
 -- the orders are the table's, in order and on this frame; each of its colours is in the state of its cell, and other frames are as they were
-pub record Stepped (b : Board) (before after : Tables) (o : Outcome) (f : ℕ) (s : table.Step) : Type 0 where
+pub record ByTable (b : Board) (before after : Tables) (o : Outcome) (f : ℕ) (s : table.Step) : Type 0 where
   pub few : length (operations (b .colours) s (recordAt (before .records) f)) ≤ 2
-  pub answered : o ≡ accepted f (firstTwo (operations (b .colours) s (recordAt (before .records) f)))
+  pub ordered : o ≡ accepted f (firstTwo (operations (b .colours) s (recordAt (before .records) f)))
   pub states : (k : ℕ) → k < b .colours → stateOf (recordAt (after .records) f) k ≡ cellAt s k (stateOf (recordAt (before .records) f) k) .next
   pub others : (g : ℕ) → g ≢ f → recordAt (after .records) g ≡ recordAt (before .records) g
 
 -- a call that makes no step orders nothing and leaves every record
 abbrev pub Modelled : Board → Tables → Tables → Outcome → Option FrameStep → Type 0
 Modelled b before after o none = (o ≡ accepted 0 noOps) × (after .records ≡ before .records)
-Modelled b before after o (some s) = Stepped b before after o (s .frame) (s .step)
+Modelled b before after o (some s) = ByTable b before after o (s .frame) (s .step)
 
--- what an accepted call leaves
-pub record Left (b : Board) (st : State) (call : Call) (after : State) (o : Outcome) : Type 0 where
+-- the list after a call
+abbrev pub listAfter : MappingList → Call → MappingList
+listAfter l (map space page frame rights) = append l (record { space = space; page = page; frame = frame; rights = rights })
+listAfter l (unmap space page) = remove l (placeOf (lookup l space page))
+listAfter l (read space page offset) = l
+listAfter l (write space page offset word) = l
+listAfter l (deviceRead frame buffer) = l
+listAfter l (deviceWrite frame buffer) = l
+listAfter l (evict line) = l
+
+-- what a call answers besides its orders, and the memory and cache that it leaves, where its orders leave s
+pub record Access : Type 0 where
+  pub word : Option ℕ
+  pub buffer : List ℕ
+  pub store : Store
+
+abbrev pub accessed : Option ℕ → List ℕ → Store → Access
+accessed word buffer s = record { word = word; buffer = buffer; store = s }
+
+abbrev pub accessOf : Board → State → Call → Store → Access
+accessOf b st (map space page frame rights) s = accessed none [] s
+accessOf b st (unmap space page) s = accessed none [] s
+accessOf b st (read space page offset) s =
+    accessed (some (readWord b (pageFrame st space page) (colourOf b page) offset s)) [] (access b (pageFrame st space page) (colourOf b page) offset s)
+accessOf b st (write space page offset word) s = accessed none [] (writeWord b (pageFrame st space page) (colourOf b page) offset word s)
+accessOf b st (deviceRead frame buffer) s = accessed none (hardware.deviceRead b frame s) s
+accessOf b st (deviceWrite frame buffer) s = accessed none [] (hardware.deviceWrite b frame buffer s)
+accessOf b st (evict line) s = accessed none [] (hardware.evict b line s)
+
+-- what an accepted call leaves, and answers
+pub record Left (b : Board) (st : State) (call : Call) (after : State) (a : Answer) : Type 0 where
   pub tables-kept : WellFormed b (after .tables)
-  pub tags-kept : tagsKeepRules b (after .store .tags) ≡ true
-  pub modelled : Modelled b (st .tables) (after .tables) o (stepOf b st call)
+  pub store-kept : hardware-store.WellFormed b (after .store)
+  pub modelled : Modelled b (st .tables) (after .tables) (a .outcome) (stepOf b st call)
+  pub listed : after .tables .list ≡ listAfter (st .tables .list) call
+  pub made : accessed (a .word) (a .buffer) (after .store) ≡ accessOf b st call (carryOut b (a .outcome) (st .store))
   -- the whole buffer of protections is what list and records give, whatever it held before
   pub protections : after .tables .protections ≡ tabulate capacity (protectionAt b (after .tables .list) (after .tables .records))
   pub unread :
@@ -93,16 +130,34 @@ pub record Left (b : Board) (st : State) (call : Call) (after : State) (o : Outc
 
 abbrev pub Demand2 : Board → Type 0
 Demand2 b =
-    (st : State) (call : Call) → isRefused (step b st call .answer) ≡ false
-    → Left b st call (step b st call .after) (step b st call .answer .outcome)
+    (st : State) (call : Call) → isRefused (step b st call .answer) ≡ false → Left b st call (step b st call .after) (step b st call .answer)
 
 -- ---- 3. Over any list of calls from the start, every accepted read finds what memory without a cache would give, and once every line has
 -- been evicted memory equals that memory word for word: `Demand3`.
 
--- ---- all three, of every regular board, and so of document 01's
+-- ---- The manager's own calls, which a kernel makes on its own hardware: beside a store of its lengths whose tags keep the rules, an offset in
+-- the page and a buffer of its length, each answers and leaves in the tables what the machine's call does.
+
+abbrev pub Agrees : Board → State → Call → managers.Result → Type 0
+Agrees b st call r = r ≡ managers.result (step b st call .answer .outcome) (step b st call .after .tables)
+
+abbrev pub ManagerCall : Board → State → Call → Type 0
+ManagerCall b st (map space page frame rights) = Agrees b st (map space page frame rights) (managers.mapCall b (st .tables) space page frame rights)
+ManagerCall b st (unmap space page) = Agrees b st (unmap space page) (managers.unmapCall b (st .tables) space page)
+ManagerCall b st (read space page offset) = offset < b .page → Agrees b st (read space page offset) (managers.readCall b (st .tables) space page)
+ManagerCall b st (write space page offset word) =
+    offset < b .page → Agrees b st (write space page offset word) (managers.writeCall b (st .tables) space page)
+ManagerCall b st (deviceRead frame buffer) = length buffer ≡ b .page → Agrees b st (deviceRead frame buffer) (managers.deviceReadCall b (st .tables) frame)
+ManagerCall b st (deviceWrite frame buffer) = length buffer ≡ b .page → Agrees b st (deviceWrite frame buffer) (managers.deviceWriteCall b (st .tables) frame)
+ManagerCall b st (evict line) = Unit {0}
+
+abbrev pub ManagerAgrees : Board → Type 0
+ManagerAgrees b = (st : State) (call : Call) → hardware-store.WellFormed b (st .store) → ManagerCall b st call
+
+-- ---- all of it, of every regular board, and so of document 01's
 
 abbrev pub Demands : Board → Type 0
-Demands b = Demand1 b × Demand2 b × Demand3 b
+Demands b = Demand1 b × Demand2 b × Demand3 b × ManagerAgrees b
 
 abbrev pub EveryBoard : Type 0
 EveryBoard = (b : Board) → Regular b → Demands b

@@ -6,7 +6,7 @@ use mathlib.Core.Option.{Option, none, some}
 use mathlib.Core.Path.{_≡_}
 use Prim.Native.Nat.{ℕ, zero, suc, _+_, _*_}
 use lib.Dec.{ltb}
-use lib.ListN.{replicate, set}
+use lib.ListN.{replicate, getD, set}
 use Rattle.bits.specs.Mask.{digit}
 use Rattle.board.specs.Board.{board01, lineOf}
 use Rattle.mapping.specs.declared.Mapping.{Mapping}
@@ -132,6 +132,10 @@ tagged tag = withCache (set (fresh .store .words) 0 77) (set (fresh .store .tags
 abbrev pub readOnce : State
 readOnce = after fresh (map 0 2 5 1 ∷ read 0 2 3 ∷ [])
 
+-- page 0 mapped to frame 3, and a word of it written
+abbrev pub wroteOnce : State
+wroteOnce = after fresh (map 0 0 3 2 ∷ write 0 0 0 17 ∷ [])
+
 -- ---- document 01's sheet
 
 abbrev pub exampleSheet : List ℕ
@@ -225,6 +229,8 @@ table =
     ∷ (answers (ask (tagged 65) (evict 1 ∷ [])) gives answers (refuses 2 ∷ []))
     ∷ (answers (ask (tagged 64) (map 0 0 63 1 ∷ read 0 0 0 ∷ [])) gives answers (done ∷ finds 63 77 ∷ []))
     ∷ (numbers (frameOf 64 ∷ digit (isDirty 64) ∷ []) gives numbers (63 ∷ 0 ∷ []))
+    -- a word that is written lies in its line, whose tag is 129 + frame, and not in memory
+    ∷ (numbers (getD (wroteOnce .store .tags) 0 0 ∷ getD (wroteOnce .store .words) 0 0 ∷ getD (wroteOnce .store .memory) 192 0 ∷ []) gives numbers (132 ∷ 17 ∷ 0 ∷ []))
     -- tags 128 and 193: 2; 129 and 192: dirty, frames 0 and 63, whose word an eviction brings to memory
     ∷ (answers (ask (tagged 128) (evict 1 ∷ [])) gives answers (refuses 2 ∷ []))
     ∷ (answers (ask (tagged 193) (evict 1 ∷ [])) gives answers (refuses 2 ∷ []))

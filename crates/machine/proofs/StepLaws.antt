@@ -29,11 +29,12 @@ use Rattle.manager.specs.Tables.{Tables, tables, lengthsRight, rulesKept, recor
 use Rattle.manager.proofs.CauseLaws.{NoneApplies, numbered, none-applies, mapped-range}
 use Rattle.cache.specs.Store.{Store, WellFormed}
 use Rattle.cache.specs.Tag.{tagsKeepRules}
+use Rattle.machine.specs.Ready.{AccessReady, TransferReady}
 use Rattle.machine.specs.Refusals.{storeLengths, bufferRight, lentCauses, offsetCause, ownCauses, causes}
 use Rattle.machine.specs.State.{State, state, Call, map, unmap, read, write, deviceRead, deviceWrite, evict, Result, lentBuffer}
 use Rattle.machine.specs.Step.{answer, result, carryOut, listed, stepped, pageFrame, accept, step}
 use Rattle.machine.specs.Plans.{planStep, planPlace, refusalOf, placeRefusal}
-use Rattle.machine.proofs.StoreLaws.{AccessReady, TransferReady, well-formed}
+use Rattle.machine.proofs.StoreLaws.{well-formed}
 
 -- ---- a plan that was made
 

@@ -1,7 +1,6 @@
 -- Laws of the refusals in memory, cache words and tags, and of what the orders leave of them.
 use mathlib.Core.Path.{_≡_, ap₂, subst⁻¹}
 use mathlib.Core.Bool.{true, false, _&&_, and-false}
-use mathlib.Core.List.{List}
 use Prim.Native.Nat.{ℕ, _<_}
 use borrow.Author.Tests.{eq-eqb, eqb-true}
 use lib.Dec.{eqb}
@@ -17,6 +16,7 @@ use Rattle.manager.specs.Answers.{operationOn, accepted}
 use Rattle.cache.specs.Store.{Store, WellFormed}
 use Rattle.cache.specs.Tag.{tagsKeepRules}
 use Rattle.cache.proofs.Laws.Operations.{flush-kept, purge-kept}
+use Rattle.machine.specs.Ready.{AccessReady}
 use Rattle.machine.specs.Refusals.{storeLengths}
 use Rattle.machine.specs.Step.{operate, carryOut}
 
@@ -49,17 +49,6 @@ module _ (b : Board) (s : Store) where
       }
 
 -- ---- a frame's operations, and the access after them
-
--- what `load` and `put` require
-abbrev pub AccessReady : Board → Store → ℕ → Ops → ℕ → ℕ → Type 0
-AccessReady b s f ops colour offset =
-    WellFormed b s × (f < b .frames) × OpBelow (b .colours) (ops .first) × OpBelow (b .colours) (ops .second) × (colour < b .colours) × (offset < b .page)
-    × Regular b
-
--- what `send` and `receive` require
-abbrev pub TransferReady : Board → Store → ℕ → Ops → List ℕ → Type 0
-TransferReady b s f ops buffer =
-    WellFormed b s × (f < b .frames) × OpBelow (b .colours) (ops .first) × OpBelow (b .colours) (ops .second) × (length buffer ≡ b .page) × Regular b
 
 -- an operation on a frame leaves a store of its lengths, whose tags keep the rules
 pub operate-kept : (b : Board) → Regular b → (f : ℕ) → f < b .frames → (op : Op) → OpBelow (b .colours) op → (s : Store) → WellFormed b s

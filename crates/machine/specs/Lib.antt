@@ -3,3 +3,4 @@ pub mod State
 pub mod Refusals
 pub mod Step
 pub mod Plans
+pub mod Ready

@@ -1,4 +1,4 @@
-// The machine: memory and cache as the hardware has them. Each call asks the manager, carries out its orders, then makes the access.
+// The machine: memory and cache as the hardware has them. Each call asks the manager, carries out its operations, then makes the access.
 mod operations;
 mod plans;
 
@@ -20,7 +20,7 @@ use manager::Plan;
 use mapping::Mapping;
 use mapping::MappingList;
 
-// The answer of a read: the refusal's number, or the orders and the word.
+// The answer of a read: the refusal's number, or the operations and the word.
 pub enum Loaded {
     Refused(u8),
     Word(FrameOps, u32),

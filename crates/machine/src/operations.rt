@@ -1,12 +1,12 @@
-// The manager's orders, carried out on memory and cache, and the access after them.
+// The manager's operations, carried out on memory and cache, and the access after them.
 ghost use mathlib.Core.Path.{_≡_};
 ghost use Prim.Native.Nat.{_<_};
-ghost use lib.ListN.{length};
 ghost use Rattle.board.specs.Board.{Regular};
 ghost use Rattle.page_model.specs.Step.{OpBelow};
 ghost use Rattle.manager.specs.Answers.{operationOn, accepted};
 ghost use Rattle.cache.specs.Cache.{readWord, access, writeWord, deviceRead, deviceWrite};
 ghost use Rattle.cache.specs.Store.{store, WellFormed};
+ghost use Rattle.machine.specs.Ready.{OperationsReady, AccessReady, TransferReady};
 ghost use Rattle.machine.specs.Step.{operate, carryOut};
 use board::Board;
 use page_model::Op;
@@ -15,7 +15,8 @@ use page_model::Ops;
 // Carries out one operation on a frame.
 fn operate(board: Board, memory: &mut [u32], words: &[u32], tags: &mut [u8], frame: usize, op: Op)
     requires { ⌜ WellFormed board (store (now memory) (now words) (now tags)) × (frame < board .frames) × OpBelow (board .colours) op × Regular board ⌝ }
-    ensures { λ _. ⌜ store (now (memory .exit)) (now (words .entry)) (now (tags .exit)) ≡ operate board (operationOn frame op) (store (now (memory .entry)) (now (words .entry)) (now (tags .entry))) ⌝ }
+    ensures { λ _. ⌜ store (now (memory .exit)) (now (words .entry)) (now (tags .exit))
+        ≡ operate board (operationOn frame op) (store (now (memory .entry)) (now (words .entry)) (now (tags .entry))) ⌝ }
 {
     match op {
         Op::None => {}
@@ -33,8 +34,9 @@ pub fn carry_out(
     frame: usize,
     ops: Ops,
 )
-    requires { ⌜ WellFormed board (store (now memory) (now words) (now tags)) × (frame < board .frames) × OpBelow (board .colours) (ops .first) × OpBelow (board .colours) (ops .second) × Regular board ⌝ }
-    ensures { λ _. ⌜ store (now (memory .exit)) (now (words .entry)) (now (tags .exit)) ≡ carryOut board (accepted frame ops) (store (now (memory .entry)) (now (words .entry)) (now (tags .entry))) ⌝ }
+    requires { ⌜ OperationsReady board (store (now memory) (now words) (now tags)) frame ops ⌝ }
+    ensures { λ _. ⌜ store (now (memory .exit)) (now (words .entry)) (now (tags .exit))
+        ≡ carryOut board (accepted frame ops) (store (now (memory .entry)) (now (words .entry)) (now (tags .entry))) ⌝ }
 {
     let first = ops.first;
     operate(board, memory, words, tags, frame, first);
@@ -53,9 +55,11 @@ pub fn load(
     colour: usize,
     offset: usize,
 ) -> u32
-    requires { ⌜ WellFormed board (store (now memory) (now words) (now tags)) × (frame < board .frames) × OpBelow (board .colours) (ops .first) × OpBelow (board .colours) (ops .second) × (colour < board .colours) × (offset < board .page) × Regular board ⌝ }
-    ensures word { λ r. ⌜ r ≡ readWord board frame colour offset (carryOut board (accepted frame ops) (store (now (memory .entry)) (now (words .entry)) (now (tags .entry)))) ⌝ }
-    ensures state { λ _. ⌜ store (now (memory .exit)) (now (words .exit)) (now (tags .exit)) ≡ access board frame colour offset (carryOut board (accepted frame ops) (store (now (memory .entry)) (now (words .entry)) (now (tags .entry)))) ⌝ }
+    requires { ⌜ AccessReady board (store (now memory) (now words) (now tags)) frame ops colour offset ⌝ }
+    ensures word { λ r. ⌜ r
+        ≡ readWord board frame colour offset (carryOut board (accepted frame ops) (store (now (memory .entry)) (now (words .entry)) (now (tags .entry)))) ⌝ }
+    ensures state { λ _. ⌜ store (now (memory .exit)) (now (words .exit)) (now (tags .exit))
+        ≡ access board frame colour offset (carryOut board (accepted frame ops) (store (now (memory .entry)) (now (words .entry)) (now (tags .entry)))) ⌝ }
 {
     carry_out(board, memory, words, tags, frame, ops);
     cache::access::read_word(board, memory, words, tags, frame, colour, offset)
@@ -73,8 +77,9 @@ pub fn put(
     offset: usize,
     word: u32,
 )
-    requires { ⌜ WellFormed board (store (now memory) (now words) (now tags)) × (frame < board .frames) × OpBelow (board .colours) (ops .first) × OpBelow (board .colours) (ops .second) × (colour < board .colours) × (offset < board .page) × Regular board ⌝ }
-    ensures { λ _. ⌜ store (now (memory .exit)) (now (words .exit)) (now (tags .exit)) ≡ writeWord board frame colour offset word (carryOut board (accepted frame ops) (store (now (memory .entry)) (now (words .entry)) (now (tags .entry)))) ⌝ }
+    requires { ⌜ AccessReady board (store (now memory) (now words) (now tags)) frame ops colour offset ⌝ }
+    ensures { λ _. ⌜ store (now (memory .exit)) (now (words .exit)) (now (tags .exit))
+        ≡ writeWord board frame colour offset word (carryOut board (accepted frame ops) (store (now (memory .entry)) (now (words .entry)) (now (tags .entry)))) ⌝ }
 {
     carry_out(board, memory, words, tags, frame, ops);
     cache::access::write_word(board, memory, words, tags, frame, colour, offset, word);
@@ -90,9 +95,11 @@ pub fn send(
     ops: Ops,
     buffer: &mut [u32],
 )
-    requires { ⌜ WellFormed board (store (now memory) (now words) (now tags)) × (frame < board .frames) × OpBelow (board .colours) (ops .first) × OpBelow (board .colours) (ops .second) × (length (now buffer) ≡ board .page) × Regular board ⌝ }
-    ensures state { λ _. ⌜ store (now (memory .exit)) (now (words .entry)) (now (tags .exit)) ≡ carryOut board (accepted frame ops) (store (now (memory .entry)) (now (words .entry)) (now (tags .entry))) ⌝ }
-    ensures filled { λ _. ⌜ now (buffer .exit) ≡ deviceRead board frame (carryOut board (accepted frame ops) (store (now (memory .entry)) (now (words .entry)) (now (tags .entry)))) ⌝ }
+    requires { ⌜ TransferReady board (store (now memory) (now words) (now tags)) frame ops (now buffer) ⌝ }
+    ensures state { λ _. ⌜ store (now (memory .exit)) (now (words .entry)) (now (tags .exit))
+        ≡ carryOut board (accepted frame ops) (store (now (memory .entry)) (now (words .entry)) (now (tags .entry))) ⌝ }
+    ensures filled { λ _. ⌜ now (buffer .exit)
+        ≡ deviceRead board frame (carryOut board (accepted frame ops) (store (now (memory .entry)) (now (words .entry)) (now (tags .entry)))) ⌝ }
 {
     carry_out(board, memory, words, tags, frame, ops);
     cache::device::device_read(board, memory, buffer, frame);
@@ -108,8 +115,9 @@ pub fn receive(
     ops: Ops,
     buffer: &[u32],
 )
-    requires { ⌜ WellFormed board (store (now memory) (now words) (now tags)) × (frame < board .frames) × OpBelow (board .colours) (ops .first) × OpBelow (board .colours) (ops .second) × (length (now buffer) ≡ board .page) × Regular board ⌝ }
-    ensures { λ _. ⌜ store (now (memory .exit)) (now (words .entry)) (now (tags .exit)) ≡ deviceWrite board frame (now (buffer .entry)) (carryOut board (accepted frame ops) (store (now (memory .entry)) (now (words .entry)) (now (tags .entry)))) ⌝ }
+    requires { ⌜ TransferReady board (store (now memory) (now words) (now tags)) frame ops (now buffer) ⌝ }
+    ensures { λ _. ⌜ store (now (memory .exit)) (now (words .entry)) (now (tags .exit))
+        ≡ deviceWrite board frame (now (buffer .entry)) (carryOut board (accepted frame ops) (store (now (memory .entry)) (now (words .entry)) (now (tags .entry)))) ⌝ }
 {
     carry_out(board, memory, words, tags, frame, ops);
     cache::device::device_write(board, memory, buffer, frame);

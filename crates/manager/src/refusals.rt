@@ -11,15 +11,17 @@ use mapping::Found;
 use mapping::Mapping;
 use mapping::MappingList;
 
-// The refusals' numbers in the order in which they are tested.
-const ORDER: [u8; 10] = [1, 2, 3, 4, 5, 6, 7, 8, 9, 10];
+// How many refusals there are, and their numbers in the order in which they are tested.
+const REFUSALS: usize = 10;
+
+const ORDER: [u8; REFUSALS] = [1, 2, 3, 4, 5, 6, 7, 8, 9, 10];
 
 // The place of a refusal in the order, past its end where it is not listed.
 pub fn place(number: u8) -> usize
     ensures { λ r. ⌜ r ≡ refusalPlace number ⌝ }
 {
     let mut i = 0;
-    while i < 10 {
+    while i < REFUSALS {
         if ORDER[i] == number {
             return i;
         }

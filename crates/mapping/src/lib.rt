@@ -26,7 +26,7 @@ pub struct Mapping {
 
 // The first count records are listed, in order of mapping; the others are zero.
 pub struct MappingList {
-    pub items: [Mapping; 256],
+    pub items: [Mapping; CAPACITY],
     pub count: usize,
 }
 
@@ -141,7 +141,7 @@ pub fn empty() -> MappingList
     ensures { λ r. ⌜ r ≡ empty ⌝ }
 {
     MappingList {
-        items: [Mapping::zero(); 256],
+        items: [Mapping::zero(); CAPACITY],
         count: 0,
     }
 }

@@ -34,7 +34,7 @@ pub fn operations_of(answer: Answer) -> FrameOps
     }
 }
 
-// How many flushes an answer orders.
+// How many flushes an answer has.
 pub fn flushes_of(answer: Answer) -> u64
     ensures { λ r. ⌜ (r ≡ flushesOf (outcome answer)) × (r ≤ 2) ⌝ }
 {
@@ -46,7 +46,7 @@ pub fn flushes_of(answer: Answer) -> u64
     flush_of(frame, first) + flush_of(frame, second)
 }
 
-// How many purges an answer orders.
+// How many purges an answer has.
 pub fn purges_of(answer: Answer) -> u64
     ensures { λ r. ⌜ (r ≡ purgesOf (outcome answer)) × (r ≤ 2) ⌝ }
 {

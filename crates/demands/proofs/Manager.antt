@@ -1,0 +1,79 @@
+-- The manager's own calls agree with the machine's: where the machine's own causes do not apply, the first of all causes is the manager's.
+use mathlib.Core.Path.{_≡_, refl, ap, _∙_}
+use mathlib.Core.Bool.{true}
+use mathlib.Core.List.{List, [], _∷_, _++_}
+use Prim.Native.Nat.{ℕ, zero, suc, _<_}
+use native.Mathlib.Omega.{arith}
+use borrow.Author.Tests.{eq-eqb, lt-leb}
+use Rattle.board.specs.declared.Board.{Board}
+use Rattle.board.specs.Board.{colourOf}
+use Rattle.page_model.specs.Table as table
+use Rattle.mapping.specs.Lookup.{lookup}
+use Rattle.manager.specs.Answers.{refused}
+use Rattle.manager.specs.Calls.{Result, result, changeOf, planned, placed, stepResult, listResult, commitMap, commitUnmap}
+use Rattle.manager.specs.Refusals.{Cause, firstRefusal, placeIn, refusalPlace, inOrder, placeOf, spaceCause, frameCause, rightsCause, mappedCause, unmappedCause, fullCause, readOnlyCause, tableCauses, mapCauses, writeCauses, transferCauses}
+use Rattle.cache.specs.Store.{WellFormed}
+use Rattle.machine.specs.Plans.{storeCauses, earlier}
+use Rattle.machine.specs.Refusals.{bufferRight, offsetCause, ownCauses, causes}
+use Rattle.machine.specs.State.{State, Call, map, unmap, read, write, deviceRead, deviceWrite, evict}
+use Rattle.machine.specs.State as state-of
+use Rattle.machine.specs.Step.{pageFrame, accept}
+use Rattle.machine.proofs.MergeLaws.{ownPlace, merge, causes-merged}
+use Rattle.machine.proofs.StepLaws.{step-refused, step-accepted}
+use Rattle.machine.proofs.StoreLaws.{lengths-right}
+use Rattle.demands.specs.Demands.{Agrees, ManagerAgrees}
+
+module _ (b : Board) (st : State) (call : Call) where
+  -- a call that is its refusal, which leaves the tables, or what the machine's accepted call answers and leaves in them
+  agrees : (r : ℕ → Result) → r 0 ≡ result (accept b st call .answer .outcome) (accept b st call .after .tables)
+      → ((n : ℕ) → r (suc n) ≡ result (refused (suc n)) (st .tables)) → (n : ℕ) → firstRefusal (causes b st call) ≡ n → Agrees b st call (r n)
+  agrees r taken left zero e = taken ∙ ap (λ (x : state-of.Result). result (x .answer .outcome) (x .after .tables)) (step-accepted b st call e)
+  agrees r taken left (suc n) e =
+      left n ∙ ap (λ (x : state-of.Result). result (x .answer .outcome) (x .after .tables)) (step-refused b st call (suc n) (e, λ z. omega arith))
+
+  -- where no cause of the machine's own applies, the first is the manager's
+  managers-first : WellFormed b (st .store) → bufferRight b call ≡ true → (mine managers : List Cause) → inOrder ownPlace mine ≡ true → inOrder ownPlace managers ≡ true
+      → ownCauses b st call ≡ merge mine managers → firstRefusal mine ≡ 0 → firstRefusal (causes b st call) ≡ firstRefusal (tableCauses b (st .tables) ++ managers)
+  unfolding firstRefusal storeCauses earlier
+  managers-first wf buffer mine managers om on own clear =
+      let mine-clear : firstRefusal (storeCauses b (st .store) (bufferRight b call) ++ mine) ≡ 0 =
+      rw (lengths-right b (st .store) (wf .memory-length) (wf .words-length) (wf .tags-length), buffer, wf .tags-rules) clear in
+      causes-merged b st call mine managers om on own ∙ ap (λ (n : ℕ). earlier n (firstRefusal (tableCauses b (st .tables) ++ managers))) mine-clear
+
+-- an offset in the page is no cause
+offset-clear : (b : Board) (offset : ℕ) → offset < b .page → firstRefusal (offsetCause (b .page) offset ∷ []) ≡ 0
+unfolding firstRefusal
+offset-clear b offset h = rw (lt-leb (b .page) offset h)
+
+pub manager-agrees : (b : Board) → ManagerAgrees b
+unfolding accept ownCauses inOrder refusalPlace placeIn firstRefusal mapCauses writeCauses transferCauses
+manager-agrees b st (map space page frame rights) wf =
+    let l = st .tables .list in
+    agrees b st (map space page frame rights)
+    (λ n. listResult (st .tables) (λ place. commitMap b (st .tables) (record { space = space; page = page; frame = frame; rights = rights })) (placed n (l .count)))
+    refl (λ n. refl) _
+    (managers-first b st (map space page frame rights) wf refl []
+    (spaceCause space page ∷ frameCause b frame ∷ rightsCause rights ∷ mappedCause l space page ∷ fullCause l ∷ []) refl refl refl refl)
+manager-agrees b st (unmap space page) wf =
+    agrees b st (unmap space page) (λ n. listResult (st .tables) (commitUnmap b (st .tables)) (placed n (placeOf (lookup (st .tables .list) space page))))
+    refl (λ n. refl) _
+    (managers-first b st (unmap space page) wf refl [] (spaceCause space page ∷ unmappedCause (st .tables .list) space page ∷ []) refl refl refl refl)
+manager-agrees b st (read space page offset) wf = λ h.
+    agrees b st (read space page offset) (λ n. stepResult b (st .tables) (planned n (changeOf b (st .tables) (pageFrame st space page) (table.read (colourOf b page)))))
+    refl (λ n. refl) _
+    (managers-first b st (read space page offset) wf refl (offsetCause (b .page) offset ∷ [])
+    (spaceCause space page ∷ unmappedCause (st .tables .list) space page ∷ []) refl refl refl (offset-clear b offset h))
+manager-agrees b st (write space page offset word) wf = λ h.
+    agrees b st (write space page offset word) (λ n. stepResult b (st .tables) (planned n (changeOf b (st .tables) (pageFrame st space page) (table.write (colourOf b page)))))
+    refl (λ n. refl) _
+    (managers-first b st (write space page offset word) wf refl (offsetCause (b .page) offset ∷ [])
+    (spaceCause space page ∷ unmappedCause (st .tables .list) space page ∷ readOnlyCause (st .tables .list) space page ∷ []) refl refl refl (offset-clear b offset h))
+manager-agrees b st (deviceRead frame buffer) wf = λ h.
+    agrees b st (deviceRead frame buffer) (λ n. stepResult b (st .tables) (planned n (changeOf b (st .tables) frame table.deviceRead)))
+    refl (λ n. refl) _
+    (managers-first b st (deviceRead frame buffer) wf (eq-eqb _ _ h) [] (frameCause b frame ∷ []) refl refl refl refl)
+manager-agrees b st (deviceWrite frame buffer) wf = λ h.
+    agrees b st (deviceWrite frame buffer) (λ n. stepResult b (st .tables) (planned n (changeOf b (st .tables) frame table.deviceWrite)))
+    refl (λ n. refl) _
+    (managers-first b st (deviceWrite frame buffer) wf (eq-eqb _ _ h) [] (frameCause b frame ∷ []) refl refl refl refl)
+manager-agrees b st (evict line) wf = tt

@@ -1,0 +1,25 @@
+-- What the functions that carry out operations ask for: a regular board, a store of its lengths whose tags keep the rules, a frame and colours of
+-- the board. A call has tested all of it.
+use mathlib.Core.List.{List}
+use mathlib.Core.Path.{_≡_}
+use Prim.Native.Nat.{ℕ, _<_}
+use lib.ListN.{length}
+use Rattle.board.specs.declared.Board.{Board}
+use Rattle.board.specs.Board.{Regular}
+use Rattle.page_model.specs.declared.Ops.{Ops}
+use Rattle.page_model.specs.Step.{OpBelow}
+use Rattle.cache.specs.Store.{Store, WellFormed}
+
+-- the operations on a frame
+abbrev pub OperationsReady : Board → Store → ℕ → Ops → Type 0
+OperationsReady b s f ops = WellFormed b s × (f < b .frames) × OpBelow (b .colours) (ops .first) × OpBelow (b .colours) (ops .second) × Regular b
+
+-- and an access after them, or a transfer
+abbrev pub AccessReady : Board → Store → ℕ → Ops → ℕ → ℕ → Type 0
+AccessReady b s f ops colour offset =
+    WellFormed b s × (f < b .frames) × OpBelow (b .colours) (ops .first) × OpBelow (b .colours) (ops .second) × (colour < b .colours) × (offset < b .page)
+    × Regular b
+
+abbrev pub TransferReady : Board → Store → ℕ → Ops → List ℕ → Type 0
+TransferReady b s f ops buffer =
+    WellFormed b s × (f < b .frames) × OpBelow (b .colours) (ops .first) × OpBelow (b .colours) (ops .second) × (length buffer ≡ b .page) × Regular b
