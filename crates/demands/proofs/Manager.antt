@@ -21,7 +21,7 @@ use Rattle.machine.specs.Step.{pageFrame, accept}
 use Rattle.machine.proofs.MergeLaws.{ownPlace, merge, causes-merged}
 use Rattle.machine.proofs.StepLaws.{step-refused, step-accepted}
 use Rattle.machine.proofs.StoreLaws.{lengths-right}
-use Rattle.demands.specs.Demands.{Agrees, ManagerAgrees}
+use Rattle.demands.specs.Manager.{Agrees, ManagerAgrees}
 
 module _ (b : Board) (st : State) (call : Call) where
   -- a call that is its refusal, which leaves the tables, or what the machine's accepted call answers and leaves in them

@@ -18,7 +18,6 @@ use Rattle.mapping.specs.Change.{append, remove}
 use Rattle.mapping.specs.Entry.{capacity, readWrite, mappingAt}
 use Rattle.mapping.specs.Lookup.{lookup}
 use Rattle.manager.specs.Answers.{Outcome, refused, accepted}
-use Rattle.manager.specs.Calls as managers
 use Rattle.manager.specs.Calls.{noOps}
 use Rattle.manager.specs.Refusals.{Cause, isRight, placeOf}
 use Rattle.manager.specs.Tables.{Tables, tables, recordAt, protectionAt, tabulate}
@@ -135,29 +134,10 @@ Demand2 b =
 -- ---- 3. Over any list of calls from the start, every accepted read finds what memory without a cache would give, and once every line has
 -- been evicted memory equals that memory word for word: `Demand3`.
 
--- ---- The manager's own calls, which a kernel makes on its own hardware: beside a store of its lengths whose tags keep the rules, an offset in
--- the page and a buffer of its length, each answers and leaves in the tables what the machine's call does.
-
-abbrev pub Agrees : Board → State → Call → managers.Result → Type 0
-Agrees b st call r = r ≡ managers.result (step b st call .answer .outcome) (step b st call .after .tables)
-
-abbrev pub ManagerCall : Board → State → Call → Type 0
-ManagerCall b st (map space page frame rights) = Agrees b st (map space page frame rights) (managers.mapCall b (st .tables) space page frame rights)
-ManagerCall b st (unmap space page) = Agrees b st (unmap space page) (managers.unmapCall b (st .tables) space page)
-ManagerCall b st (read space page offset) = offset < b .page → Agrees b st (read space page offset) (managers.readCall b (st .tables) space page)
-ManagerCall b st (write space page offset word) =
-    offset < b .page → Agrees b st (write space page offset word) (managers.writeCall b (st .tables) space page)
-ManagerCall b st (deviceRead frame buffer) = length buffer ≡ b .page → Agrees b st (deviceRead frame buffer) (managers.deviceReadCall b (st .tables) frame)
-ManagerCall b st (deviceWrite frame buffer) = length buffer ≡ b .page → Agrees b st (deviceWrite frame buffer) (managers.deviceWriteCall b (st .tables) frame)
-ManagerCall b st (evict line) = Unit {0}
-
-abbrev pub ManagerAgrees : Board → Type 0
-ManagerAgrees b = (st : State) (call : Call) → hardware-store.WellFormed b (st .store) → ManagerCall b st call
-
--- ---- all of it, of every regular board, and so of document 01's
+-- ---- all three, of every regular board, and so of document 01's
 
 abbrev pub Demands : Board → Type 0
-Demands b = Demand1 b × Demand2 b × Demand3 b × ManagerAgrees b
+Demands b = Demand1 b × Demand2 b × Demand3 b
 
 abbrev pub EveryBoard : Type 0
 EveryBoard = (b : Board) → Regular b → Demands b

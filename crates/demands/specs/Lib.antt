@@ -1,2 +1,3 @@
--- What is demanded of every call of the machine, and of every list of calls.
+-- What is demanded of every call of the machine, and of every list of calls; the manager's calls beside them.
 pub mod Demands
+pub mod Manager
