@@ -1,4 +1,4 @@
-// Calls of the machine, and text on each: the refusal, or 0, the two orders and the word read; of a transfer also b, the first word of the buffer.
+// Calls of the machine, and text on each: the refusal, or 0, the two operations and the word read; of a transfer also b, the first word of the buffer.
 // Then `left` ends the line with parts of what the calls left: p the first three protections, r the record of frame 3, m the frame's first word in
 // memory, l tag and first word of line 0, and of line 8, where the frame's first words lie in colours 0 and 1.
 use libc::STDOUT_FILENO;
@@ -252,7 +252,7 @@ fn both(operations: FrameOps) {
     operation(operations.frame, second);
 }
 
-// An order, with its frame and colour.
+// An operation, with its frame and colour.
 fn operation(frame: u8, op: Op) {
     match op {
         Op::None => none(),

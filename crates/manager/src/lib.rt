@@ -1,4 +1,4 @@
-// The manager: keeps the page states of all frames and gives the orders. A call is a plan, which changes nothing, and a commit.
+// The manager: keeps the page states of all frames and says which operations are due (document 01: orders). A call is a plan, which changes nothing, and a commit.
 pub mod records;
 pub mod refusals;
 
@@ -25,13 +25,13 @@ use refusals::place_of;
 use refusals::transfer_refusal;
 use refusals::write_refusal;
 
-// The operations that a call orders, on one frame.
+// The operations of a call, on one frame.
 pub struct FrameOps {
     pub frame: u8,
     pub ops: Ops,
 }
 
-// The answer of a call: the refusal's number, or the orders.
+// The answer of a call: the refusal's number, or the operations.
 pub enum Answer {
     Refused(u8),
     Accepted(FrameOps),
@@ -372,7 +372,7 @@ pub fn refused_as(list: MappingList, number: u8) -> Listed
     }
 }
 
-// The next list, with no orders.
+// The next list, with no operations.
 pub fn listed_as(list: MappingList) -> Listed
     ensures { λ r. ⌜ (outcome (r .answer) ≡ accepted 0 noOps) × (r .list ≡ list) ⌝ }
 {
@@ -382,7 +382,7 @@ pub fn listed_as(list: MappingList) -> Listed
     }
 }
 
-// An accepted call that orders nothing.
+// An accepted call without operations.
 pub fn no_operations() -> Answer
     ensures { λ r. ⌜ outcome r ≡ accepted 0 noOps ⌝ }
 {

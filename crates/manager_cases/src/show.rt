@@ -1,4 +1,4 @@
-// One call of the manager each, and a line of text: the refusal or 0, the first and the second order, and the first three protections after it.
+// One call of the manager each, and a line of text: the refusal or 0, the first and the second operation, and the first three protections after it.
 use libc::STDOUT_FILENO;
 use manager::Answer;
 use manager::FrameOps;
@@ -92,7 +92,7 @@ fn accepted(operations: FrameOps) {
     operation(operations.frame, second);
 }
 
-// An order, with its frame and colour.
+// An operation, with its frame and colour.
 fn operation(frame: u8, op: Op) {
     match op {
         Op::None => none(),
