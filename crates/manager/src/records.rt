@@ -79,26 +79,24 @@ fn protection_of(board: Board, records: &[u32], m: Mapping) -> u8
     if r.holds_dirty(colour) { 2 } else { 1 }
 }
 
-// The protection at a place of the list, 0 past the count.
-fn protection_at(board: Board, list: MappingList, records: &[u32], i: usize) -> u8
-    requires { ⌜ Regular board ⌝ }
-    ensures { λ r. ⌜ r ≡ protectionAt board list (now (records .entry)) i ⌝ }
-{
-    if i < list.count {
-        protection_of(board, records, mapping::at(list, i))
-    } else {
-        0
-    }
-}
-
-// Fills the whole buffer of protections as the list and the records say.
+// Fills the whole buffer of protections as the list and the records say. The list is read in place: handing it on copies it.
 pub fn refill(board: Board, list: MappingList, records: &[u32], protections: &mut [u8])
     requires { ⌜ Regular board ⌝ }
     ensures { λ _. ⌜ now (protections .exit) ≡ tabulate (length (now (protections .entry))) (protectionAt board list (now (records .entry))) ⌝ }
 {
+    let count = list.count;
     let mut i = 0;
     while i < protections.len() {
-        protections[i] = protection_at(board, list, records, i);
+        let mut protection = 0;
+        if i < count {
+            let m = if i < mapping::CAPACITY {
+                list.items[i]
+            } else {
+                Mapping::zero()
+            };
+            protection = protection_of(board, records, m);
+        }
+        protections[i] = protection;
         i += 1;
     }
 }

@@ -53,16 +53,7 @@ impl Mapping {
     pub fn is_zero(self) -> bool
         ensures { λ r. ⌜ r ≡ isZero self ⌝ }
     {
-        if self.space != 0 {
-            return false;
-        }
-        if self.page != 0 {
-            return false;
-        }
-        if self.frame != 0 {
-            return false;
-        }
-        self.rights == 0
+        self.space as u32 + self.page as u32 + self.frame as u32 + self.rights as u32 == 0
     }
 
     // Whether space, page, frame and rights lie in their ranges.

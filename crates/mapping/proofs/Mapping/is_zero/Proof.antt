@@ -1,30 +1,34 @@
 -- `mapping::Mapping::is_zero` meets its contract.
-use mathlib.Core.Path.{refl}
-use borrow.Author.Tests.{eq-eqb, ne-eqb}
+use mathlib.Core.Path.{_≡_, refl}
+use mathlib.Core.Bool.{_&&_, and-assoc, and-true, and-false}
+use native.Mathlib.Numerals.{unary-clauses}
+use native.Mathlib.Omega.{arith}
+use Prim.Native.Nat.{ℕ, zero, suc, _+_}
+use lib.Dec.{eqb}
+use borrow.Author.Tests.{ne-eqb}
+use borrow.Author.Needs.{needs}
 use Rattle.mapping.specs.Entry.{isZero}
-use Rattle.mapping.proofs.Tests.{chain-last}
 use Rattle.mapping.proofs.Mapping.is_zero.Statement.{statement}
 use Rattle.mapping.proofs.Mapping.is_zero.Tie as tie
 
+-- a sum is 0 if both parts are
+sum-zero : (a b : ℕ) → eqb (a + b) 0 ≡ (eqb a 0 && eqb b 0)
+sum-zero a zero = simp (unary-clauses, and-true)
+sum-zero a (suc b) = rw (ne-eqb (a + suc b) 0 (λ e. absurd (omega arith)), ne-eqb (suc b) 0 (λ e. absurd (omega arith)), and-false (eqb a 0))
+
 returns : tie.Need-returns
 unfolding isZero
-returns c = simp (ne-eqb _ _ (c .if1 .taken))
-
-returns-2 : tie.Need-returns-2
-unfolding isZero
-returns-2 c = simp (eq-eqb _ _ (c .before .before .if1 .left), ne-eqb _ _ (c .if2 .taken))
-
-returns-3 : tie.Need-returns-3
-unfolding isZero
-returns-3 c =
-    let at2 = c .before .before in
-    simp (eq-eqb _ _ (at2 .before .before .if1 .left), eq-eqb _ _ (at2 .if2 .left), ne-eqb _ _ (c .if3 .taken))
-
-returns-4 : tie.Need-returns-4
-unfolding isZero
-returns-4 c =
-    let at2 = c .before .before .before in
-    chain-last _ _ _ _ _ (eq-eqb _ _ (at2 .before .before .if1 .left)) (eq-eqb _ _ (at2 .if2 .left)) (eq-eqb _ _ (c .before .if3 .left)) refl
+returns c = simp (sum-zero, and-assoc)
 
 pub is-zero-spec : {M : Type 1} → statement M
-is-zero-spec = tie.close (tie.spec returns returns-2 returns-3 returns-4)
+is-zero-spec =
+    tie.close
+    (tie.spec
+    (λ c. search needs)
+    (λ c. search needs)
+    (λ c. search needs)
+    (λ c. search needs)
+    (λ c. search needs)
+    (λ c. search needs)
+    (λ c. search needs)
+    returns)
