@@ -1,2 +1,3 @@
--- What the walks of the lent lookups share.
+-- What the walks over lent records share.
 mod Slice
+mod Read
