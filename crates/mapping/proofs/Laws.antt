@@ -1,5 +1,5 @@
--- The laws of the mapping list, for callers: what the rules and a lookup say, and what each operation does at a place, to the rules and to lookups.
-pub use Rattle.mapping.proofs.Records.{items-length}
+-- The laws of the mapping list, for callers: what the rules and a lookup say, what each operation does at a place, to the rules and to lookups, and a batch's items.
+pub use Rattle.mapping.proofs.Records.{items-length, batch-items-length}
 pub use Rattle.mapping.proofs.Entry.{inRange-true, range-inRange, isZero-true, isZero-zero, isAt-true, maps-isAt, isAt-false, not-isAt}
 pub use Rattle.mapping.proofs.Rules.{keepsRules-true, rules-keepsRules, count-length}
 pub use Rattle.mapping.proofs.Lookups.{lookup-at, at-lookup, lookup-nothing, nothing-lookup, lookup-cases, listed-found}
@@ -10,3 +10,4 @@ pub use Rattle.mapping.proofs.Change.{remove-unlisted, remove-over, rem
 pub use Rattle.mapping.proofs.Start.{empty-rules, mappingOf-empty}
 pub use Rattle.mapping.proofs.Appended.{append-rules, lookup-append-same, lookup-append-other, mappingOf-append-same, mappingOf-append-other}
 pub use Rattle.mapping.proofs.Removed.{remove-rules, lookup-remove-same, mappingOf-remove-same, mappingOf-remove-other}
+pub use Rattle.mapping.proofs.Batches.{items-of-length, items-of-at, batch-of-items, batch-of-length}

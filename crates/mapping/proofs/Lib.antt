@@ -1,4 +1,4 @@
--- The laws of the mapping list: Laws has those for callers, the others what leads to them and what the functions' proofs cite.
+-- The laws of the mapping list and of batches: Laws has those for callers, the others what leads to them and what the functions' proofs cite.
 pub mod Tests
 pub mod Records
 pub mod Walk
@@ -11,4 +11,5 @@ pub mod Change
 pub mod Start
 pub mod Appended
 pub mod Removed
+pub mod Batches
 pub mod Laws

@@ -2,15 +2,20 @@
 pub mod lent;
 
 ghost use mathlib.Core.Path.{_≡_};
-ghost use Prim.Native.Nat.{_≤_};
+ghost use Prim.Native.Nat.{_≤_, _<_};
+ghost use lib.ListN.{getD};
 ghost use Rattle.mapping.specs.Entry.{capacity, zeroMapping, inRange, isZero, isAt, mappingAt};
 ghost use Rattle.mapping.specs.Rules.{allInRange, noDoubles, restZero, keepsRules};
 ghost use Rattle.mapping.specs.Lookup.{lookup};
 ghost use Rattle.mapping.specs.Change.{empty, append, remove};
+ghost use Rattle.mapping.specs.Batch.{batchSize, zeroBatch, put};
 use board::Board;
 
 // How many records the list has.
 pub const CAPACITY: usize = 256;
+
+// How many records a batch has.
+pub const BATCH: usize = 64;
 
 // The rights of a mapping: read; read and write.
 pub const READ_ONLY: u8 = 1;
@@ -27,6 +32,12 @@ pub struct Mapping {
 // The first count records are listed, in order of mapping; the others are zero.
 pub struct MappingList {
     pub items: [Mapping; CAPACITY],
+    pub count: usize,
+}
+
+// The items of a call over many mappings: the first count records, in order. A count past BATCH is that of a list too long for it.
+pub struct Batch {
+    pub items: [Mapping; BATCH],
     pub count: usize,
 }
 
@@ -77,6 +88,39 @@ impl Mapping {
         ensures { λ r. ⌜ r ≡ isAt self space page ⌝ }
     {
         self.space == space && self.page == page
+    }
+}
+
+impl Batch {
+    // The item at place k, all 0 past the last record.
+    pub fn item(self, k: usize) -> Mapping
+        ensures { λ r. ⌜ r ≡ getD (self .items) k zeroMapping ⌝ }
+    {
+        if k < BATCH {
+            self.items[k]
+        } else {
+            Mapping::zero()
+        }
+    }
+
+    // Zero records only, with a count.
+    fn zero(count: usize) -> Self
+        ensures { λ r. ⌜ r ≡ zeroBatch count ⌝ }
+    {
+        Self {
+            items: [Mapping::zero(); BATCH],
+            count: count,
+        }
+    }
+
+    // The batch with m at place i.
+    fn put(self, i: usize, m: Mapping) -> Self
+        requires { ⌜ i < batchSize ⌝ }
+        ensures { λ r. ⌜ r ≡ put self i m ⌝ }
+    {
+        let mut next = self;
+        next.items[i] = m;
+        next
     }
 }
 
