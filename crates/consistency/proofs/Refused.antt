@@ -9,7 +9,7 @@ use Rattle.manager.specs.Answers.{refused}
 use Rattle.manager.specs.Refusals.{Cause, firstRefusal}
 use Rattle.manager.proofs.CauseLaws.{NoneApplies}
 use Rattle.machine.specs.Refusals.{causes}
-use Rattle.machine.specs.State.{State, Call, map, unmap, read, write, deviceRead, deviceWrite, evict, Result, lentBuffer}
+use Rattle.machine.specs.State.{State, Single, map, unmap, read, write, deviceRead, deviceWrite, evict, Result, lentBuffer}
 use Rattle.machine.specs.Step.{answer, result, accept, step}
 use Rattle.consistency.specs.Demand3.{isRefused}
 
@@ -21,7 +21,7 @@ none-refused (c ∷ cs) h = ap (λ (t : Bool). cond t (c .number) (firstRefusal 
 
 -- ---- the step
 
-module _ (b : Board) (st : State) (call : Call) where
+module _ (b : Board) (st : State) (call : Single) where
   -- what holds of the accepted call and of every refusal holds of the call
   pub step-cases : (P : Result → Type 0) → (firstRefusal (causes b st call) ≡ 0 → P (accept b st call))
       → ((n : ℕ) → P (result (answer (refused (suc n)) none (lentBuffer call)) st)) → P (step b st call)
@@ -33,7 +33,7 @@ module _ (b : Board) (st : State) (call : Call) where
       go zero e = taken e
       go (suc n) e = left n
 
-pub accept-accepted : (b : Board) (st : State) (call : Call) → isRefused (accept b st call .answer) ≡ false
+pub accept-accepted : (b : Board) (st : State) (call : Single) → isRefused (accept b st call .answer) ≡ false
 unfolding accept
 accept-accepted b st (map space page frame rights) = refl
 accept-accepted b st (unmap space page) = refl

@@ -6,7 +6,7 @@ use Rattle.board.specs.declared.Board.{Board}
 use Rattle.board.specs.Board.{Regular}
 use Rattle.manager.specs.Refusals.{firstRefusal}
 use Rattle.machine.specs.Refusals.{causes}
-use Rattle.machine.specs.State.{State, Call, map, unmap, read, write, deviceRead, deviceWrite, evict, Result}
+use Rattle.machine.specs.State.{State, Single, map, unmap, read, write, deviceRead, deviceWrite, evict, Result}
 use Rattle.machine.specs.Step.{accept, step}
 use Rattle.consistency.specs.Cacheless.{Cacheless, start, after}
 use Rattle.consistency.specs.Demand3.{startState, isRefused, Finds, AllFind, stateAfter, cachelessAfter, Holds, Demand3}
@@ -22,7 +22,7 @@ use Rattle.consistency.proofs.Evicted.{all-evicted}
 module _ (b : Board) (reg : Regular b) where
   -- ---- a call
 
-  taken : (st : State) (m : Cacheless) → Invariant b st m → (call : Call) → firstRefusal (causes b st call) ≡ 0 → Taken b st m call
+  taken : (st : State) (m : Cacheless) → Invariant b st m → (call : Single) → firstRefusal (causes b st call) ≡ 0 → Taken b st m call
   taken st m inv (map space page frame rights) = map-taken b st m inv space page frame rights
   taken st m inv (unmap space page) = unmap-taken b st m inv space page
   taken st m inv (read space page offset) = read-taken b reg st m inv space page offset
@@ -32,10 +32,10 @@ module _ (b : Board) (reg : Regular b) where
   taken st m inv (evict line) = evict-taken b reg st m inv line
 
   -- an accepted call finds its words, and every call keeps the invariant
-  abbrev Serves : Cacheless → Call → Result → Type 0
+  abbrev Serves : Cacheless → Single → Result → Type 0
   Serves m call r = (isRefused (r .answer) ≡ false → Finds b m call (r .answer)) × Invariant b (r .after) (after m call (isRefused (r .answer)))
 
-  serves : (st : State) (m : Cacheless) → Invariant b st m → (call : Call) → Serves m call (step b st call)
+  serves : (st : State) (m : Cacheless) → Invariant b st m → (call : Single) → Serves m call (step b st call)
   serves st m inv call =
       step-cases b st call (Serves m call)
       (λ e. let t = taken st m inv call e in (λ _. t .0, subst⁻¹ (λ (x : Bool). Invariant b (accept b st call .after) (after m call x)) (accept-accepted b st call) (t .1)))
@@ -43,17 +43,17 @@ module _ (b : Board) (reg : Regular b) where
 
   -- ---- a list of calls
 
-  all-find : (st : State) (m : Cacheless) → Invariant b st m → (calls : List Call) → AllFind b st m calls
+  all-find : (st : State) (m : Cacheless) → Invariant b st m → (calls : List Single) → AllFind b st m calls
   all-find st m inv [] = tt
   all-find st m inv (call ∷ calls) =
       let s = serves st m inv call in (s .0, all-find (step b st call .after) (after m call (isRefused (step b st call .answer))) (s .1) calls)
 
-  invariant-after : (st : State) (m : Cacheless) → Invariant b st m → (calls : List Call) → Invariant b (stateAfter b st calls) (cachelessAfter b st m calls)
+  invariant-after : (st : State) (m : Cacheless) → Invariant b st m → (calls : List Single) → Invariant b (stateAfter b st calls) (cachelessAfter b st m calls)
   invariant-after st m inv [] = inv
   invariant-after st m inv (call ∷ calls) =
       invariant-after (step b st call .after) (after m call (isRefused (step b st call .answer))) (serves st m inv call .1) calls
 
-  holds : (st : State) (m : Cacheless) → Invariant b st m → (calls : List Call) → Holds b st m calls
+  holds : (st : State) (m : Cacheless) → Invariant b st m → (calls : List Single) → Holds b st m calls
   holds st m inv calls =
       record {
         finds = all-find st m inv calls;

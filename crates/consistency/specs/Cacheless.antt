@@ -7,7 +7,7 @@ use lib.Dec.{eqb}
 use lib.ListN.{getD}
 use Rattle.board.specs.declared.Board.{Board}
 use Rattle.board.specs.Board.{memoryAt}
-use Rattle.machine.specs.State.{Call, map, unmap, read, write, deviceRead, deviceWrite, evict}
+use Rattle.machine.specs.State.{Single, map, unmap, read, write, deviceRead, deviceWrite, evict}
 
 -- a word for each frame and offset, and for each space and page a frame or none
 pub record Cacheless : Type 0 where
@@ -31,7 +31,7 @@ stored word none offset v = word
 stored word (some f) offset v = replaced word f offset v
 
 -- what an accepted call makes of it
-unfoldable pub afterAccepted : Cacheless → Call → Cacheless
+unfoldable pub afterAccepted : Cacheless → Single → Cacheless
 afterAccepted m (map space page frame rights) = cacheless (m .word) (replaced (m .frame) space page (some frame))
 afterAccepted m (unmap space page) = cacheless (m .word) (replaced (m .frame) space page none)
 afterAccepted m (read space page offset) = m
@@ -41,6 +41,6 @@ afterAccepted m (deviceWrite frame buffer) = cacheless (λ f o. cond (eqb frame 
 afterAccepted m (evict line) = m
 
 -- a refused call changes nothing
-abbrev pub after : Cacheless → Call → Bool → Cacheless
+abbrev pub after : Cacheless → Single → Bool → Cacheless
 after m call true = m
 after m call false = afterAccepted m call

@@ -14,7 +14,7 @@ use Rattle.mapping.specs.Entry.{capacity}
 use Rattle.manager.specs.Answers.{isRefusal}
 use Rattle.manager.specs.Tables.{tables, tabulate, recordWords}
 use Rattle.cache.specs.Store.{store, memoryWord}
-use Rattle.machine.specs.State.{State, state, Call, map, unmap, read, write, deviceRead, deviceWrite, evict, Answer}
+use Rattle.machine.specs.State.{State, state, Single, map, unmap, read, write, deviceRead, deviceWrite, evict, Answer}
 use Rattle.machine.specs.Step.{step}
 use Rattle.consistency.specs.Cacheless.{Cacheless, start, after}
 
@@ -38,7 +38,7 @@ abbrev pub HasFrame : Option ℕ → Type 0
 HasFrame none = ⊥
 HasFrame (some f) = Unit {0}
 
-abbrev pub Finds : Board → Cacheless → Call → Answer → Type 0
+abbrev pub Finds : Board → Cacheless → Single → Answer → Type 0
 Finds b m (map space page frame rights) a = Unit {0}
 Finds b m (unmap space page) a = Unit {0}
 Finds b m (read space page offset) a = a .word ≡ pageWord m (m .frame space page) offset
@@ -50,23 +50,23 @@ Finds b m (evict line) a = Unit {0}
 -- ---- a list of calls, with the cacheless memory beside it
 
 -- every accepted read of the list finds its words
-abbrev pub AllFind : Board → State → Cacheless → List Call → Type 0
+abbrev pub AllFind : Board → State → Cacheless → List Single → Type 0
 AllFind b st m [] = Unit {0}
 AllFind b st m (call ∷ calls) =
     (isRefused (step b st call .answer) ≡ false → Finds b m call (step b st call .answer))
     × AllFind b (step b st call .after) (after m call (isRefused (step b st call .answer))) calls
 
-abbrev pub stateAfter : Board → State → List Call → State
+abbrev pub stateAfter : Board → State → List Single → State
 stateAfter b st [] = st
 stateAfter b st (call ∷ calls) = stateAfter b (step b st call .after) calls
 
-abbrev pub cachelessAfter : Board → State → Cacheless → List Call → Cacheless
+abbrev pub cachelessAfter : Board → State → Cacheless → List Single → Cacheless
 cachelessAfter b st m [] = m
 cachelessAfter b st m (call ∷ calls) = cachelessAfter b (step b st call .after) (after m call (isRefused (step b st call .answer))) calls
 
 -- ---- evicting lines, which document 01 calls turning them out
 
-abbrev pub evictions : List ℕ → List Call
+abbrev pub evictions : List ℕ → List Single
 evictions [] = []
 evictions (n ∷ ns) = evict n ∷ evictions ns
 
@@ -76,7 +76,7 @@ Occurs n [] = ⊥
 Occurs n (m ∷ ms) = (n ≡ m) ⊎ Occurs n ms
 
 -- none is refused
-abbrev pub NoneRefused : Board → State → List Call → Type 0
+abbrev pub NoneRefused : Board → State → List Single → Type 0
 NoneRefused b st [] = Unit {0}
 NoneRefused b st (call ∷ calls) = (isRefused (step b st call .answer) ≡ false) × NoneRefused b (step b st call .after) calls
 
@@ -87,7 +87,7 @@ pub record MemoryIs (b : Board) (m : Cacheless) (st : State) : Type 0 where
 
 -- ---- the demand
 
-pub record Holds (b : Board) (st : State) (m : Cacheless) (calls : List Call) : Type 0 where
+pub record Holds (b : Board) (st : State) (m : Cacheless) (calls : List Single) : Type 0 where
   pub finds : AllFind b st m calls
   pub evicted :
       (ns : List ℕ) → ((n : ℕ) → Occurs n ns → n < lines b) → ((n : ℕ) → n < lines b → Occurs n ns)
@@ -96,5 +96,5 @@ pub record Holds (b : Board) (st : State) (m : Cacheless) (calls : List Call) : 
 
 abbrev pub Demand3 : Board → Type 0
 Demand3 b =
-    (memory words protections : List ℕ) (calls : List Call) → length memory ≡ memoryWords b → length words ≡ cacheWords b → length protections ≡ capacity
+    (memory words protections : List ℕ) (calls : List Single) → length memory ≡ memoryWords b → length words ≡ cacheWords b → length protections ≡ capacity
     → Holds b (startState b memory words protections) (start b memory) calls

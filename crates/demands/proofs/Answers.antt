@@ -8,14 +8,14 @@ use Rattle.board.specs.declared.Board.{Board}
 use Rattle.manager.specs.Refusals.{firstRefusal, placeIn, refusalPlace, inOrder}
 use Rattle.manager.proofs.Theorems.{first-refusal}
 use Rattle.machine.specs.Refusals.{lentCauses, ownCauses, causes}
-use Rattle.machine.specs.State.{State, Call, map, unmap, read, write, deviceRead, deviceWrite, evict, Result}
+use Rattle.machine.specs.State.{State, Single, map, unmap, read, write, deviceRead, deviceWrite, evict, Result}
 use Rattle.machine.specs.Step.{step}
 use Rattle.machine.proofs.StepLaws.{step-refused, step-accepted}
 use Rattle.consistency.specs.Demand3.{isRefused}
 use Rattle.consistency.proofs.Refused.{step-cases, accept-accepted}
 use Rattle.demands.specs.Demands.{NoCause, FirstCause, Demand1}
 
-causes-in-order : (b : Board) (st : State) (call : Call) → inOrder 0 (causes b st call) ≡ true
+causes-in-order : (b : Board) (st : State) (call : Single) → inOrder 0 (causes b st call) ≡ true
 unfolding causes lentCauses ownCauses inOrder refusalPlace placeIn
 causes-in-order b st (map space page frame rights) = refl
 causes-in-order b st (unmap space page) = refl
@@ -26,7 +26,7 @@ causes-in-order b st (deviceWrite frame buffer) = refl
 causes-in-order b st (evict line) = refl
 
 -- an accepted call is refused by no cause
-pub accepted-clear : (b : Board) (st : State) (call : Call) → isRefused (step b st call .answer) ≡ false → firstRefusal (causes b st call) ≡ 0
+pub accepted-clear : (b : Board) (st : State) (call : Single) → isRefused (step b st call .answer) ≡ false → firstRefusal (causes b st call) ≡ 0
 accepted-clear b st call =
     step-cases b st call (λ (r : Result). isRefused (r .answer) ≡ false → firstRefusal (causes b st call) ≡ 0) (λ e _. e) (λ n e. absurd (true≢false e))
 

@@ -36,14 +36,14 @@ use Rattle.cache.proofs.Laws.Access.{access-kept, writeWord-kept}
 use Rattle.cache.proofs.Laws.Device.{deviceWrite-kept}
 use Rattle.cache.proofs.Laws.Evict.{evict-kept}
 use Rattle.machine.specs.Refusals.{storeLengths, lentCauses, ownCauses, bufferRight, causes}
-use Rattle.machine.specs.State.{State, state, Call, map, unmap, read, write, deviceRead, deviceWrite, evict}
+use Rattle.machine.specs.State.{State, state, Single, map, unmap, read, write, deviceRead, deviceWrite, evict}
 use Rattle.machine.specs.Step.{operate, carryOut, pageFrame, accept, step}
 use Rattle.machine.proofs.StepLaws.{clear, lengths-clear, store-clear, tables-clear, step-accepted}
 use Rattle.consistency.proofs.Map.{map-clear}
 use Rattle.consistency.proofs.Operations.{ordered-kept}
 use Rattle.demands.specs.Demands.{stepOf, ByTable, Modelled, listAfter, accessed, accessOf, Left}
 
-module _ (b : Board) (st : State) (call : Call) (e : firstRefusal (causes b st call) ≡ 0) where
+module _ (b : Board) (st : State) (call : Single) (e : firstRefusal (causes b st call) ≡ 0) where
   -- an accepted call was lent tables of their lengths that keep the rules
   tables-lent : WellFormed b (st .tables)
   tables-lent =
@@ -76,7 +76,7 @@ module _ (b : Board) (st : State) where
 -- ---- the tables
 
 module _ (b : Board) (st : State) where
-  pub tables-after : (call : Call) → firstRefusal (causes b st call) ≡ 0 → WellFormed b (accept b st call .after .tables)
+  pub tables-after : (call : Single) → firstRefusal (causes b st call) ≡ 0 → WellFormed b (accept b st call .after .tables)
   unfolding accept lentCauses ownCauses
   tables-after (map space page frame rights) e =
       let a = map-clear b st (record { space = space; page = page; frame = frame; rights = rights }) e in map-keeps b (st .tables) (a .0) _ (a .1) (a .2) (a .3)
@@ -103,7 +103,7 @@ module _ (b : Board) (reg : Regular b) (st : State) where
       → hardware.WellFormed b (carryOut b (accepted f (stepped (b .colours) s (recordAt (st .tables .records) f) .ops)) (st .store))
   ordered f s h w kept = ordered-kept b reg f h (st .store) kept s (recordAt (st .tables .records) f) (record-rules b (st .tables) (w .1) f h)
 
-  pub store-after : (call : Call) → firstRefusal (causes b st call) ≡ 0 → hardware.WellFormed b (accept b st call .after .store)
+  pub store-after : (call : Single) → firstRefusal (causes b st call) ≡ 0 → hardware.WellFormed b (accept b st call .after .store)
   unfolding accept lentCauses ownCauses
   store-after (map space page frame rights) e = store-clear b st (map space page frame rights) e
   store-after (unmap space page) e = store-clear b st (unmap space page) e
@@ -147,7 +147,7 @@ module _ (b : Board) (t : Tables) (w : WellFormed b t) (f : ℕ) (h : f < b .fra
       }
 
 module _ (b : Board) (st : State) where
-  pub modelled-after : (call : Call) → firstRefusal (causes b st call) ≡ 0
+  pub modelled-after : (call : Single) → firstRefusal (causes b st call) ≡ 0
       → Modelled b (st .tables) (accept b st call .after .tables) (accept b st call .answer .outcome) (stepOf b st call)
   unfolding accept lentCauses ownCauses refill
   modelled-after (map space page frame rights) e = (refl, refl)
@@ -165,7 +165,7 @@ module _ (b : Board) (st : State) where
 -- ---- list, memory and cache
 
 module _ (b : Board) (st : State) where
-  pub listed-after : (call : Call) → accept b st call .after .tables .list ≡ listAfter (st .tables .list) call
+  pub listed-after : (call : Single) → accept b st call .after .tables .list ≡ listAfter (st .tables .list) call
   unfolding accept refill
   listed-after (map space page frame rights) = refl
   listed-after (unmap space page) = refl
@@ -175,7 +175,7 @@ module _ (b : Board) (st : State) where
   listed-after (deviceWrite frame buffer) = refl
   listed-after (evict line) = refl
 
-  pub made-after : (call : Call)
+  pub made-after : (call : Single)
       → accessed (accept b st call .answer .word) (accept b st call .answer .buffer) (accept b st call .after .store)
       ≡ accessOf b st call (carryOut b (accept b st call .answer .outcome) (st .store))
   unfolding accept carryOut operate
@@ -194,14 +194,14 @@ abbrev Agreeing : Board → Tables → Type 0
 Agreeing b t = t .protections ≡ tabulate capacity (protectionAt b (t .list) (t .records))
 
 module _ (b : Board) (st : State) where
-  pub protections-after : (call : Call) → firstRefusal (causes b st call) ≡ 0 → Agreeing b (accept b st call .after .tables)
+  pub protections-after : (call : Single) → firstRefusal (causes b st call) ≡ 0 → Agreeing b (accept b st call .after .tables)
   unfolding accept
   protections-after call e = go call
     where
       long : length (st .tables .protections) ≡ capacity
       long = lengths-known b (st .tables) (tables-lent b st call e .0) .2
 
-      go : (call : Call) → Agreeing b (accept b st call .after .tables)
+      go : (call : Single) → Agreeing b (accept b st call .after .tables)
       go (map space page frame rights) = refill-filled b _ long .0
       go (unmap space page) = refill-filled b _ long .0
       go (read space page offset) = refill-filled b _ long .0
@@ -215,7 +215,7 @@ module _ (b : Board) (st : State) where
     abbrev other : State
     other = state (tables (st .tables .list) (st .tables .records) ps) (st .store)
 
-    causes-same : (call : Call) → causes b other call ≡ causes b st call
+    causes-same : (call : Single) → causes b other call ≡ causes b st call
     unfolding causes lentCauses ownCauses lengthsRight rulesKept
     causes-same (map space page frame rights) = rw same
     causes-same (unmap space page) = rw same
@@ -225,7 +225,7 @@ module _ (b : Board) (st : State) where
     causes-same (deviceWrite frame buffer) = rw same
     causes-same (evict line) = rw same
 
-    accept-same : (call : Call) → accept b other call ≡ accept b st call
+    accept-same : (call : Single) → accept b other call ≡ accept b st call
     unfolding accept refill
     accept-same (map space page frame rights) = rw same
     accept-same (unmap space page) = rw same
@@ -235,7 +235,7 @@ module _ (b : Board) (st : State) where
     accept-same (deviceWrite frame buffer) = rw same
     accept-same (evict line) = rw same
 
-    pub unread-after : (call : Call) → firstRefusal (causes b st call) ≡ 0 → step b other call ≡ step b st call
+    pub unread-after : (call : Single) → firstRefusal (causes b st call) ≡ 0 → step b other call ≡ step b st call
     unread-after call e = sym (step-accepted b other call (ap firstRefusal (causes-same call) ∙ e)) ∙ accept-same call ∙ step-accepted b st call e
 
 -- a listed mapping's byte is its protection
@@ -247,7 +247,7 @@ module _ (b : Board) (t : Tables) (w : WellFormed b t) (agree : Agreeing b t) (i
 
 -- ---- all of it
 
-module _ (b : Board) (reg : Regular b) (st : State) (call : Call) (e : firstRefusal (causes b st call) ≡ 0) where
+module _ (b : Board) (reg : Regular b) (st : State) (call : Single) (e : firstRefusal (causes b st call) ≡ 0) where
   pub left : Left b st call (accept b st call .after) (accept b st call .answer)
   left =
       let w = tables-after b st call e in

@@ -15,7 +15,7 @@ use Rattle.manager.specs.Refusals.{Cause, firstRefusal, placeIn, refusalPlace, 
 use Rattle.cache.specs.Store.{WellFormed}
 use Rattle.machine.specs.Plans.{storeCauses, earlier}
 use Rattle.machine.specs.Refusals.{bufferRight, offsetCause, ownCauses, causes}
-use Rattle.machine.specs.State.{State, Call, map, unmap, read, write, deviceRead, deviceWrite, evict}
+use Rattle.machine.specs.State.{State, Single, map, unmap, read, write, deviceRead, deviceWrite, evict}
 use Rattle.machine.specs.State as state-of
 use Rattle.machine.specs.Step.{pageFrame, accept}
 use Rattle.machine.proofs.MergeLaws.{ownPlace, merge, causes-merged}
@@ -23,7 +23,7 @@ use Rattle.machine.proofs.StepLaws.{step-refused, step-accepted}
 use Rattle.machine.proofs.StoreLaws.{lengths-right}
 use Rattle.demands.specs.Manager.{Agrees, ManagerAgrees}
 
-module _ (b : Board) (st : State) (call : Call) where
+module _ (b : Board) (st : State) (call : Single) where
   -- a call that is its refusal, which leaves the tables, or what the machine's accepted call answers and leaves in them
   agrees : (r : ℕ → Result) → r 0 ≡ result (accept b st call .answer .outcome) (accept b st call .after .tables)
       → ((n : ℕ) → r (suc n) ≡ result (refused (suc n)) (st .tables)) → (n : ℕ) → firstRefusal (causes b st call) ≡ n → Agrees b st call (r n)

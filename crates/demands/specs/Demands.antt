@@ -27,7 +27,7 @@ use Rattle.cache.specs.Cache.{access, readWord, writeWord}
 use Rattle.cache.specs.Store as hardware-store
 use Rattle.cache.specs.Store.{Store}
 use Rattle.machine.specs.Refusals.{causes}
-use Rattle.machine.specs.State.{State, state, Call, map, unmap, read, write, deviceRead, deviceWrite, evict, Answer, lentBuffer}
+use Rattle.machine.specs.State.{State, state, Single, map, unmap, read, write, deviceRead, deviceWrite, evict, Answer, lentBuffer}
 use Rattle.machine.specs.Step.{answer, result, pageFrame, carryOut, step}
 use Rattle.consistency.specs.Demand3.{isRefused, Demand3}
 
@@ -35,15 +35,15 @@ use Rattle.consistency.specs.Demand3.{isRefused, Demand3}
 -- and changes nothing.
 
 -- no cause applies, and the call is accepted
-abbrev pub NoCause : Board → State → Call → Type 0
+abbrev pub NoCause : Board → State → Single → Type 0
 NoCause b st call = ((c : Cause) → List·Memᴰ c (causes b st call) → c .applies ≡ false) × (isRefused (step b st call .answer) ≡ false)
 
 -- n is the first cause that applies; the answer is this number, with no order and no word, and everything lent is as it was
-abbrev pub FirstCause : Board → State → Call → ℕ → Type 0
+abbrev pub FirstCause : Board → State → Single → ℕ → Type 0
 FirstCause b st call n = First (causes b st call) n × (step b st call ≡ result (answer (refused n) none (lentBuffer call)) st)
 
 abbrev pub Demand1 : Board → Type 0
-Demand1 b = (st : State) (call : Call) → NoCause b st call ⊎ ((n : ℕ) × FirstCause b st call n)
+Demand1 b = (st : State) (call : Single) → NoCause b st call ⊎ ((n : ℕ) × FirstCause b st call n)
 
 -- ---- 2. Orders, page states and protections are those of the page model; list, memory, cache words and tags after each call are what the
 -- board's rules leave. An access passes without a stop exactly if its right allows it and the model would order nothing and alter nothing.
@@ -53,7 +53,7 @@ pub record FrameStep : Type 0 where
   pub frame : ℕ
   pub step : table.Step
 
-abbrev pub stepOf : Board → State → Call → Option FrameStep
+abbrev pub stepOf : Board → State → Single → Option FrameStep
 stepOf b st (map space page frame rights) = none
 stepOf b st (unmap space page) = none
 stepOf b st (read space page offset) = some (record { frame = pageFrame st space page; step = table.read (colourOf b page) })
@@ -75,7 +75,7 @@ Modelled b before after o none = (o ≡ accepted 0 noOps) × (after .records ≡
 Modelled b before after o (some s) = ByTable b before after o (s .frame) (s .step)
 
 -- the list after a call
-abbrev pub listAfter : MappingList → Call → MappingList
+abbrev pub listAfter : MappingList → Single → MappingList
 listAfter l (map space page frame rights) = append l (record { space = space; page = page; frame = frame; rights = rights })
 listAfter l (unmap space page) = remove l (placeOf (lookup l space page))
 listAfter l (read space page offset) = l
@@ -93,7 +93,7 @@ pub record Access : Type 0 where
 abbrev pub accessed : Option ℕ → List ℕ → Store → Access
 accessed word buffer s = record { word = word; buffer = buffer; store = s }
 
-abbrev pub accessOf : Board → State → Call → Store → Access
+abbrev pub accessOf : Board → State → Single → Store → Access
 accessOf b st (map space page frame rights) s = accessed none [] s
 accessOf b st (unmap space page) s = accessed none [] s
 accessOf b st (read space page offset) s =
@@ -104,7 +104,7 @@ accessOf b st (deviceWrite frame buffer) s = accessed none [] (hardware.deviceWr
 accessOf b st (evict line) s = accessed none [] (hardware.evict b line s)
 
 -- what an accepted call leaves, and answers
-pub record Left (b : Board) (st : State) (call : Call) (after : State) (a : Answer) : Type 0 where
+pub record Left (b : Board) (st : State) (call : Single) (after : State) (a : Answer) : Type 0 where
   pub tables-kept : WellFormed b (after .tables)
   pub store-kept : hardware-store.WellFormed b (after .store)
   pub modelled : Modelled b (st .tables) (after .tables) (a .outcome) (stepOf b st call)
@@ -129,7 +129,7 @@ pub record Left (b : Board) (st : State) (call : Call) (after : State) (a : Answ
 
 abbrev pub Demand2 : Board → Type 0
 Demand2 b =
-    (st : State) (call : Call) → isRefused (step b st call .answer) ≡ false → Left b st call (step b st call .after) (step b st call .answer)
+    (st : State) (call : Single) → isRefused (step b st call .answer) ≡ false → Left b st call (step b st call .after) (step b st call .answer)
 
 -- ---- 3. Over any list of calls from the start, every accepted read finds what memory without a cache would give, and once every line has
 -- been evicted memory equals that memory word for word: `Demand3`.

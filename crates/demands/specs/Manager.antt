@@ -6,13 +6,13 @@ use lib.ListN.{length}
 use Rattle.board.specs.declared.Board.{Board}
 use Rattle.manager.specs.Calls.{Result, result, mapCall, unmapCall, readCall, writeCall, deviceReadCall, deviceWriteCall}
 use Rattle.cache.specs.Store.{WellFormed}
-use Rattle.machine.specs.State.{State, Call, map, unmap, read, write, deviceRead, deviceWrite, evict}
+use Rattle.machine.specs.State.{State, Single, map, unmap, read, write, deviceRead, deviceWrite, evict}
 use Rattle.machine.specs.Step.{step}
 
-abbrev pub Agrees : Board → State → Call → Result → Type 0
+abbrev pub Agrees : Board → State → Single → Result → Type 0
 Agrees b st call r = r ≡ result (step b st call .answer .outcome) (step b st call .after .tables)
 
-abbrev pub ManagerCall : Board → State → Call → Type 0
+abbrev pub ManagerCall : Board → State → Single → Type 0
 ManagerCall b st (map space page frame rights) = Agrees b st (map space page frame rights) (mapCall b (st .tables) space page frame rights)
 ManagerCall b st (unmap space page) = Agrees b st (unmap space page) (unmapCall b (st .tables) space page)
 ManagerCall b st (read space page offset) = offset < b .page → Agrees b st (read space page offset) (readCall b (st .tables) space page)
@@ -23,4 +23,4 @@ ManagerCall b st (deviceWrite frame buffer) = length buffer ≡ b .page → Agre
 ManagerCall b st (evict line) = Unit {0}
 
 abbrev pub ManagerAgrees : Board → Type 0
-ManagerAgrees b = (st : State) (call : Call) → WellFormed b (st .store) → ManagerCall b st call
+ManagerAgrees b = (st : State) (call : Single) → WellFormed b (st .store) → ManagerCall b st call

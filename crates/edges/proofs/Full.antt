@@ -16,7 +16,7 @@ use Rattle.mapping.specs.Facts.{InRange, Rules}
 use Rattle.mapping.proofs.Entry.{maps-cong₂}
 use Rattle.mapping.proofs.Rules.{rules-keepsRules}
 use Rattle.manager.specs.Refusals.{firstRefusal}
-use Rattle.machine.specs.State.{State, Call, map, Result}
+use Rattle.machine.specs.State.{State, Single, map, Result}
 use Rattle.machine.specs.Refusals.{bufferRight, lentCauses, ownCauses, causes}
 use Rattle.machine.proofs.StepLaws.{step-refused, step-accepted}
 use Rattle.bits.specs.Mask as mask
@@ -63,7 +63,7 @@ module _ (n : ℕ) (room : n ≤ capacity) where
 
 -- ---- the refusal of a call, where nothing that is lent gives one
 
-module _ (b : Board) (st : State) (call : Call) where
+module _ (b : Board) (st : State) (call : Single) where
   lent-clear : (manager-tables.lengthsRight b (st .tables) && machine-refusals.storeLengths b (st .store) && bufferRight b call) ≡ true
       → (manager-tables.rulesKept b (st .tables) && tag.tagsKeepRules b (st .store .tags)) ≡ true
       → firstRefusal (causes b st call) ≡ firstRefusal (ownCauses b st call)
@@ -74,7 +74,7 @@ lent-rules : (n : ℕ) → n ≤ capacity → (manager-tables.rulesKept board01 
 unfolding manager-tables.rulesKept manager-tables.recordsKeepRules manager-tables.recordAt mask.all mask.bit mask.countOf frame-record.keepsRules run.zeros run.start board.lines board.pageLines tag.tagsKeepRules
 lent-rules n room = rw (rules-keepsRules board01 (pagesMapped n) (pages-rules n room))
 
-first-of : (n : ℕ) → n ≤ capacity → (call : Call) → bufferRight board01 call ≡ true → firstRefusal (causes board01 (listing n) call) ≡ firstRefusal (ownCauses board01 (listing n) call)
+first-of : (n : ℕ) → n ≤ capacity → (call : Single) → bufferRight board01 call ≡ true → firstRefusal (causes board01 (listing n) call) ≡ firstRefusal (ownCauses board01 (listing n) call)
 unfolding manager-tables.lengthsRight machine-refusals.storeLengths run.zeros run.start board.lines board.pageLines board.memoryWords board.cacheWords itemsOf
 first-of n room call e = lent-clear board01 (listing n) call e (lent-rules n room)
 

@@ -20,7 +20,7 @@ use Rattle.manager.specs.Calls.{noOps}
 use Rattle.manager.specs.Tables.{tables, tabulate}
 use Rattle.cache.specs.Store.{store}
 use Rattle.cache.specs.Tag.{frameOf, isDirty}
-use Rattle.machine.specs.State.{State, state, Call, map, read, write, deviceWrite, evict, Answer, Result}
+use Rattle.machine.specs.State.{State, state, Single, map, read, write, deviceWrite, evict, Answer, Result}
 use Rattle.machine.specs.Step.{answer, result, step}
 use Rattle.run_sheet.specs.Run.{start, sheetText}
 
@@ -51,18 +51,18 @@ EveryRowHolds (row ∷ rows) = Holds row × EveryRowHolds rows
 -- ---- calls
 
 -- the state after calls
-unfoldable pub after : State → List Call → State
+unfoldable pub after : State → List Single → State
 unfolding step
 after st [] = st
 after st (call ∷ calls) = after (step board01 st call .after) calls
 
 -- the answers of calls, one after the other, the state of each from the one before it
-unfoldable pub askFrom : Result → List Call → List Answer
+unfoldable pub askFrom : Result → List Single → List Answer
 unfolding step
 askFrom got [] = got .answer ∷ []
 askFrom got (call ∷ calls) = got .answer ∷ askFrom (step board01 (got .after) call) calls
 
-unfoldable pub ask : State → List Call → List Answer
+unfoldable pub ask : State → List Single → List Answer
 unfolding askFrom
 ask st [] = []
 ask st (call ∷ calls) = askFrom (step board01 st call) calls

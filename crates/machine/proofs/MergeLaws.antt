@@ -20,7 +20,7 @@ use Rattle.manager.specs.Tables.{lengthsRight, rulesKept}
 use Rattle.cache.specs.Tag.{tagsKeepRules}
 use Rattle.machine.specs.Plans.{storeCauses, earlier, withStep, withPlace, planStep, planPlace}
 use Rattle.machine.specs.Refusals.{storeLengths, bufferRight, ownCauses, causes}
-use Rattle.machine.specs.State.{State, Call}
+use Rattle.machine.specs.State.{State, Single}
 
 -- ---- the earlier of two
 
@@ -169,7 +169,7 @@ lent l r k d t m n o e hm hn =
     ∙ cause-both 1 l (k && d) _ _ (λ z. omega arith) (two-later t hm) (two-later r hn)
 
 -- any call whose own causes are the machine's and the manager's, merged
-module _ (b : Board) (st : State) (call : Call) (mine managers : List Cause) (om : inOrder ownPlace mine ≡ true) (on : inOrder ownPlace managers ≡ true)
+module _ (b : Board) (st : State) (call : Single) (mine managers : List Cause) (om : inOrder ownPlace mine ≡ true) (on : inOrder ownPlace managers ≡ true)
     (own : ownCauses b st call ≡ merge mine managers) where
   pub causes-merged : firstRefusal (causes b st call)
       ≡ earlier (firstRefusal (storeCauses b (st .store) (bufferRight b call) ++ mine)) (firstRefusal (tableCauses b (st .tables) ++ managers))

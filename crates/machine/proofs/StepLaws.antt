@@ -31,7 +31,7 @@ use Rattle.cache.specs.Store.{Store, WellFormed}
 use Rattle.cache.specs.Tag.{tagsKeepRules}
 use Rattle.machine.specs.Ready.{AccessReady, TransferReady}
 use Rattle.machine.specs.Refusals.{storeLengths, bufferRight, lentCauses, offsetCause, ownCauses, causes}
-use Rattle.machine.specs.State.{State, state, Call, map, unmap, read, write, deviceRead, deviceWrite, evict, Result, lentBuffer}
+use Rattle.machine.specs.State.{State, state, Single, map, unmap, read, write, deviceRead, deviceWrite, evict, Result, lentBuffer}
 use Rattle.machine.specs.Step.{answer, result, carryOut, listed, stepped, pageFrame, accept, step}
 use Rattle.machine.specs.Plans.{planStep, planPlace, refusalOf, placeRefusal}
 use Rattle.machine.proofs.StoreLaws.{well-formed}
@@ -56,7 +56,7 @@ placed-refusal (suc n) k place e = (cc, λ z. omega arith)
 
 -- ---- a step, by its refusal
 
-module _ (b : Board) (st : State) (call : Call) where
+module _ (b : Board) (st : State) (call : Single) where
   pub step-refused : (k : ℕ) → (firstRefusal (causes b st call) ≡ k) × (firstRefusal (causes b st call) ≡ 0 → ⊥)
       → result (answer (refused k) none (lentBuffer call)) st ≡ step b st call
   unfolding step
@@ -77,7 +77,7 @@ module _ (b : Board) (st : State) (call : Call) where
   unfolding ownCauses
   numbered-own = go call
     where
-      go : (call : Call) → numbered (ownCauses b st call) ≡ true
+      go : (call : Single) → numbered (ownCauses b st call) ≡ true
       go (map space page frame rights) = refl
       go (unmap space page) = refl
       go (read space page offset) = refl
@@ -121,7 +121,7 @@ ready b st f s wf hf =
     (wf, hf, below .1, below .2)
 
 -- an access to an offset of a page: any call whose own causes begin with those of the space, the offset and the mapping
-pub access-ready : (b : Board) (st : State) (call : Call) (s : table.Step) (space page offset : ℕ) (rest : List Cause)
+pub access-ready : (b : Board) (st : State) (call : Single) (s : table.Step) (space page offset : ℕ) (rest : List Cause)
     → ownCauses b st call ≡ spaceCause space page ∷ offsetCause (b .page) offset ∷ unmappedCause (st .tables .list) space page ∷ rest
     → firstRefusal (causes b st call) ≡ 0
     → Ready b st (changeOf b (st .tables) (pageFrame st space page) s) × (offset < b .page)
@@ -132,7 +132,7 @@ access-ready b st call s space page offset rest own e =
     (ready b st (pageFrame st space page) s (store-clear b st call e) (m .frame-lt), leb-false (b .page) offset (n .1 .1 .1 .0))
 
 -- so the change that is told, and the page's colour, are what `load` and `put` require
-pub access-requires : (b : Board) (st : State) (call : Call) (s : table.Step) (space page offset : ℕ) (rest : List Cause) {change : Change} {colour : ℕ} → Regular b
+pub access-requires : (b : Board) (st : State) (call : Single) (s : table.Step) (space page offset : ℕ) (rest : List Cause) {change : Change} {colour : ℕ} → Regular b
     → planStep b st call (changeOf b (st .tables) (pageFrame st space page) s) ≡ step-plan.Step change
     → ownCauses b st call ≡ spaceCause space page ∷ offsetCause (b .page) offset ∷ unmappedCause (st .tables .list) space page ∷ rest
     → colour ≡ colourOf b page
@@ -143,7 +143,7 @@ access-requires b st call s space page offset rest {change} reg p own e =
     (r .0 .0, r .0 .1, r .0 .2, r .0 .3, subst⁻¹ (λ (k : ℕ). k < b .colours) e (colourOf-lt b reg page), r .1, reg)
 
 -- a transfer of a frame: any call whose own causes begin with the frame's, and of which a buffer is tested
-pub transfer-ready : (b : Board) (st : State) (call : Call) (s : table.Step) (frame : ℕ) (buffer : List ℕ) (rest : List Cause)
+pub transfer-ready : (b : Board) (st : State) (call : Single) (s : table.Step) (frame : ℕ) (buffer : List ℕ) (rest : List Cause)
     → ownCauses b st call ≡ frameCause b frame ∷ rest
     → bufferRight b call ≡ eqb (length buffer) (b .page)
     → firstRefusal (causes b st call) ≡ 0
@@ -155,7 +155,7 @@ transfer-ready b st call s frame buffer rest own tested e =
     (ready b st frame s (store-clear b st call e) (leb-false (b .frames) frame (n .1 .1 .0)), eqb-true (length buffer) (b .page) (sym tested ∙ l))
 
 -- so the change that is told is what `send` and `receive` require
-pub transfer-requires : (b : Board) (st : State) (call : Call) (s : table.Step) (frame : ℕ) (buffer : List ℕ) (rest : List Cause) {change : Change} → Regular b
+pub transfer-requires : (b : Board) (st : State) (call : Single) (s : table.Step) (frame : ℕ) (buffer : List ℕ) (rest : List Cause) {change : Change} → Regular b
     → planStep b st call (changeOf b (st .tables) frame s) ≡ step-plan.Step change
     → ownCauses b st call ≡ frameCause b frame ∷ rest
     → bufferRight b call ≡ eqb (length buffer) (b .page)
@@ -201,7 +201,7 @@ made eo ew el et es = λ i. result (answer (eo i) (ew i) (el i)) (state (et i) (
 abbrev pub afterOps : Board → State → Change → Store
 afterOps b st change = carryOut b (accepted (change .frame) (change .ops)) (st .store)
 
-module _ (b : Board) (st : State) (call : Call) where
+module _ (b : Board) (st : State) (call : Single) where
   -- the plan that was told is a refusal, of this number
   pub planned-refused : (change : Change) {told : Plan} {n k : ℕ} → told ≡ planStep b st call change → told ≡ step-plan.Refused n → k ≡ refusalOf told
       → result (answer (refused k) none (lentBuffer call)) st ≡ step b st call

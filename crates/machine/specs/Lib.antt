@@ -2,5 +2,6 @@
 pub mod State
 pub mod Refusals
 pub mod Step
+pub mod Call
 pub mod Plans
 pub mod Ready

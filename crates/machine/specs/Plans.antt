@@ -18,7 +18,7 @@ use Rattle.cache.specs.Tag.{tagsKeepRules}
 use Rattle.machine.specs.declared.Loaded.{Loaded}
 use Rattle.machine.specs.declared.Loaded.the-variants.{Refused, Word}
 use Rattle.machine.specs.Refusals.{storeLengths, offsetCause, causes}
-use Rattle.machine.specs.State.{State, Call, Answer}
+use Rattle.machine.specs.State.{State, Single, Answer}
 use Rattle.machine.specs.Step.{answer}
 
 -- the causes in memory, cache words and tags, and whether a device's buffer has its length
@@ -50,10 +50,10 @@ withPlace zero (list-plan.Place place) = list-plan.Place place
 withPlace (suc own) (list-plan.Place place) = list-plan.Refused (suc own)
 
 -- a call's plan: the refusal of the first cause that applies, else the change, or the place
-abbrev pub planStep : Board → State → Call → Change → Plan
+abbrev pub planStep : Board → State → Single → Change → Plan
 planStep b st call change = planned (firstRefusal (causes b st call)) change
 
-abbrev pub planPlace : Board → State → Call → ℕ → ListPlan
+abbrev pub planPlace : Board → State → Single → ℕ → ListPlan
 planPlace b st call place = placed (firstRefusal (causes b st call)) place
 
 -- the number of a plan that is a refusal, else 0

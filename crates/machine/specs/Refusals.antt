@@ -6,18 +6,18 @@ use lib.Dec.{eqb, leb}
 use lib.ListN.{length}
 use Rattle.board.specs.declared.Board.{Board}
 use Rattle.board.specs.Board.{memoryWords, cacheWords, lines}
-use Rattle.manager.specs.Refusals.{Cause, _if_, spaceCause, frameCause, rightsCause, mappedCause, unmappedCause, fullCause, readOnlyCause}
+use Rattle.manager.specs.Refusals.{Cause, _if_, spaceCause, frameCause, unmappedCause, readOnlyCause, listCauses}
 use Rattle.manager.specs.Tables.{lengthsRight, rulesKept}
 use Rattle.cache.specs.Store.{Store}
 use Rattle.cache.specs.Tag.{tagsKeepRules}
-use Rattle.machine.specs.State.{State, Call, map, unmap, read, write, deviceRead, deviceWrite, evict}
+use Rattle.machine.specs.State.{State, Single, map, unmap, read, write, deviceRead, deviceWrite, evict}
 
 -- memory, cache words and tags have their lengths
 unfoldable pub storeLengths : Board → Store → Bool
 storeLengths b s = eqb (length (s .memory)) (memoryWords b) && eqb (length (s .words)) (cacheWords b) && eqb (length (s .tags)) (lines b)
 
 -- a device's buffer has a page's length
-abbrev pub bufferRight : Board → Call → Bool
+abbrev pub bufferRight : Board → Single → Bool
 bufferRight b (map space page frame rights) = true
 bufferRight b (unmap space page) = true
 bufferRight b (read space page offset) = true
@@ -27,7 +27,7 @@ bufferRight b (deviceWrite frame buffer) = eqb (length buffer) (b .page)
 bufferRight b (evict line) = true
 
 -- what each call tests of all that it is lent
-unfoldable pub lentCauses : Board → State → Call → List Cause
+unfoldable pub lentCauses : Board → State → Single → List Cause
 unfolding storeLengths
 lentCauses b st call =
     (1 if not (lengthsRight b (st .tables) && storeLengths b (st .store) && bufferRight b call))
@@ -39,14 +39,8 @@ abbrev pub offsetCause : ℕ → ℕ → Cause
 offsetCause limit offset = 6 if leb limit offset
 
 -- and of its own numbers
-unfoldable pub ownCauses : Board → State → Call → List Cause
-ownCauses b st (map space page frame rights) =
-    spaceCause space page
-    ∷ frameCause b frame
-    ∷ rightsCause rights
-    ∷ mappedCause (st .tables .list) space page
-    ∷ fullCause (st .tables .list)
-    ∷ []
+unfoldable pub ownCauses : Board → State → Single → List Cause
+ownCauses b st (map space page frame rights) = listCauses b (st .tables .list) space page frame rights
 ownCauses b st (unmap space page) = spaceCause space page ∷ unmappedCause (st .tables .list) space page ∷ []
 ownCauses b st (read space page offset) =
     spaceCause space page
@@ -63,6 +57,6 @@ ownCauses b st (deviceRead frame buffer) = frameCause b frame ∷ []
 ownCauses b st (deviceWrite frame buffer) = frameCause b frame ∷ []
 ownCauses b st (evict line) = offsetCause (lines b) line ∷ []
 
-unfoldable pub causes : Board → State → Call → List Cause
+unfoldable pub causes : Board → State → Single → List Cause
 unfolding lentCauses ownCauses
 causes b st call = lentCauses b st call ++ ownCauses b st call

@@ -3,6 +3,7 @@ use mathlib.Core.List.{List, []}
 use mathlib.Core.Option.{Option}
 use Prim.Native.Nat.{ℕ}
 use Rattle.manager.specs.Answers.{Outcome}
+use Rattle.mapping.specs.declared.Mapping.{Mapping}
 use Rattle.mapping.specs.declared.MappingList.{MappingList}
 use Rattle.manager.specs.Tables.{Tables, tables}
 use Rattle.cache.specs.Store.{Store, store}
@@ -19,21 +20,27 @@ state t s = record { tables = t; store = s }
 abbrev pub machineOf : MappingList → List ℕ → List ℕ → List ℕ → List ℕ → List ℕ → State
 machineOf list records protections memory words tags = state (tables list records protections) (store memory words tags)
 
--- A call with its numbers and words as they are passed, whatever they are. Document 01 calls evict turning out.
-pub data Call : Type 0 where
+-- A single call with its numbers and words as they are passed, whatever they are. Document 01 calls evict turning out.
+pub data Single : Type 0 where
   -- space, page, frame, rights
-  map : ℕ → ℕ → ℕ → ℕ → Call
+  map : ℕ → ℕ → ℕ → ℕ → Single
   -- space, page
-  unmap : ℕ → ℕ → Call
+  unmap : ℕ → ℕ → Single
   -- space, page, offset; a write's word
-  read : ℕ → ℕ → ℕ → Call
-  write : ℕ → ℕ → ℕ → ℕ → Call
+  read : ℕ → ℕ → ℕ → Single
+  write : ℕ → ℕ → ℕ → ℕ → Single
   -- frame, and the device's buffer as it is lent
-  deviceRead deviceWrite : ℕ → List ℕ → Call
+  deviceRead deviceWrite : ℕ → List ℕ → Single
   -- line
-  evict : ℕ → Call
+  evict : ℕ → Single
 
--- The refusal or the orders, the word of a processor's read, and what a device read leaves in its buffer.
+-- A call is a single one, or a list of mappings (request N1).
+pub data Call : Type 0 where
+  single : Single → Call
+  -- the items, and the list of answers as it is lent
+  mapAll : List Mapping → List ℕ → Call
+
+-- The refusal or the orders, the word of a processor's read, and what the call leaves in the buffer that it is lent for a device or for answers.
 pub record Answer : Type 0 where
   pub outcome : Outcome
   pub word : Option ℕ
@@ -44,7 +51,7 @@ pub record Result : Type 0 where
   pub after : State
 
 -- the buffer that a device read is lent; other calls fill none
-abbrev pub lentBuffer : Call → List ℕ
+abbrev pub lentBuffer : Single → List ℕ
 lentBuffer (map space page frame rights) = []
 lentBuffer (unmap space page) = []
 lentBuffer (read space page offset) = []

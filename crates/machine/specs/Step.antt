@@ -15,7 +15,7 @@ use Rattle.manager.specs.Refusals.{firstRefusal, placeOf, listedMapping}
 use Rattle.manager.specs.Tables.{Tables, refill}
 use Rattle.cache.specs.Cache as hardware
 use Rattle.cache.specs.Store.{Store}
-use Rattle.machine.specs.State.{State, state, Call, map, unmap, read, write, deviceRead, deviceWrite, evict, Answer, Result, lentBuffer}
+use Rattle.machine.specs.State.{State, state, Single, map, unmap, read, write, deviceRead, deviceWrite, evict, Answer, Result, lentBuffer}
 use Rattle.machine.specs.Refusals.{causes}
 
 -- ---- the orders
@@ -55,7 +55,7 @@ stepped b st change word buffer access =
 abbrev pub pageFrame : State → ℕ → ℕ → ℕ
 pageFrame st space page = listedMapping (st .tables .list) space page .frame
 
-unfoldable pub accept : Board → State → Call → Result
+unfoldable pub accept : Board → State → Single → Result
 accept b st (map space page frame rights) =
     listed (commitMap b (st .tables) (record { space = space; page = page; frame = frame; rights = rights })) (st .store)
 accept b st (unmap space page) = listed (commitUnmap b (st .tables) (placeOf (lookup (st .tables .list) space page))) (st .store)
@@ -75,7 +75,7 @@ accept b st (evict line) = listed (refill b (st .tables)) (hardware.evict b line
 
 -- ---- a call
 
-unfoldable pub step : Board → State → Call → Result
+unfoldable pub step : Board → State → Single → Result
 unfolding accept
 step b st call =
     elim (firstRefusal (causes b st call)) [

@@ -11,6 +11,8 @@ use Rattle.bits.proofs.Mask.{all-at}
 use Rattle.bits.proofs.Tautology.{and-left, and-right}
 use Rattle.board.specs.declared.Board.{Board}
 use Rattle.page_model.specs.Record as record-of
+use Rattle.mapping.specs.declared.Mapping.{Mapping}
+use Rattle.mapping.specs.declared.MappingList.{MappingList}
 use Rattle.mapping.specs.Entry.{capacity}
 use Rattle.mapping.specs.declared.Found.{Found}
 use Rattle.mapping.specs.declared.Found.the-variants.{At, Nothing}
@@ -19,6 +21,7 @@ use Rattle.mapping.specs.Lookup.{lookup}
 use Rattle.mapping.specs.Rules as list-of
 use Rattle.mapping.proofs.Laws.{keepsRules-true, lookup-at}
 use Rattle.manager.specs.Refusals.{Cause, firstRefusal, tableCauses, mapCauses, pageCauses, writeCauses, transferCauses, outOfSpace, isRight, found, isMapped, placeOf, listedMapping}
+use Rattle.manager.specs.Appended.{listRefusal}
 use Rattle.manager.specs.Tables.{Tables, recordWords, recordAt, recordsKeepRules, lengthsRight, rulesKept}
 
 -- ---- the lent tables
@@ -85,11 +88,12 @@ module _ (b : Board) (t : Tables) where
     unfolding firstRefusal pageCauses
     page-refusal-is space page eo em = rw (clear .0, clear .1, eo, em)
 
-    pub map-refusal-is : (space page frame rights : ℕ) {o f r m n : Bool} → outOfSpace space page ≡ o → leb (b .frames) frame ≡ f → isRight rights ≡ r
-        → isMapped (t .list) space page ≡ m → eqb (t .list .count) capacity ≡ n
-        → cond o 3 (cond f 4 (cond (not r) 5 (cond m 7 (cond n 9 0)))) ≡ firstRefusal (mapCauses b t space page frame rights)
-    unfolding firstRefusal mapCauses
-    map-refusal-is space page frame rights eo ef er em en = rw (clear .0, clear .1, eo, ef, er, em, en)
+-- the refusal of a mapping in its numbers and the list is what is known of its conditions, in their order
+pub list-refusal-is : (b : Board) (l : MappingList) (m : Mapping) {o f r t n : Bool} → outOfSpace (m .space) (m .page) ≡ o → leb (b .frames) (m .frame) ≡ f
+    → isRight (m .rights) ≡ r → isMapped l (m .space) (m .page) ≡ t → eqb (l .count) capacity ≡ n
+    → cond o 3 (cond f 4 (cond (not r) 5 (cond t 7 (cond n 9 0)))) ≡ listRefusal b l m
+unfolding firstRefusal listRefusal
+list-refusal-is b l m eo ef er et en = rw (eo, ef, er, et, en)
 
 -- ---- no refusal: no cause applies
 

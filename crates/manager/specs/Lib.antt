@@ -3,4 +3,6 @@ pub mod Tables
 pub mod Refusals
 pub mod Answers
 pub mod Calls
+pub mod Batch
+pub mod Appended
 pub mod Theorems

@@ -10,6 +10,7 @@ use Rattle.mapping.specs.declared.Found.{Found}
 use Rattle.mapping.specs.declared.Found.the-variants.{At, Nothing}
 use Rattle.mapping.specs.declared.Mapping.{Mapping}
 use Rattle.mapping.specs.declared.MappingList.{MappingList}
+use Rattle.mapping.specs.Batch.{batchSize}
 use Rattle.mapping.specs.Entry.{capacity, readOnly, readWrite, mappingAt}
 use Rattle.mapping.specs.Lookup.{lookup}
 use Rattle.manager.specs.Tables.{Tables, lengthsRight, rulesKept}
@@ -30,9 +31,9 @@ firstRefusal (c ∷ rest) = cond (c .applies) (c .number) (firstRefusal rest)
 
 -- ---- the order of the refusals
 
--- the numbers in the order in which document 01 has them tested
+-- the numbers in the order in which document 01, with the requests, has them tested
 abbrev pub refusalOrder : List ℕ
-refusalOrder = 1 ∷ 2 ∷ 3 ∷ 4 ∷ 5 ∷ 6 ∷ 7 ∷ 8 ∷ 9 ∷ 10 ∷ []
+refusalOrder = 1 ∷ 12 ∷ 2 ∷ 3 ∷ 4 ∷ 5 ∷ 6 ∷ 7 ∷ 8 ∷ 9 ∷ 10 ∷ []
 
 -- the first place of a number in a list, past its end where it is not listed
 unfoldable pub placeIn : List ℕ → ℕ → ℕ
@@ -97,22 +98,29 @@ fullCause l = 9 if eqb (l .count) capacity
 abbrev pub readOnlyCause : MappingList → ℕ → ℕ → Cause
 readOnlyCause l space page = 10 if eqb (listedMapping l space page .rights) readOnly
 
+-- a list of so many mappings, with so many answers
+abbrev pub batchCause : ℕ → ℕ → Cause
+batchCause items answers = 12 if (ltb batchSize items || not (eqb answers items))
+
 -- ---- the causes of each call
 
 -- what each call tests of all that it is lent
 unfoldable pub tableCauses : Board → Tables → List Cause
 tableCauses b t = (1 if not (lengthsRight b t)) ∷ (2 if not (rulesKept b t)) ∷ []
 
-unfoldable pub mapCauses : Board → Tables → ℕ → ℕ → ℕ → ℕ → List Cause
-unfolding tableCauses
-mapCauses b t space page frame rights =
-    tableCauses b t
-    ++ spaceCause space page
+-- of a mapping, in its numbers and the list
+abbrev pub listCauses : Board → MappingList → ℕ → ℕ → ℕ → ℕ → List Cause
+listCauses b l space page frame rights =
+    spaceCause space page
     ∷ frameCause b frame
     ∷ rightsCause rights
-    ∷ mappedCause (t .list) space page
-    ∷ fullCause (t .list)
+    ∷ mappedCause l space page
+    ∷ fullCause l
     ∷ []
+
+unfoldable pub mapCauses : Board → Tables → ℕ → ℕ → ℕ → ℕ → List Cause
+unfolding tableCauses
+mapCauses b t space page frame rights = tableCauses b t ++ listCauses b (t .list) space page frame rights
 
 -- unmap and read
 unfoldable pub pageCauses : Board → Tables → ℕ → ℕ → List Cause

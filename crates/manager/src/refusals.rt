@@ -3,6 +3,7 @@ ghost use mathlib.Core.Path.{_≡_};
 ghost use Rattle.board.specs.Board.{Regular};
 ghost use Rattle.manager.specs.Tables.{tables};
 ghost use Rattle.manager.specs.Refusals.{firstRefusal, refusalPlace, tableCauses, mapCauses, pageCauses, writeCauses, transferCauses, outOfSpace, isRight, isMapped, placeOf, listedMapping};
+ghost use Rattle.manager.specs.Appended.{listRefusal};
 ghost use Rattle.mapping.specs.Lookup.{lookup};
 use super::records::RECORD_WORDS;
 use super::records::records_keep_rules;
@@ -12,9 +13,9 @@ use mapping::Mapping;
 use mapping::MappingList;
 
 // How many refusals there are, and their numbers in the order in which they are tested.
-const REFUSALS: usize = 10;
+const REFUSALS: usize = 11;
 
-const ORDER: [u8; REFUSALS] = [1, 2, 3, 4, 5, 6, 7, 8, 9, 10];
+const ORDER: [u8; REFUSALS] = [1, 12, 2, 3, 4, 5, 6, 7, 8, 9, 10];
 
 // The place of a refusal in the order, past its end where it is not listed.
 pub fn place(number: u8) -> usize
@@ -65,6 +66,13 @@ pub fn map_refusal(
     if refusal != 0 {
         return refusal;
     }
+    list_refusal(board, list, m)
+}
+
+// Of a mapping, in its numbers and the list.
+pub fn list_refusal(board: Board, list: MappingList, m: Mapping) -> u8
+    ensures { λ r. ⌜ r ≡ listRefusal board list m ⌝ }
+{
     if out_of_space(m.space, m.page) {
         return 3;
     }

@@ -9,7 +9,7 @@ use Rattle.mapping.specs.declared.MappingList.{MappingList}
 use Rattle.manager.specs.Answers.{Outcome, refused, accepted}
 use Rattle.manager.specs.Tables.{tables}
 use Rattle.cache.specs.Store.{Store}
-use Rattle.machine.specs.State.{State, state, Call, Answer, Result}
+use Rattle.machine.specs.State.{State, state, Single, Answer, Result}
 use Rattle.machine.specs.Step.{result, step}
 use Rattle.sheet_codec.specs.declared.Fields.{Fields}
 use Rattle.sheet_codec.specs.declared.Kind.{Kind}
@@ -17,7 +17,7 @@ use Rattle.run_sheet.specs.Did.{Did}
 use Rattle.sheet_codec.specs.Format.{callOf}
 use Rattle.sheet_codec.specs.Text.{wordOf, firstWord}
 
-pub did : {st next : State} {call : Call} {a : Answer} {o : Outcome} {w : Option ℕ} → result a next ≡ step board01 st call
+pub did : {st next : State} {call : Single} {a : Answer} {o : Outcome} {w : Option ℕ} → result a next ≡ step board01 st call
     → o ≡ a .outcome
     → w ≡ wordOf call a
     → Did st call next o w
@@ -29,7 +29,7 @@ did {call = call} e d f =
     }
 
 -- the same list, by another name
-pub did-with : {st : State} {call : Call} {l m : MappingList} {rs ps : List ℕ} {s : Store} {o : Outcome} {w : Option ℕ} → l ≡ m
+pub did-with : {st : State} {call : Single} {l m : MappingList} {rs ps : List ℕ} {s : Store} {o : Outcome} {w : Option ℕ} → l ≡ m
     → Did st call (state (tables m rs ps) s) o w
     → Did st call (state (tables l rs ps) s) o w
 did-with {rs = rs} {ps = ps} {s = s} e d =
@@ -40,8 +40,8 @@ first-same (refused n) w l e = refl
 first-same (accepted f ops) w l e = ap some e
 
 -- the same call, by another name
-pub did-as : {st next : State} {c d : Call} {o : Outcome} {w : Option ℕ} → c ≡ d → Did st c next o w → Did st d next o w
-did-as {st = st} {next = next} {o = o} {w = w} e x = subst (λ (c : Call). Did st c next o w) e x
+pub did-as : {st next : State} {c d : Single} {o : Outcome} {w : Option ℕ} → c ≡ d → Did st c next o w → Did st d next o w
+did-as {st = st} {next = next} {o = o} {w = w} e x = subst (λ (c : Single). Did st c next o w) e x
 
 pub did-kind : (f : Fields) {st next : State} {k j : Kind} {o : Outcome} {w : Option ℕ} → k ≡ j
     → Did st (callOf board01 k f) next o w

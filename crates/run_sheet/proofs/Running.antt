@@ -13,7 +13,7 @@ use Rattle.board.specs.Board.{board01}
 use Rattle.mapping.specs.Change.{empty}
 use Rattle.mapping.specs.declared.MappingList.{MappingList}
 use Rattle.manager.specs.Answers.{Outcome, numberOf}
-use Rattle.machine.specs.State.{State, Call, Answer}
+use Rattle.machine.specs.State.{State, Single, Answer}
 use Rattle.machine.specs.Step.{step}
 use Rattle.run_sheet.specs.Did.{Did}
 use Rattle.sheet_codec.specs.Format.{mostMappings, mostSteps, mappingCount, stepCount, isBroken}
@@ -34,11 +34,11 @@ record-same : {a b : Run} → a .machine ≡ b .machine → a .text ≡ b .text 
 record-same e f g h = λ i. record { machine = e i; text = f i; flushes = g i; purges = h i }
 
 module _ (b : Board) where
-  joined-advance : (line : Call → Answer → List ℕ) (call : Call) (r s : Run) → advance b line call (joined r s) ≡ joined r (advance b line call s)
+  joined-advance : (line : Single → Answer → List ℕ) (call : Single) (r s : Run) → advance b line call (joined r s) ≡ joined r (advance b line call s)
   unfolding advance
   joined-advance line call r s = record-same refl (append-assoc (r .text) (s .text) _) (omega arith) (omega arith)
 
-  module _ (line : ℕ → Call → Answer → List ℕ) (callAt : ℕ → Call) where
+  module _ (line : ℕ → Single → Answer → List ℕ) (callAt : ℕ → Single) where
     pub joined-all : (n : ℕ) (r : Run) → advanceAll b line callAt n r ≡ joined r (advanceAll b line callAt n (runFrom (r .machine)))
     unfolding advanceAll
     joined-all zero r = record-same refl (sym (append-nil (r .text))) (omega arith) (omega arith)
@@ -49,7 +49,7 @@ module _ (b : Board) where
 -- ---- what the code holds
 
 -- nothing called yet
-pub ran-none : (line : ℕ → Call → Answer → List ℕ) (callAt : ℕ → Call) (l : List ℕ) (at : ℕ) (st : State)
+pub ran-none : (line : ℕ → Single → Answer → List ℕ) (callAt : ℕ → Single) (l : List ℕ) (at : ℕ) (st : State)
     → Ran (advanceAll board01 line callAt 0 (runFrom st)) 0 l at st l at 0 0
 unfolding advanceAll
 ran-none line callAt l at st =
@@ -63,7 +63,7 @@ ran-none line callAt l at st =
     }
 
 -- one call, of which a line is written
-ran-one : (line : Call → Answer → List ℕ) {st next : State} {call : Call} {o : Outcome} {w : Option ℕ} {l m s : List ℕ} {at k f p : ℕ}
+ran-one : (line : Single → Answer → List ℕ) {st next : State} {call : Single} {o : Outcome} {w : Option ℕ} {l m s : List ℕ} {at k f p : ℕ}
     → Did st call next o w
     → Put l at s lineBytes m k
     → s ≡ line call (step board01 st call .answer)
@@ -81,7 +81,7 @@ ran-one line d put e f p =
       few-purges = omega (arith, p .1);
     }
 
-pub ran-mapping : (n : ℕ) {st next : State} {call : Call} {o : Outcome} {w : Option ℕ} {l m : List ℕ} {at k f p x : ℕ}
+pub ran-mapping : (n : ℕ) {st next : State} {call : Single} {o : Outcome} {w : Option ℕ} {l m : List ℕ} {at k f p x : ℕ}
     → Did st call next o w
     → x ≡ numberOf o
     → Put l at (mappingLine n x) lineBytes m k
@@ -90,7 +90,7 @@ pub ran-mapping : (n : ℕ) {st next : State} {call : Call} {o : Outcome} {w : O
     → Ran (advance board01 (mappingLineOf n) call (runFrom st)) 1 l at next m k f p
 ran-mapping n d e put f p = ran-one (mappingLineOf n) d put (ap (mappingLine n) (e ∙ ap numberOf (d .answered))) f p
 
-pub ran-step : (n : ℕ) {st next : State} {call : Call} {o : Outcome} {w : Option ℕ} {l m : List ℕ} {at k f p : ℕ}
+pub ran-step : (n : ℕ) {st next : State} {call : Single} {o : Outcome} {w : Option ℕ} {l m : List ℕ} {at k f p : ℕ}
     → Did st call next o w
     → Put l at (stepLine n o w) lineBytes m k
     → (f ≡ flushesOf o) × (f ≤ 2)
@@ -117,7 +117,7 @@ ran-both x y =
 pub ran-as : {r s : Run} {i : ℕ} {l m : List ℕ} {at k f p : ℕ} {st : State} → r ≡ s → Ran r i l at st m k f p → Ran s i l at st m k f p
 ran-as {i = i} {l = l} {m = m} {at = at} {k = k} {f = f} {p = p} {st = st} e x = subst (λ (r : Run). Ran r i l at st m k f p) e x
 
-module _ (line : ℕ → Call → Answer → List ℕ) (callAt : ℕ → Call) where
+module _ (line : ℕ → Single → Answer → List ℕ) (callAt : ℕ → Single) where
   joined-next : (i : ℕ) (r : Run) → advance board01 (line i) (callAt i) r ≡ joined r (advance board01 (line i) (callAt i) (runFrom (r .machine)))
   unfolding advance
   joined-next i r = record-same refl refl (omega arith) (omega arith)

@@ -4,11 +4,11 @@ use mathlib.Core.Path.{_≡_}
 use Prim.Native.Nat.{ℕ}
 use Rattle.board.specs.Board.{board01}
 use Rattle.manager.specs.Answers.{Outcome}
-use Rattle.machine.specs.State.{State, Call}
+use Rattle.machine.specs.State.{State, Single}
 use Rattle.machine.specs.Step.{step}
 use Rattle.sheet_codec.specs.Text.{wordOf}
 
-pub record Did (st : State) (call : Call) (next : State) (o : Outcome) (word : Option ℕ) : Type 0 where
+pub record Did (st : State) (call : Single) (next : State) (o : Outcome) (word : Option ℕ) : Type 0 where
   pub after : next ≡ step board01 st call .after
   pub answered : o ≡ step board01 st call .answer .outcome
   pub shown : word ≡ wordOf call (step board01 st call .answer)

@@ -10,7 +10,7 @@ use Rattle.mapping.specs.declared.MappingList.{MappingList}
 use Rattle.mapping.specs.Change.{empty}
 use Rattle.mapping.specs.Entry.{capacity}
 use Rattle.manager.specs.Tables.{recordWords}
-use Rattle.machine.specs.State.{State, machineOf, Call, Answer, Result}
+use Rattle.machine.specs.State.{State, machineOf, Single, Answer, Result}
 use Rattle.machine.specs.Step.{step}
 use Rattle.sheet_codec.specs.Format.{mostMappings, mostSteps, mappingCount, stepCount, isBroken, mappingCall, stepCall}
 use Rattle.sheet_codec.specs.Totals.{flushesOf, purgesOf}
@@ -54,12 +54,12 @@ told r line got =
       purges = r .purges + purgesOf (got .answer .outcome);
     }
 
-unfoldable pub advance : Board → (Call → Answer → List ℕ) → Call → Run → Run
+unfoldable pub advance : Board → (Single → Answer → List ℕ) → Single → Run → Run
 unfolding step
 advance b line call r = let got : Result = step b (r .machine) call in told r (line call (got .answer)) got
 
 -- the first n of the calls
-unfoldable pub advanceAll : Board → (ℕ → Call → Answer → List ℕ) → (ℕ → Call) → ℕ → Run → Run
+unfoldable pub advanceAll : Board → (ℕ → Single → Answer → List ℕ) → (ℕ → Single) → ℕ → Run → Run
 unfolding advance
 advanceAll b line callAt zero r = r
 advanceAll b line callAt (suc n) r = advance b (line n) (callAt n) (advanceAll b line callAt n r)

@@ -8,7 +8,7 @@ use Rattle.bits.specs.Mask.{all}
 use Rattle.board.specs.declared.Board.{Board}
 use Rattle.manager.specs.Tables.{tabulate}
 use Rattle.machine.specs.State as call
-use Rattle.machine.specs.State.{Call}
+use Rattle.machine.specs.State.{Single}
 use Rattle.sheet_codec.specs.declared.Fields.{Fields}
 use Rattle.sheet_codec.specs.declared.Kind.{Kind}
 use Rattle.sheet_codec.specs.declared.Kind.the-variants.{Read, Write, DeviceRead, DeviceWrite, Evict, Unmap, Other}
@@ -114,7 +114,7 @@ isBroken sheet =
 
 -- ---- the calls
 
-unfoldable pub mappingCall : List ℕ → ℕ → Call
+unfoldable pub mappingCall : List ℕ → ℕ → Single
 unfolding byteAt twoBytes mappingPlace
 mappingCall sheet k =
     call.map (byteAt sheet (mappingPlace k)) (twoBytes sheet (mappingPlace k + 1)) (byteAt sheet (mappingPlace k + 3)) (byteAt sheet (mappingPlace k + 4))
@@ -124,7 +124,7 @@ abbrev pub sentWord : ℕ → ℕ → ℕ
 sentWord w k = (w + k) % 2 ^ 32
 
 -- the call of a step; a device read is lent a buffer of zeros. A kind that breaks the sheet stands for no call: here, as an unmap
-abbrev pub callOf : Board → Kind → Fields → Call
+abbrev pub callOf : Board → Kind → Fields → Single
 callOf b Read f = call.read (f .s) (f .p) (f .o)
 callOf b Write f = call.write (f .s) (f .p) (f .o) (f .w)
 callOf b DeviceRead f = call.deviceRead (f .s) (replicate (b .page) 0)
@@ -133,6 +133,6 @@ callOf b Evict f = call.evict (f .s)
 callOf b Unmap f = call.unmap (f .s) (f .p)
 callOf b Other f = call.unmap (f .s) (f .p)
 
-unfoldable pub stepCall : Board → List ℕ → ℕ → Call
+unfoldable pub stepCall : Board → List ℕ → ℕ → Single
 unfolding fieldsAt stepPlace
 stepCall b sheet k = callOf b (kindOf (fieldsAt sheet (stepPlace sheet k) .kind)) (fieldsAt sheet (stepPlace sheet k))

@@ -8,7 +8,7 @@ use lib.ListN.{getD}
 use Rattle.io.specs.Digits.{digits}
 use Rattle.manager.specs.Answers as operation
 use Rattle.manager.specs.Answers.{FrameOperation, Outcome, refused, accepted, numberOf, firstOperation, secondOperation}
-use Rattle.machine.specs.State.{Call, map, unmap, read, write, deviceRead, deviceWrite, evict, Answer}
+use Rattle.machine.specs.State.{Single, map, unmap, read, write, deviceRead, deviceWrite, evict, Answer}
 use Rattle.sheet_codec.specs.declared.Shown.{Shown}
 use Rattle.sheet_codec.specs.declared.Shown.the-variants.{Absent, Word}
 
@@ -86,7 +86,7 @@ firstWord (refused n) buffer = none
 firstWord (accepted f ops) buffer = some (getD buffer 0 0)
 
 -- the word read, for a device read its first
-abbrev pub wordOf : Call → Answer → Option ℕ
+abbrev pub wordOf : Single → Answer → Option ℕ
 wordOf (map space page frame rights) a = none
 wordOf (unmap space page) a = none
 wordOf (read space page offset) a = a .word
@@ -102,7 +102,7 @@ unfoldable pub mappingLine : ℕ → ℕ → List ℕ
 unfolding decimal
 mappingLine k number = mappingLetter ∷ (decimal k ++ (space ∷ (decimal number ++ (newline ∷ []))))
 
-abbrev pub mappingLineOf : ℕ → Call → Answer → List ℕ
+abbrev pub mappingLineOf : ℕ → Single → Answer → List ℕ
 mappingLineOf k call a = mappingLine k (numberOf (a .outcome))
 
 -- `R A B`
@@ -113,7 +113,7 @@ answerText o = decimal (numberOf o) ++ (space ∷ (operationText (firstOperation
 unfoldable pub stepLine : ℕ → Outcome → Option ℕ → List ℕ
 stepLine k o word = decimal k ++ (space ∷ (answerText o ++ (space ∷ (wordText word ++ (newline ∷ [])))))
 
-abbrev pub stepLineOf : ℕ → Call → Answer → List ℕ
+abbrev pub stepLineOf : ℕ → Single → Answer → List ℕ
 stepLineOf k call a = stepLine k (a .outcome) (wordOf call a)
 
 -- `end F P`
