@@ -2,8 +2,9 @@
 //! shares nothing with the machine.
 
 use crate::board::{PageWords, FRAMES, PAGES, PAGE_WORDS, SPACES};
-use crate::call::{sent, Call, Found};
+use crate::call::{sent, Call, Found, Mapping};
 
+#[derive(Clone, Debug, PartialEq, Eq)]
 pub struct Cacheless {
     words: [PageWords; FRAMES],
     frames: Vec<[Option<u8>; PAGES]>,
@@ -24,9 +25,9 @@ impl Cacheless {
     /// no right machine accepts, finds and changes nothing.
     pub fn follow(&mut self, call: Call) -> Found {
         match call {
-            Call::Map {
+            Call::Map(Mapping {
                 space, page, frame, ..
-            } => *self.frame(space, page) = Some(frame),
+            }) => *self.frame(space, page) = Some(frame),
             Call::Unmap { space, page } => *self.frame(space, page) = None,
             Call::Read {
                 space,

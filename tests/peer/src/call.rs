@@ -4,15 +4,19 @@ use crate::board::{Colour, Frame, PageWords};
 use crate::Refusal;
 use std::fmt;
 
+/// A mapping to be made.
+#[derive(Clone, Copy, Debug, PartialEq, Eq)]
+pub struct Mapping {
+    pub space: u8,
+    pub page: u16,
+    pub frame: u8,
+    pub rights: u8,
+}
+
 /// One call, with its numbers as the caller gives them: nothing of them is tested yet.
 #[derive(Clone, Copy, Debug, PartialEq, Eq)]
 pub enum Call {
-    Map {
-        space: u8,
-        page: u16,
-        frame: u8,
-        rights: u8,
-    },
+    Map(Mapping),
     Read {
         space: u8,
         page: u16,
@@ -83,3 +87,11 @@ pub struct Accepted {
 }
 
 pub type Answer = Result<Accepted, Refusal>;
+
+/// An answer as a number: 0 if the call was accepted, else the refusal's.
+pub fn number(answer: &Answer) -> u8 {
+    match answer {
+        Ok(_) => 0,
+        Err(refusal) => refusal.number(),
+    }
+}

@@ -1,5 +1,6 @@
-//! Runs a run sheet as document 01 describes, on a machine written from that document alone, with a
-//! cacheless memory beside it that every accepted read and the memory at the end must equal.
+//! Runs a run sheet as document 01 describes, on a machine written from documents 01 and 02 alone (of
+//! 02 the request N1), with a cacheless memory beside it that every accepted read and the memory at
+//! the end must equal.
 
 pub mod board;
 pub mod cacheless;
@@ -16,7 +17,7 @@ pub use refusal::Refusal;
 
 use board::{Frame, Line};
 use cacheless::Cacheless;
-use call::{Answer, Call};
+use call::{Answer, Call, Mapping};
 use machine::Machine;
 use sheet::Sheet;
 use text::Text;
@@ -44,14 +45,15 @@ pub fn try_run(sheet: &[u8]) -> Result<Vec<u8>, String> {
 }
 
 /// The machine, and the memory that it must look like.
-#[derive(Default)]
-struct Pair {
+#[derive(Clone, Debug, Default, PartialEq, Eq)]
+pub struct Pair {
     machine: Machine,
     cacheless: Cacheless,
 }
 
 impl Pair {
-    fn call(&mut self, call: Call) -> Result<Answer, String> {
+    /// The machine's answer, or how what it found differs from the cacheless memory.
+    pub fn call(&mut self, call: Call) -> Result<Answer, String> {
         let answer = self.machine.call(call);
         if let Ok(accepted) = &answer {
             let right = self.cacheless.follow(call);
@@ -63,8 +65,20 @@ impl Pair {
         Ok(answer)
     }
 
+    /// Maps the items in one call (document 02, N1). To the cacheless memory it is its items in order,
+    /// each of them accepted or refused.
+    pub fn map_all(&mut self, items: &[Mapping], answers: &mut [u8]) -> Result<(), Refusal> {
+        self.machine.map_all(items, answers)?;
+        for (&item, &answer) in items.iter().zip(&*answers) {
+            if answer == 0 {
+                self.cacheless.follow(Call::Map(item));
+            }
+        }
+        Ok(())
+    }
+
     /// Evicts every line of a copy and compares the two memories.
-    fn settle(&self) -> Result<(), String> {
+    pub fn settle(&self) -> Result<(), String> {
         let mut hardware = self.machine.hardware.clone();
         Line::all().for_each(|line| hardware.evict(line));
         for (frame, right) in Frame::all().zip(self.cacheless.words()) {
@@ -88,12 +102,12 @@ mod tests {
         let mut pair = Pair::default();
         let (space, page) = (0, 0);
         let calls = [
-            Call::Map {
+            Call::Map(Mapping {
                 space,
                 page,
                 frame: 0,
                 rights: 2,
-            },
+            }),
             Call::Write {
                 space,
                 page,

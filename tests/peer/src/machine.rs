@@ -1,11 +1,15 @@
 //! The machine: each call asks the manager, has the cache do what it says, then makes the access.
-//! A call tests its numbers in the order of their refusals, so that the smallest is given.
+//! A call tests its numbers in the order of their refusals, so that the first in that order is given.
 
 use crate::board::{Frame, Line, Offset, Place};
-use crate::call::{sent, Accepted, Answer, Call, Found, Operations};
+use crate::call::{number, sent, Accepted, Answer, Call, Found, Mapping, Operations};
 use crate::hardware::Hardware;
 use crate::manager::Manager;
 use crate::record::{Access, Transfer};
+use crate::Refusal;
+
+/// The most items that one `map_all` takes.
+const ITEMS: usize = 64;
 
 #[derive(Clone, Debug, Default, PartialEq, Eq)]
 pub struct Machine {
@@ -16,12 +20,12 @@ pub struct Machine {
 impl Machine {
     pub fn call(&mut self, call: Call) -> Answer {
         match call {
-            Call::Map {
+            Call::Map(Mapping {
                 space,
                 page,
                 frame,
                 rights,
-            } => {
+            }) => {
                 let (place, frame) = (Place::new(space, page)?, Frame::new(frame)?);
                 self.manager.map(place, frame, rights)?;
                 Ok(Accepted::default())
@@ -83,6 +87,18 @@ impl Machine {
                 Ok(Accepted::default())
             }
         }
+    }
+
+    /// Maps the items in order, as single calls would: a refused item changes nothing and the next
+    /// one is tried. An item's answer is its refusal's number; an accepted item answers 0.
+    pub fn map_all(&mut self, items: &[Mapping], answers: &mut [u8]) -> Result<(), Refusal> {
+        if items.len() > ITEMS || answers.len() != items.len() {
+            return Err(Refusal::Items);
+        }
+        for (&item, answer) in items.iter().zip(answers) {
+            *answer = number(&self.call(Call::Map(item)));
+        }
+        Ok(())
     }
 
     fn perform(&mut self, operations: Operations) {

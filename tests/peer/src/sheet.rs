@@ -1,6 +1,6 @@
 //! The run sheet's bytes: mappings, then steps, each after its count, every number low byte first.
 
-use crate::call::Call;
+use crate::call::{Call, Mapping};
 use crate::Refusal;
 
 const MAPPINGS: usize = 256;
@@ -47,12 +47,12 @@ fn take<'a, const N: usize>(rest: &mut &'a [u8]) -> Result<&'a [u8; N], Refusal>
 }
 
 fn mapping(&[space, page_low, page_high, frame, rights]: &[u8; 5]) -> Result<Call, Refusal> {
-    Ok(Call::Map {
+    Ok(Call::Map(Mapping {
         space,
         page: u16::from_le_bytes([page_low, page_high]),
         frame,
         rights,
-    })
+    }))
 }
 
 fn step(&[kind, s, p0, p1, o, w0, w1, w2, w3]: &[u8; 9]) -> Result<Call, Refusal> {

@@ -1,6 +1,6 @@
 //! The text of a run: a line for each mapping and each step, and a last one with the totals.
 
-use crate::call::{Accepted, Answer, Found, Operation};
+use crate::call::{number, Accepted, Answer, Found, Operation};
 use crate::Refusal;
 use std::fmt;
 
@@ -48,13 +48,6 @@ impl Text {
     fn line(&mut self, line: fmt::Arguments) {
         use std::io::Write;
         writeln!(self.lines, "{line}").expect("a vector takes every byte");
-    }
-}
-
-fn number(answer: &Answer) -> u8 {
-    match answer {
-        Ok(_) => 0,
-        Err(refusal) => refusal.number(),
     }
 }
 

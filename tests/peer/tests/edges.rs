@@ -1,19 +1,19 @@
 //! Document 01, "At the edges": its ten cases, and the smallest refusal where several apply.
 
 use peer::board::{Frame, Line};
-use peer::call::{Accepted, Call, Found, Operation};
+use peer::call::{Accepted, Call, Found, Mapping, Operation};
 use peer::hardware::Tag;
 use peer::machine::Machine;
 use peer::record::Record;
 use peer::Refusal;
 
 fn map(space: u8, page: u16, frame: u8, rights: u8) -> Call {
-    Call::Map {
+    Call::Map(Mapping {
         space,
         page,
         frame,
         rights,
-    }
+    })
 }
 
 fn read(page: u16, offset: u8) -> Call {
