@@ -42,7 +42,7 @@ records-rules b t e = and-right (list-of.keepsRules b (t .list)) _ e
 -- ---- where no cause applies
 
 -- neither of two
-or-neither : (x y : Bool) → (x || y) ≡ false → (x ≡ false) × (y ≡ false)
+pub or-neither : (x y : Bool) → (x || y) ≡ false → (x ≡ false) × (y ≡ false)
 or-neither true y e = absurd (false≢true (sym e))
 or-neither false y e = (refl, e)
 

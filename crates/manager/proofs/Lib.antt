@@ -1,5 +1,7 @@
 -- The manager's laws and theorems.
 pub mod Laws
+pub mod BatchLaws
+pub mod Singly
 pub mod CauseLaws
 pub mod RecordLaws
 pub mod AcceptedLaws

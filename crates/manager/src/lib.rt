@@ -1,14 +1,19 @@
 // The manager: keeps the page states of all frames and says which operations are due (document 01: orders). A call is a plan, which changes nothing, and a commit.
+pub mod batch;
 pub mod records;
 pub mod refusals;
 
 ghost use mathlib.Core.Path.{_≡_};
 ghost use Rattle.board.specs.Board.{Regular, board01};
+ghost use Rattle.mapping.specs.Batch.{itemsOf};
 ghost use Rattle.manager.specs.Answers.{outcome, refused, accepted};
+ghost use Rattle.manager.specs.Batch.{batchResult, mapAllCall};
 ghost use Rattle.manager.specs.Tables.{tables};
 ghost use Rattle.manager.specs.Calls.{result, noOps, stepResult, planMap, planUnmap, planRead, planWrite, planDeviceRead, planDeviceWrite, commitMap, commitUnmap, commitChange, mapCall, unmapCall, readCall, writeCall, deviceReadCall, deviceWriteCall};
+use batch::map_batch;
 use board::BOARD01;
 use board::Board;
+use mapping::Batch;
 use mapping::Mapping;
 use mapping::MappingList;
 use page_model::FrameRecord;
@@ -22,6 +27,7 @@ use refusals::listed_mapping;
 use refusals::map_refusal;
 use refusals::page_refusal;
 use refusals::place_of;
+use refusals::tables_refusal;
 use refusals::transfer_refusal;
 use refusals::write_refusal;
 
@@ -74,6 +80,21 @@ pub fn map(list: MappingList, records: &[u32], protections: &mut [u8], m: Mappin
         ListPlan::Refused(number) => refused_as(list, number),
         ListPlan::Place(_) => listed_as(commit_map(BOARD01, list, records, protections, m)),
     }
+}
+
+// Gives each item's page its frame, in order, and answers each: 0, or the number of its refusal. Only 1 and 12 refuse the whole.
+pub fn map_all(
+    list: MappingList,
+    records: &[u32],
+    protections: &mut [u8],
+    batch: Batch,
+    answers: &mut [u8],
+) -> Listed
+    ensures { λ r. ⌜ batchResult (outcome (r .answer)) (now (answers .exit)) (tables (r .list) (now (records .entry)) (now (protections .exit)))
+        ≡ mapAllCall board01 (tables list (now (records .entry)) (now (protections .entry))) (itemsOf batch) (now (answers .entry)) ⌝ }
+{
+    let lent = tables_refusal(BOARD01, list, records, protections);
+    map_batch(BOARD01, list, records, protections, batch, answers, lent)
 }
 
 // Takes the mapping of a page of a space off the list. The frame's record stays: words may lie in the cache.
