@@ -2,3 +2,4 @@
 pub mod StoreLaws
 pub mod MergeLaws
 pub mod StepLaws
+pub mod ItemLaws

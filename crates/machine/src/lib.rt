@@ -10,6 +10,8 @@ ghost use Rattle.manager.specs.Answers.{outcome};
 ghost use Rattle.machine.specs.State as call;
 ghost use Rattle.machine.specs.State.{machineOf};
 ghost use Rattle.machine.specs.Step.{answer, result, step};
+ghost use Rattle.machine.specs.Call.{perform};
+ghost use Rattle.mapping.specs.Batch.{itemsOf};
 ghost use Rattle.machine.specs.Plans.{loaded, refusalOf, placeRefusal};
 use board::BOARD01;
 use manager::Answer;
@@ -17,6 +19,7 @@ use manager::FrameOps;
 use manager::ListPlan;
 use manager::Listed;
 use manager::Plan;
+use mapping::Batch;
 use mapping::Mapping;
 use mapping::MappingList;
 
@@ -47,6 +50,27 @@ pub fn map(
         return manager::refused_as(list, place_refusal(plan));
     };
     manager::listed_as(manager::commit_map(BOARD01, list, records, protections, m))
+}
+
+// Gives each item's page its frame, in order, and answers each: 0, or the number of its refusal. Only 1 and 12 refuse the whole.
+pub fn map_all(
+    list: MappingList,
+    records: &[u32],
+    protections: &mut [u8],
+    memory: &[u32],
+    words: &[u32],
+    tags: &[u8],
+    batch: Batch,
+    answers: &mut [u8],
+) -> Listed
+    ensures { λ r. ⌜ result (answer (outcome (r .answer)) none (now (answers .exit)))
+        (machineOf (r .list) (now (records .entry)) (now (protections .exit)) (now (memory .entry)) (now (words .entry)) (now (tags .entry)))
+        ≡ perform board01
+        (machineOf list (now (records .entry)) (now (protections .entry)) (now (memory .entry)) (now (words .entry)) (now (tags .entry)))
+        (call.mapAll (itemsOf batch) (now (answers .entry))) ⌝ }
+{
+    let lent = plans::lent_refusal(BOARD01, list, records, protections, memory, words, tags);
+    manager::batch::map_batch(BOARD01, list, records, protections, batch, answers, lent)
 }
 
 // Takes the mapping of a page of a space off the list.

@@ -8,7 +8,7 @@ ghost use Rattle.page_model.specs.Table as step;
 ghost use Rattle.mapping.specs.Lookup.{lookup};
 ghost use Rattle.manager.specs.Calls.{changeOf};
 ghost use Rattle.manager.specs.Tables.{tables};
-ghost use Rattle.manager.specs.Refusals.{firstRefusal, placeOf, listedMapping};
+ghost use Rattle.manager.specs.Refusals.{firstRefusal, placeOf, listedMapping, tableCauses};
 ghost use Rattle.cache.specs.Store.{store};
 ghost use Rattle.machine.specs.Refusals.{causes};
 ghost use Rattle.machine.specs.State as call;
@@ -175,6 +175,25 @@ pub fn evict_refusal(
         (call.evict line)) ⌝ }
 {
     let own = access_refusal(board, memory, words, tags, board::lines(board), line);
+    let managers = manager::refusals::tables_refusal(board, list, records, protections);
+    earlier(own, managers)
+}
+
+// The refusal in all that every call is lent, or 0.
+pub fn lent_refusal(
+    board: Board,
+    list: MappingList,
+    records: &[u32],
+    protections: &[u8],
+    memory: &[u32],
+    words: &[u32],
+    tags: &[u8],
+) -> u8
+    requires { ⌜ Regular board ⌝ }
+    ensures { λ r. ⌜ r ≡ earlier (firstRefusal (storeCauses board (store (now (memory .entry)) (now (words .entry)) (now (tags .entry))) true))
+        (firstRefusal (tableCauses board (tables list (now (records .entry)) (now (protections .entry))))) ⌝ }
+{
+    let own = store_refusal(board, memory, words, tags);
     let managers = manager::refusals::tables_refusal(board, list, records, protections);
     earlier(own, managers)
 }
