@@ -19,7 +19,7 @@ use Rattle.manager.proofs.FirstRefusal.{from-here, rest-in-order, is-numbered}
 use Rattle.manager.specs.Tables.{lengthsRight, rulesKept}
 use Rattle.cache.specs.Tag.{tagsKeepRules}
 use Rattle.machine.specs.Plans.{storeCauses, earlier, withStep, withPlace, planStep, planPlace}
-use Rattle.machine.specs.Refusals.{storeLengths, bufferRight, ownCauses, causes}
+use Rattle.machine.specs.Refusals.{storeLengths, bufferRight, lentCauses, ownCauses, causes}
 use Rattle.machine.specs.State.{State, Single}
 
 -- ---- the earlier of two
@@ -167,6 +167,14 @@ lent l r k d t m n o e hm hn =
     ap₂ (λ (x : Bool) (y : ℕ). cond (not x) 1 (cond (not (r && t)) 2 y)) (and-assoc l k d) e
     ∙ ap (λ (y : ℕ). cond (not (l && (k && d))) 1 y) (cause-both 2 r t m n (λ z. omega arith) hm hn)
     ∙ cause-both 1 l (k && d) _ _ (λ z. omega arith) (two-later t hm) (two-later r hn)
+
+-- the refusal in what is lent alone
+pub lent-merged : (b : Board) (st : State) (call : Single)
+    → firstRefusal (lentCauses b st call) ≡ earlier (firstRefusal (storeCauses b (st .store) (bufferRight b call))) (firstRefusal (tableCauses b (st .tables)))
+unfolding firstRefusal lentCauses storeCauses tableCauses
+lent-merged b st call =
+    lent (lengthsRight b (st .tables)) (rulesKept b (st .tables)) (storeLengths b (st .store)) (bufferRight b call) (tagsKeepRules b (st .store .tags)) 0 0 0
+    (earlier-none 0) (λ z. absurd (z refl)) (λ z. absurd (z refl))
 
 -- any call whose own causes are the machine's and the manager's, merged
 module _ (b : Board) (st : State) (call : Single) (mine managers : List Cause) (om : inOrder ownPlace mine ≡ true) (on : inOrder ownPlace managers ≡ true)
