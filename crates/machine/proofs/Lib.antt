@@ -3,3 +3,4 @@ pub mod StoreLaws
 pub mod MergeLaws
 pub mod StepLaws
 pub mod ItemLaws
+pub mod CallLaws
