@@ -18,13 +18,14 @@ use Rattle.manager.proofs.CauseLaws.{lengths-right, rules-kept}
 use Rattle.cache.specs.Store.{Store, WellFormed, tagAt}
 use Rattle.cache.specs.Tag.{emptyTag}
 use Rattle.cache.proofs.Laws.Evict.{evict-tag-same, evict-tag-other}
+use Rattle.machine.specs.Call.{callCauses, perform}
 use Rattle.machine.specs.Refusals.{storeLengths, causes}
-use Rattle.machine.specs.State.{State, evict, Result}
-use Rattle.machine.specs.Step.{accept, step}
-use Rattle.machine.proofs.StepLaws.{step-accepted}
+use Rattle.machine.specs.State.{State, evict, single, Result}
+use Rattle.machine.specs.Step.{accept}
+use Rattle.machine.proofs.CallLaws.{perform-accepted}
 use Rattle.machine.proofs.StoreLaws as store
-use Rattle.consistency.specs.Cacheless.{Cacheless}
-use Rattle.consistency.specs.Demand3.{isRefused, stateAfter, evictions, Occurs, NoneRefused, MemoryIs}
+use Rattle.consistency.specs.Cacheless.{Cacheless, isRefused}
+use Rattle.consistency.specs.Demand3.{stateAfter, evictions, Occurs, NoneRefused, MemoryIs}
 use Rattle.consistency.proofs.Evict.{evict-invariant}
 use Rattle.consistency.proofs.Invariant.{Sound, Invariant}
 use Rattle.consistency.proofs.Refused.{none-refused}
@@ -54,20 +55,21 @@ module _ (b : Board) (reg : Regular b) (m : Cacheless) where
           (ap not (ap₂ _&&_ (sound-rules b (st .tables) (inv .sound)) (inv .kept .tags-rules)), (lt-leb (lines b) n h, tt)),
         )
 
-    evict-step : step b st (evict n) ≡ accept b st (evict n)
-    evict-step = sym (step-accepted b st (evict n) evict-clear)
+    evict-step : perform b st (single (evict n)) ≡ accept b st (evict n)
+    unfolding callCauses
+    evict-step = sym (perform-accepted b st (single (evict n)) evict-clear)
 
     -- it is not refused
-    evict-not-refused : isRefused (step b st (evict n) .answer) ≡ false
+    evict-not-refused : isRefused (perform b st (single (evict n)) .answer) ≡ false
     unfolding accept
     evict-not-refused = ap (λ (r : Result). isRefused (r .answer)) evict-step
 
-    evict-after : Invariant b (step b st (evict n) .after) m
+    evict-after : Invariant b (perform b st (single (evict n)) .after) m
     unfolding accept
     evict-after = subst⁻¹ (λ (r : Result). Invariant b (r .after) m) evict-step (evict-invariant b reg st m inv n h)
 
     -- its line is empty, and an empty one stays empty
-    evict-empties : (k : ℕ) → (k ≡ n) ⊎ (tagAt (st .store) k ≡ emptyTag) → tagAt (step b st (evict n) .after .store) k ≡ emptyTag
+    evict-empties : (k : ℕ) → (k ≡ n) ⊎ (tagAt (st .store) k ≡ emptyTag) → tagAt (perform b st (single (evict n)) .after .store) k ≡ emptyTag
     unfolding accept
     evict-empties k e = ap (λ (r : Result). tagAt (r .after .store) k) evict-step ∙ go (ℕ-discrete k n) e
       where
@@ -84,19 +86,19 @@ module _ (b : Board) (reg : Regular b) (m : Cacheless) where
   none-are-refused : (st : State) → Invariant b st m → (ns : List ℕ) → Lines ns → NoneRefused b st (evictions ns)
   none-are-refused st inv [] h = tt
   none-are-refused st inv (n ∷ ns) h =
-      (evict-not-refused st inv n (h n (inl refl)), none-are-refused (step b st (evict n) .after) (evict-after st inv n (h n (inl refl))) ns (λ k e. h k (inr e)))
+      (evict-not-refused st inv n (h n (inl refl)), none-are-refused (perform b st (single (evict n)) .after) (evict-after st inv n (h n (inl refl))) ns (λ k e. h k (inr e)))
 
   invariant-after : (st : State) → Invariant b st m → (ns : List ℕ) → Lines ns → Invariant b (stateAfter b st (evictions ns)) m
   invariant-after st inv [] h = inv
-  invariant-after st inv (n ∷ ns) h = invariant-after (step b st (evict n) .after) (evict-after st inv n (h n (inl refl))) ns (λ k e. h k (inr e))
+  invariant-after st inv (n ∷ ns) h = invariant-after (perform b st (single (evict n)) .after) (evict-after st inv n (h n (inl refl))) ns (λ k e. h k (inr e))
 
   empty-after : (st : State) → Invariant b st m → (ns : List ℕ) → Lines ns → (k : ℕ) → Occurs k ns ⊎ (tagAt (st .store) k ≡ emptyTag)
       → tagAt (stateAfter b st (evictions ns) .store) k ≡ emptyTag
   empty-after st inv [] h k (inr e) = e
   empty-after st inv [] h k (inl e) = absurd e
-  empty-after st inv (n ∷ ns) h k e = empty-after (step b st (evict n) .after) (evict-after st inv n (h n (inl refl))) ns (λ j q. h j (inr q)) k (next e)
+  empty-after st inv (n ∷ ns) h k e = empty-after (perform b st (single (evict n)) .after) (evict-after st inv n (h n (inl refl))) ns (λ j q. h j (inr q)) k (next e)
     where
-      next : Occurs k (n ∷ ns) ⊎ (tagAt (st .store) k ≡ emptyTag) → Occurs k ns ⊎ (tagAt (step b st (evict n) .after .store) k ≡ emptyTag)
+      next : Occurs k (n ∷ ns) ⊎ (tagAt (st .store) k ≡ emptyTag) → Occurs k ns ⊎ (tagAt (perform b st (single (evict n)) .after .store) k ≡ emptyTag)
       next (inl (inl q)) = inr (evict-empties st inv n (h n (inl refl)) k (inl q))
       next (inl (inr o)) = inl o
       next (inr z) = inr (evict-empties st inv n (h n (inl refl)) k (inr z))

@@ -12,7 +12,7 @@ use Rattle.mapping.specs.Facts.{Rules}
 use Rattle.mapping.specs.Lookup.{mappingOf}
 use Rattle.manager.specs.Tables.{Tables, recordWords, recordAt}
 use Rattle.cache.specs.Store.{WellFormed}
-use Rattle.machine.specs.State.{State, Single}
+use Rattle.machine.specs.State.{State, Single, single}
 use Rattle.machine.specs.Step.{accept}
 use Rattle.consistency.specs.Cacheless.{Cacheless, afterAccepted}
 use Rattle.consistency.specs.Demand3.{Finds}
@@ -37,6 +37,6 @@ pub record Invariant (b : Board) (st : State) (m : Cacheless) : Type 0 where
   pub agrees : (f : ℕ) → f < b .frames → Agrees b f (stateOf (recordAt (st .tables .records) f)) (m .word f) (st .store)
   pub listed : (space page : ℕ) → m .frame space page ≡ frameIn (mappingOf (st .tables .list) space page)
 
--- an accepted call finds its words and keeps the invariant
+-- an accepted single call finds its words and keeps the invariant
 abbrev pub Taken : Board → State → Cacheless → Single → Type 0
-Taken b st m call = Finds b m call (accept b st call .answer) × Invariant b (accept b st call .after) (afterAccepted m call)
+Taken b st m call = Finds b m (single call) (accept b st call .answer) × Invariant b (accept b st call .after) (afterAccepted m call)

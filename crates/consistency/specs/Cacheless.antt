@@ -1,13 +1,18 @@
--- Document 01, "The cacheless memory": what memory would hold if there were no cache, fed each call and whether it was refused.
-use mathlib.Core.Bool.{Bool, true, false, cond, _&&_}
+-- Document 01, "The cacheless memory": what memory would hold if there were no cache, fed each call and whether it was refused. Request N1's
+-- list of mappings counts as its items in order.
+use mathlib.Core.Bool.{Bool, true, false, not, cond, _&&_}
 use mathlib.Core.List.{List}
 use mathlib.Core.Option.{Option, none, some}
-use Prim.Native.Nat.{ℕ}
+use Prim.Native.Nat.{ℕ, zero, suc}
 use lib.Dec.{eqb}
-use lib.ListN.{getD}
+use lib.ListN.{length, getD}
 use Rattle.board.specs.declared.Board.{Board}
 use Rattle.board.specs.Board.{memoryAt}
-use Rattle.machine.specs.State.{Single, map, unmap, read, write, deviceRead, deviceWrite, evict}
+use Rattle.mapping.specs.declared.Mapping.{Mapping}
+use Rattle.manager.specs.Answers.{isRefusal}
+use Rattle.manager.specs.Batch.{itemAt}
+use Rattle.machine.specs.Call.{mapOf}
+use Rattle.machine.specs.State.{Single, map, unmap, read, write, deviceRead, deviceWrite, evict, Call, single, mapAll, Answer}
 
 -- a word for each frame and offset, and for each space and page a frame or none
 pub record Cacheless : Type 0 where
@@ -30,7 +35,9 @@ abbrev pub stored : (ℕ → ℕ → ℕ) → Option ℕ → ℕ → ℕ → ℕ
 stored word none offset v = word
 stored word (some f) offset v = replaced word f offset v
 
--- what an accepted call makes of it
+-- ---- a single call
+
+-- what an accepted one makes of it
 unfoldable pub afterAccepted : Cacheless → Single → Cacheless
 afterAccepted m (map space page frame rights) = cacheless (m .word) (replaced (m .frame) space page (some frame))
 afterAccepted m (unmap space page) = cacheless (m .word) (replaced (m .frame) space page none)
@@ -40,7 +47,28 @@ afterAccepted m (deviceRead frame buffer) = m
 afterAccepted m (deviceWrite frame buffer) = cacheless (λ f o. cond (eqb frame f) (getD buffer o 0) (m .word f o)) (m .frame)
 afterAccepted m (evict line) = m
 
--- a refused call changes nothing
-abbrev pub after : Cacheless → Single → Bool → Cacheless
-after m call true = m
-after m call false = afterAccepted m call
+-- a refused one changes nothing
+abbrev pub afterSingle : Cacheless → Single → Bool → Cacheless
+afterSingle m call true = m
+afterSingle m call false = afterAccepted m call
+
+-- ---- a list of mappings
+
+-- whether item k was refused: its answer is not 0
+abbrev pub itemRefused : List ℕ → ℕ → Bool
+itemRefused answers k = not (eqb (getD answers k 0) 0)
+
+-- after the first k items, each taken as the single call that it is, by whether that item was refused
+abbrev pub itemsTaken : Cacheless → List Mapping → List ℕ → ℕ → Cacheless
+itemsTaken m items answers zero = m
+itemsTaken m items answers (suc k) = afterSingle (itemsTaken m items answers k) (mapOf (itemAt items k)) (itemRefused answers k)
+
+-- ---- a call, with its answer
+
+abbrev pub isRefused : Answer → Bool
+isRefused a = isRefusal (a .outcome)
+
+-- a list that is refused whole changes nothing
+abbrev pub after : Cacheless → Call → Answer → Cacheless
+after m (single call) a = afterSingle m call (isRefused a)
+after m (mapAll items answers) a = cond (isRefused a) m (itemsTaken m items (a .buffer) (length items))

@@ -1,6 +1,7 @@
 -- Demand 3: over any list of calls from the start, every accepted read finds what memory without a cache would give, and once every line
--- has been evicted memory equals that memory word for word. Proved of every regular board.
-use mathlib.Core.Bool.{Bool, false}
+-- has been evicted memory equals that memory word for word. Proved of every regular board. A list of mappings among the calls counts as its
+-- items in order, each by whether that item was refused (`after` in `Cacheless`).
+use mathlib.Core.Bool.{false}
 use mathlib.Core.List.{List, [], _∷_}
 use mathlib.Core.Logic.{_⊎_}
 use mathlib.Core.Option.{Option, none, some}
@@ -11,12 +12,11 @@ use Rattle.board.specs.declared.Board.{Board}
 use Rattle.board.specs.Board.{memoryWords, cacheWords, lines}
 use Rattle.mapping.specs.Change.{empty}
 use Rattle.mapping.specs.Entry.{capacity}
-use Rattle.manager.specs.Answers.{isRefusal}
 use Rattle.manager.specs.Tables.{tables, tabulate, recordWords}
 use Rattle.cache.specs.Store.{store, memoryWord}
-use Rattle.machine.specs.State.{State, state, Single, map, unmap, read, write, deviceRead, deviceWrite, evict, Answer}
-use Rattle.machine.specs.Step.{step}
-use Rattle.consistency.specs.Cacheless.{Cacheless, start, after}
+use Rattle.machine.specs.Call.{perform}
+use Rattle.machine.specs.State.{State, state, map, unmap, read, write, deviceRead, deviceWrite, evict, Call, single, mapAll, Answer}
+use Rattle.consistency.specs.Cacheless.{Cacheless, start, isRefused, after}
 
 -- ---- the start: empty list, page states and cache, whatever words memory, cache and protections hold
 
@@ -25,9 +25,6 @@ startState b memory words protections =
     state (tables empty (replicate (b .frames * recordWords) 0) protections) (store memory words (replicate (lines b) 0))
 
 -- ---- what an accepted read must find, and an accepted write: a frame to write to
-
-abbrev pub isRefused : Answer → Bool
-isRefused a = isRefusal (a .outcome)
 
 -- the word at an offset of the page's frame
 abbrev pub pageWord : Cacheless → Option ℕ → ℕ → Option ℕ
@@ -38,37 +35,38 @@ abbrev pub HasFrame : Option ℕ → Type 0
 HasFrame none = ⊥
 HasFrame (some f) = Unit {0}
 
-abbrev pub Finds : Board → Cacheless → Single → Answer → Type 0
-Finds b m (map space page frame rights) a = Unit {0}
-Finds b m (unmap space page) a = Unit {0}
-Finds b m (read space page offset) a = a .word ≡ pageWord m (m .frame space page) offset
-Finds b m (write space page offset word) a = HasFrame (m .frame space page)
-Finds b m (deviceRead frame buffer) a = a .buffer ≡ tabulate (b .page) (m .word frame)
-Finds b m (deviceWrite frame buffer) a = Unit {0}
-Finds b m (evict line) a = Unit {0}
+abbrev pub Finds : Board → Cacheless → Call → Answer → Type 0
+Finds b m (single (map space page frame rights)) a = Unit {0}
+Finds b m (single (unmap space page)) a = Unit {0}
+Finds b m (single (read space page offset)) a = a .word ≡ pageWord m (m .frame space page) offset
+Finds b m (single (write space page offset word)) a = HasFrame (m .frame space page)
+Finds b m (single (deviceRead frame buffer)) a = a .buffer ≡ tabulate (b .page) (m .word frame)
+Finds b m (single (deviceWrite frame buffer)) a = Unit {0}
+Finds b m (single (evict line)) a = Unit {0}
+Finds b m (mapAll items answers) a = Unit {0}
 
 -- ---- a list of calls, with the cacheless memory beside it
 
 -- every accepted read of the list finds its words
-abbrev pub AllFind : Board → State → Cacheless → List Single → Type 0
+abbrev pub AllFind : Board → State → Cacheless → List Call → Type 0
 AllFind b st m [] = Unit {0}
 AllFind b st m (call ∷ calls) =
-    (isRefused (step b st call .answer) ≡ false → Finds b m call (step b st call .answer))
-    × AllFind b (step b st call .after) (after m call (isRefused (step b st call .answer))) calls
+    (isRefused (perform b st call .answer) ≡ false → Finds b m call (perform b st call .answer))
+    × AllFind b (perform b st call .after) (after m call (perform b st call .answer)) calls
 
-abbrev pub stateAfter : Board → State → List Single → State
+abbrev pub stateAfter : Board → State → List Call → State
 stateAfter b st [] = st
-stateAfter b st (call ∷ calls) = stateAfter b (step b st call .after) calls
+stateAfter b st (call ∷ calls) = stateAfter b (perform b st call .after) calls
 
-abbrev pub cachelessAfter : Board → State → Cacheless → List Single → Cacheless
+abbrev pub cachelessAfter : Board → State → Cacheless → List Call → Cacheless
 cachelessAfter b st m [] = m
-cachelessAfter b st m (call ∷ calls) = cachelessAfter b (step b st call .after) (after m call (isRefused (step b st call .answer))) calls
+cachelessAfter b st m (call ∷ calls) = cachelessAfter b (perform b st call .after) (after m call (perform b st call .answer)) calls
 
 -- ---- evicting lines, which document 01 calls turning them out
 
-abbrev pub evictions : List ℕ → List Single
+abbrev pub evictions : List ℕ → List Call
 evictions [] = []
-evictions (n ∷ ns) = evict n ∷ evictions ns
+evictions (n ∷ ns) = single (evict n) ∷ evictions ns
 
 -- n stands in the list
 abbrev pub Occurs : ℕ → List ℕ → Type 0
@@ -76,9 +74,9 @@ Occurs n [] = ⊥
 Occurs n (m ∷ ms) = (n ≡ m) ⊎ Occurs n ms
 
 -- none is refused
-abbrev pub NoneRefused : Board → State → List Single → Type 0
+abbrev pub NoneRefused : Board → State → List Call → Type 0
 NoneRefused b st [] = Unit {0}
-NoneRefused b st (call ∷ calls) = (isRefused (step b st call .answer) ≡ false) × NoneRefused b (step b st call .after) calls
+NoneRefused b st (call ∷ calls) = (isRefused (perform b st call .answer) ≡ false) × NoneRefused b (perform b st call .after) calls
 
 -- memory holds the cacheless memory's words, frame after frame
 pub record MemoryIs (b : Board) (m : Cacheless) (st : State) : Type 0 where
@@ -87,7 +85,7 @@ pub record MemoryIs (b : Board) (m : Cacheless) (st : State) : Type 0 where
 
 -- ---- the demand
 
-pub record Holds (b : Board) (st : State) (m : Cacheless) (calls : List Single) : Type 0 where
+pub record Holds (b : Board) (st : State) (m : Cacheless) (calls : List Call) : Type 0 where
   pub finds : AllFind b st m calls
   pub evicted :
       (ns : List ℕ) → ((n : ℕ) → Occurs n ns → n < lines b) → ((n : ℕ) → n < lines b → Occurs n ns)
@@ -96,5 +94,5 @@ pub record Holds (b : Board) (st : State) (m : Cacheless) (calls : List Single) 
 
 abbrev pub Demand3 : Board → Type 0
 Demand3 b =
-    (memory words protections : List ℕ) (calls : List Single) → length memory ≡ memoryWords b → length words ≡ cacheWords b → length protections ≡ capacity
+    (memory words protections : List ℕ) (calls : List Call) → length memory ≡ memoryWords b → length words ≡ cacheWords b → length protections ≡ capacity
     → Holds b (startState b memory words protections) (start b memory) calls

@@ -6,39 +6,47 @@ use Prim.Native.Nat.{ℕ, zero, suc}
 use native.Mathlib.Omega.{arith}
 use Rattle.board.specs.declared.Board.{Board}
 use Rattle.manager.specs.Refusals.{firstRefusal, placeIn, refusalPlace, inOrder}
+use Rattle.manager.specs.Theorems.{First}
 use Rattle.manager.proofs.Theorems.{first-refusal}
+use Rattle.machine.specs.Call.{callCauses, perform}
 use Rattle.machine.specs.Refusals.{lentCauses, ownCauses, causes}
-use Rattle.machine.specs.State.{State, Single, map, unmap, read, write, deviceRead, deviceWrite, evict, Result}
-use Rattle.machine.specs.Step.{step}
-use Rattle.machine.proofs.StepLaws.{step-refused, step-accepted}
-use Rattle.consistency.specs.Demand3.{isRefused}
-use Rattle.consistency.proofs.Refused.{step-cases, accept-accepted}
-use Rattle.demands.specs.Demands.{NoCause, FirstCause, Demand1}
+use Rattle.machine.specs.State.{State, map, unmap, read, write, deviceRead, deviceWrite, evict, Call, single, mapAll, Result}
+use Rattle.machine.proofs.CallLaws.{perform-cases, perform-accepted, perform-refused, accept-accepted}
+use Rattle.consistency.specs.Cacheless.{isRefused}
+use Rattle.demands.specs.Demands.{Clear, NoCause, FirstCause, Demand1}
 
-causes-in-order : (b : Board) (st : State) (call : Single) → inOrder 0 (causes b st call) ≡ true
-unfolding causes lentCauses ownCauses inOrder refusalPlace placeIn
-causes-in-order b st (map space page frame rights) = refl
-causes-in-order b st (unmap space page) = refl
-causes-in-order b st (read space page offset) = refl
-causes-in-order b st (write space page offset word) = refl
-causes-in-order b st (deviceRead frame buffer) = refl
-causes-in-order b st (deviceWrite frame buffer) = refl
-causes-in-order b st (evict line) = refl
+module _ (b : Board) (st : State) where
+  causes-in-order : (call : Call) → inOrder 0 (callCauses b st call) ≡ true
+  unfolding callCauses causes lentCauses ownCauses inOrder refusalPlace placeIn
+  causes-in-order (single (map space page frame rights)) = refl
+  causes-in-order (single (unmap space page)) = refl
+  causes-in-order (single (read space page offset)) = refl
+  causes-in-order (single (write space page offset word)) = refl
+  causes-in-order (single (deviceRead frame buffer)) = refl
+  causes-in-order (single (deviceWrite frame buffer)) = refl
+  causes-in-order (single (evict line)) = refl
+  causes-in-order (mapAll items answers) = refl
 
--- an accepted call is refused by no cause
-pub accepted-clear : (b : Board) (st : State) (call : Single) → isRefused (step b st call .answer) ≡ false → firstRefusal (causes b st call) ≡ 0
-accepted-clear b st call =
-    step-cases b st call (λ (r : Result). isRefused (r .answer) ≡ false → firstRefusal (causes b st call) ≡ 0) (λ e _. e) (λ n e. absurd (true≢false e))
+  pub no-cause : (call : Call) → firstRefusal (callCauses b st call) ≡ 0 → Clear (callCauses b st call)
+  no-cause call = first-refusal (callCauses b st call) (causes-in-order call) .0
+
+  -- a refusal is by the first cause
+  pub first-cause : (call : Call) (n : ℕ) → firstRefusal (callCauses b st call) ≡ suc n → First (callCauses b st call) (suc n)
+  first-cause call n e =
+      subst (First (callCauses b st call)) e (first-refusal (callCauses b st call) (causes-in-order call) .1 (λ z. omega arith))
+
+  -- an accepted call is refused by no cause
+  pub accepted-clear : (call : Call) → isRefused (perform b st call .answer) ≡ false → firstRefusal (callCauses b st call) ≡ 0
+  accepted-clear call =
+      perform-cases b st call (λ (r : Result). isRefused (r .answer) ≡ false → firstRefusal (callCauses b st call) ≡ 0) (λ e _. e) (λ n _ a. absurd (true≢false a))
 
 pub demand1 : (b : Board) → Demand1 b
-demand1 b st call = go (firstRefusal (causes b st call)) refl
+demand1 b st call = go (firstRefusal (callCauses b st call)) refl
   where
-    go : (n : ℕ) → firstRefusal (causes b st call) ≡ n → NoCause b st call ⊎ ((n : ℕ) × FirstCause b st call n)
+    go : (n : ℕ) → firstRefusal (callCauses b st call) ≡ n → NoCause b st call ⊎ ((n : ℕ) × FirstCause b st call n)
     go zero e =
         inl (
-          first-refusal (causes b st call) (causes-in-order b st call) .0 e,
-          subst (λ (r : Result). isRefused (r .answer) ≡ false) (step-accepted b st call e) (accept-accepted b st call),
+          no-cause b st call e,
+          subst (λ (r : Result). isRefused (r .answer) ≡ false) (perform-accepted b st call e) (accept-accepted b st call),
         )
-    go (suc n) e =
-        let some : firstRefusal (causes b st call) ≡ 0 → ⊥ = λ z. omega arith in
-        inr (firstRefusal (causes b st call), (first-refusal (causes b st call) (causes-in-order b st call) .1 some, sym (step-refused b st call _ (refl, some))))
+    go (suc n) e = inr (suc n, (first-cause b st call n e, sym (perform-refused b st call n e)))

@@ -1,5 +1,6 @@
 -- The proofs of the demands.
 pub mod Answers
 pub mod Kept
+pub mod Items
 pub mod Manager
 pub mod Theorem

@@ -1,10 +1,10 @@
--- The three demands, over the machine's `step` at every call, with any numbers and any content of what is lent.
+-- The three demands, over the machine's `perform` at every call, with any numbers and any content of what is lent.
 use mathlib.Core.Bool.{true, false}
 use mathlib.Core.List.{List, [], List·Memᴰ}
 use mathlib.Core.Logic.{_↔_, _⊎_, _≢_}
 use mathlib.Core.Option.{Option, none, some}
 use mathlib.Core.Path.{_≡_}
-use Prim.Native.Nat.{ℕ, _≤_, _<_}
+use Prim.Native.Nat.{ℕ, suc, _≤_, _<_}
 use lib.ListN.{length, getD}
 use Rattle.board.specs.declared.Board.{Board}
 use Rattle.board.specs.Board.{Regular, board01, colourOf}
@@ -13,11 +13,13 @@ use Rattle.page_model.specs.Step.{operations, firstTwo}
 use Rattle.page_model.specs.Table as table
 use Rattle.page_model.specs.Table.{cellAt}
 use Rattle.page_model.specs.Theorems.{Idle}
+use Rattle.mapping.specs.declared.Mapping.{Mapping}
 use Rattle.mapping.specs.declared.MappingList.{MappingList}
 use Rattle.mapping.specs.Change.{append, remove}
 use Rattle.mapping.specs.Entry.{capacity, readWrite, mappingAt}
 use Rattle.mapping.specs.Lookup.{lookup}
 use Rattle.manager.specs.Answers.{Outcome, refused, accepted}
+use Rattle.manager.specs.Batch.{itemAt}
 use Rattle.manager.specs.Calls.{noOps}
 use Rattle.manager.specs.Refusals.{Cause, isRight, placeOf}
 use Rattle.manager.specs.Tables.{Tables, tables, recordAt, protectionAt, tabulate}
@@ -26,24 +28,30 @@ use Rattle.cache.specs.Cache as hardware
 use Rattle.cache.specs.Cache.{access, readWord, writeWord}
 use Rattle.cache.specs.Store as hardware-store
 use Rattle.cache.specs.Store.{Store}
+use Rattle.machine.specs.Call.{mapOf, callCauses, callBuffer, perform}
 use Rattle.machine.specs.Refusals.{causes}
-use Rattle.machine.specs.State.{State, state, Single, map, unmap, read, write, deviceRead, deviceWrite, evict, Answer, lentBuffer}
+use Rattle.machine.specs.State.{State, state, Single, map, unmap, read, write, deviceRead, deviceWrite, evict, Call, single, mapAll, Answer}
 use Rattle.machine.specs.Step.{answer, result, pageFrame, carryOut, step}
-use Rattle.consistency.specs.Demand3.{isRefused, Demand3}
+use Rattle.consistency.specs.Cacheless.{isRefused}
+use Rattle.consistency.specs.Demand3.{Demand3}
 
 -- ---- 1. The answer to each call is a result, or the one refusal that the listed conditions and their order give; a refusal orders nothing
 -- and changes nothing.
 
--- no cause applies, and the call is accepted
-abbrev pub NoCause : Board → State → Single → Type 0
-NoCause b st call = ((c : Cause) → List·Memᴰ c (causes b st call) → c .applies ≡ false) × (isRefused (step b st call .answer) ≡ false)
+-- no cause applies
+abbrev pub Clear : List Cause → Type 0
+Clear cs = (c : Cause) → List·Memᴰ c cs → c .applies ≡ false
+
+-- so the call is accepted
+abbrev pub NoCause : Board → State → Call → Type 0
+NoCause b st call = Clear (callCauses b st call) × (isRefused (perform b st call .answer) ≡ false)
 
 -- n is the first cause that applies; the answer is this number, with no order and no word, and everything lent is as it was
-abbrev pub FirstCause : Board → State → Single → ℕ → Type 0
-FirstCause b st call n = First (causes b st call) n × (step b st call ≡ result (answer (refused n) none (lentBuffer call)) st)
+abbrev pub FirstCause : Board → State → Call → ℕ → Type 0
+FirstCause b st call n = First (callCauses b st call) n × (perform b st call ≡ result (answer (refused n) none (callBuffer call)) st)
 
 abbrev pub Demand1 : Board → Type 0
-Demand1 b = (st : State) (call : Single) → NoCause b st call ⊎ ((n : ℕ) × FirstCause b st call n)
+Demand1 b = (st : State) (call : Call) → NoCause b st call ⊎ ((n : ℕ) × FirstCause b st call n)
 
 -- ---- 2. Orders, page states and protections are those of the page model; list, memory, cache words and tags after each call are what the
 -- board's rules leave. An access passes without a stop exactly if its right allows it and the model would order nothing and alter nothing.
@@ -103,7 +111,7 @@ accessOf b st (deviceRead frame buffer) s = accessed none (hardware.deviceRead b
 accessOf b st (deviceWrite frame buffer) s = accessed none [] (hardware.deviceWrite b frame buffer s)
 accessOf b st (evict line) s = accessed none [] (hardware.evict b line s)
 
--- what an accepted call leaves, and answers
+-- what an accepted single call leaves, and answers
 pub record Left (b : Board) (st : State) (call : Single) (after : State) (a : Answer) : Type 0 where
   pub tables-kept : WellFormed b (after .tables)
   pub store-kept : hardware-store.WellFormed b (after .store)
@@ -127,9 +135,36 @@ pub record Left (b : Board) (st : State) (call : Single) (after : State) (a : An
       (2 ≤ getD (after .tables .protections) i 0)
       ↔ ((m .rights ≡ readWrite) × Idle (b .colours) (table.write (colourOf b (m .page))) (recordAt (after .tables .records) (m .frame)))
 
+-- no order, no word
+abbrev pub mapped : List ℕ → Answer
+mapped buffer = answer (accepted 0 noOps) none buffer
+
+-- an item of a list, and its answer: no cause applies, it is mapped and answers 0; or the first cause's refusal, which changes nothing
+abbrev pub ItemLeft : Board → State → Mapping → State → ℕ → Type 0
+ItemLeft b st m after n =
+    (Clear (causes b st (mapOf m)) × (n ≡ 0) × Left b st (mapOf m) after (mapped [])) ⊎ (First (causes b st (mapOf m)) n × (after ≡ st))
+
+-- what an accepted list of mappings leaves, and answers: its items in order, from st to the state after, with what stands between them
+pub record EachMapped (b : Board) (st : State) (items : List Mapping) (after : State) (a : Answer) : Type 0 where
+  pub answered : a ≡ mapped (a .buffer)
+  pub counted : length (a .buffer) ≡ length items
+  pub between : ℕ → State
+  pub begun : between 0 ≡ st
+  pub each : (k : ℕ) → k < length items → ItemLeft b (between k) (itemAt items k) (between (suc k)) (getD (a .buffer) k 0)
+  pub ended : between (length items) ≡ after
+  -- so where an item was accepted, all at the end is as an accepted one left it, rules and protections too; where none was, all is as it was
+  pub last :
+      (k : ℕ) → k < length items → getD (a .buffer) k 0 ≡ 0
+      → (j : ℕ) × (j < length items) × Left b (between j) (mapOf (itemAt items j)) after (mapped [])
+  pub unchanged : ((k : ℕ) → k < length items → getD (a .buffer) k 0 ≢ 0) → after ≡ st
+
+abbrev pub CallLeft : Board → State → Call → State → Answer → Type 0
+CallLeft b st (single call) after a = Left b st call after a
+CallLeft b st (mapAll items answers) after a = EachMapped b st items after a
+
 abbrev pub Demand2 : Board → Type 0
 Demand2 b =
-    (st : State) (call : Single) → isRefused (step b st call .answer) ≡ false → Left b st call (step b st call .after) (step b st call .answer)
+    (st : State) (call : Call) → isRefused (perform b st call .answer) ≡ false → CallLeft b st call (perform b st call .after) (perform b st call .answer)
 
 -- ---- 3. Over any list of calls from the start, every accepted read finds what memory without a cache would give, and once every line has
 -- been evicted memory equals that memory word for word: `Demand3`.
