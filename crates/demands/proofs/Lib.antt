@@ -3,4 +3,5 @@ pub mod Answers
 pub mod Kept
 pub mod Items
 pub mod Manager
+pub mod Batch
 pub mod Theorem

@@ -1,4 +1,4 @@
--- The manager's own calls agree with the machine's: where the machine's own causes do not apply, the first of all causes is the manager's.
+-- The manager's own single calls agree with the machine's: where the machine's own causes do not apply, the first of all causes is the manager's.
 use mathlib.Core.Path.{_≡_, refl, ap, _∙_}
 use mathlib.Core.Bool.{true}
 use mathlib.Core.List.{List, [], _∷_, _++_}
@@ -15,13 +15,13 @@ use Rattle.manager.specs.Refusals.{Cause, firstRefusal, placeIn, refusalPlace, 
 use Rattle.cache.specs.Store.{WellFormed}
 use Rattle.machine.specs.Plans.{storeCauses, earlier}
 use Rattle.machine.specs.Refusals.{bufferRight, offsetCause, ownCauses, causes}
-use Rattle.machine.specs.State.{State, Single, map, unmap, read, write, deviceRead, deviceWrite, evict}
+use Rattle.machine.specs.State.{State, Single, map, unmap, read, write, deviceRead, deviceWrite, evict, single}
 use Rattle.machine.specs.State as state-of
 use Rattle.machine.specs.Step.{pageFrame, accept}
 use Rattle.machine.proofs.MergeLaws.{ownPlace, merge, causes-merged}
 use Rattle.machine.proofs.StepLaws.{step-refused, step-accepted}
 use Rattle.machine.proofs.StoreLaws.{lengths-right}
-use Rattle.demands.specs.Manager.{Agrees, ManagerAgrees}
+use Rattle.demands.specs.Manager.{Agrees, ManagerCall}
 
 module _ (b : Board) (st : State) (call : Single) where
   -- a call that is its refusal, which leaves the tables, or what the machine's accepted call answers and leaves in them
@@ -45,35 +45,35 @@ offset-clear : (b : Board) (offset : ℕ) → offset < b .page → firstRefusal 
 unfolding firstRefusal
 offset-clear b offset h = rw (lt-leb (b .page) offset h)
 
-pub manager-agrees : (b : Board) → ManagerAgrees b
+pub single-agrees : (b : Board) (st : State) (call : Single) → WellFormed b (st .store) → ManagerCall b st (single call)
 unfolding accept ownCauses inOrder refusalPlace placeIn firstRefusal mapCauses writeCauses transferCauses
-manager-agrees b st (map space page frame rights) wf =
+single-agrees b st (map space page frame rights) wf =
     let l = st .tables .list in
     agrees b st (map space page frame rights)
     (λ n. listResult (st .tables) (λ place. commitMap b (st .tables) (record { space = space; page = page; frame = frame; rights = rights })) (placed n (l .count)))
     refl (λ n. refl) _
     (managers-first b st (map space page frame rights) wf refl []
     (spaceCause space page ∷ frameCause b frame ∷ rightsCause rights ∷ mappedCause l space page ∷ fullCause l ∷ []) refl refl refl refl)
-manager-agrees b st (unmap space page) wf =
+single-agrees b st (unmap space page) wf =
     agrees b st (unmap space page) (λ n. listResult (st .tables) (commitUnmap b (st .tables)) (placed n (placeOf (lookup (st .tables .list) space page))))
     refl (λ n. refl) _
     (managers-first b st (unmap space page) wf refl [] (spaceCause space page ∷ unmappedCause (st .tables .list) space page ∷ []) refl refl refl refl)
-manager-agrees b st (read space page offset) wf = λ h.
+single-agrees b st (read space page offset) wf = λ h.
     agrees b st (read space page offset) (λ n. stepResult b (st .tables) (planned n (changeOf b (st .tables) (pageFrame st space page) (table.read (colourOf b page)))))
     refl (λ n. refl) _
     (managers-first b st (read space page offset) wf refl (offsetCause (b .page) offset ∷ [])
     (spaceCause space page ∷ unmappedCause (st .tables .list) space page ∷ []) refl refl refl (offset-clear b offset h))
-manager-agrees b st (write space page offset word) wf = λ h.
+single-agrees b st (write space page offset word) wf = λ h.
     agrees b st (write space page offset word) (λ n. stepResult b (st .tables) (planned n (changeOf b (st .tables) (pageFrame st space page) (table.write (colourOf b page)))))
     refl (λ n. refl) _
     (managers-first b st (write space page offset word) wf refl (offsetCause (b .page) offset ∷ [])
     (spaceCause space page ∷ unmappedCause (st .tables .list) space page ∷ readOnlyCause (st .tables .list) space page ∷ []) refl refl refl (offset-clear b offset h))
-manager-agrees b st (deviceRead frame buffer) wf = λ h.
+single-agrees b st (deviceRead frame buffer) wf = λ h.
     agrees b st (deviceRead frame buffer) (λ n. stepResult b (st .tables) (planned n (changeOf b (st .tables) frame table.deviceRead)))
     refl (λ n. refl) _
     (managers-first b st (deviceRead frame buffer) wf (eq-eqb _ _ h) [] (frameCause b frame ∷ []) refl refl refl refl)
-manager-agrees b st (deviceWrite frame buffer) wf = λ h.
+single-agrees b st (deviceWrite frame buffer) wf = λ h.
     agrees b st (deviceWrite frame buffer) (λ n. stepResult b (st .tables) (planned n (changeOf b (st .tables) frame table.deviceWrite)))
     refl (λ n. refl) _
     (managers-first b st (deviceWrite frame buffer) wf (eq-eqb _ _ h) [] (frameCause b frame ∷ []) refl refl refl refl)
-manager-agrees b st (evict line) wf = tt
+single-agrees b st (evict line) wf = tt

@@ -1,4 +1,4 @@
--- The three demands, of every regular board, and of document 01's. `Manager` has the manager's calls.
+-- The three demands, of every regular board, and of document 01's. `Manager` and `Batch` have the manager's calls.
 use mathlib.Core.Path.{_≡_, subst}
 use Rattle.board.specs.declared.Board.{Board}
 use Rattle.board.specs.Board.{Regular, board01}

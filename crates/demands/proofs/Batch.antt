@@ -1,0 +1,106 @@
+-- The manager's list of mappings agrees with the machine's, since each item does; and a kernel's own list is that list.
+use mathlib.Core.Path.{_≡_, refl, sym, ap, subst⁻¹, fun-ext, _∙_}
+use mathlib.Core.Bool.{Bool, not, _||_, and-true, true≢false}
+use mathlib.Core.List.{List, [], _∷_}
+use Prim.Native.Nat.{ℕ, zero, suc, _≤_, _<_}
+use native.Mathlib.Decide.{decLe}
+use native.Mathlib.Omega.{arith}
+use borrow.Author.Tests.{lt-ltb}
+use lib.Dec.{eqb}
+use lib.ListN.{length}
+use Rattle.board.specs.declared.Board.{Board}
+use Rattle.mapping.specs.declared.Mapping.{Mapping}
+use Rattle.mapping.specs.Batch.{batchSize, batchOf, itemsOf}
+use Rattle.mapping.proofs.Laws.{batch-of-items, batch-of-length}
+use Rattle.manager.specs.Answers.{accepted, numberOf}
+use Rattle.manager.specs.Batch as manager
+use Rattle.manager.specs.Batch.{itemAt, mapItem, tablesAfter, BatchResult, batchResult, mapAllCauses, wholeResult, mapAllCall}
+use Rattle.manager.specs.Calls.{Result, result, noOps}
+use Rattle.manager.specs.Refusals.{_if_, firstRefusal, batchCause}
+use Rattle.manager.specs.Tables.{Tables, lengthsRight, tabulate}
+use Rattle.manager.proofs.CauseLaws.{none-applies}
+use Rattle.cache.specs.Store.{WellFormed}
+use Rattle.machine.specs.Call.{mapOf, afterItems, answerAt, callCauses}
+use Rattle.machine.specs.State.{State, single, mapAll}
+use Rattle.machine.specs.State as state-of
+use Rattle.machine.specs.Step.{step}
+use Rattle.machine.proofs.CallLaws.{perform-cases, map-store}
+use Rattle.machine.proofs.StoreLaws.{lengths-right}
+use Rattle.demands.specs.Manager.{BatchAgrees, ManagerAgrees, LentList}
+use Rattle.demands.proofs.Manager.{single-agrees}
+
+-- what an accepted list gives
+abbrev made : Board → Tables → List Mapping → BatchResult
+made b t items = batchResult (accepted 0 noOps) (tabulate (length items) (manager.answerAt b t items)) (tablesAfter b t items (length items))
+
+module _ (b : Board) (st : State) (wf : WellFormed b (st .store)) (items : List Mapping) where
+  -- ---- the items in turn
+
+  -- the tables go along with the machine's, whose memory and cache stay
+  abbrev InStep : ℕ → Type 0
+  InStep k = (tablesAfter b (st .tables) items k ≡ afterItems b st items k .tables) × (afterItems b st items k .store ≡ st .store)
+
+  item-agrees : (k : ℕ) → InStep k
+      → mapItem b (tablesAfter b (st .tables) items k) (itemAt items k)
+      ≡ result (step b (afterItems b st items k) (mapOf (itemAt items k)) .answer .outcome) (step b (afterItems b st items k) (mapOf (itemAt items k)) .after .tables)
+  item-agrees k p =
+      ap (λ (t : Tables). mapItem b t (itemAt items k)) (p .0)
+      ∙ single-agrees b (afterItems b st items k) (mapOf (itemAt items k)) (subst⁻¹ (WellFormed b) (p .1) wf)
+
+  in-step : (k : ℕ) → InStep k
+  unfolding tablesAfter afterItems
+  in-step zero = (refl, refl)
+  in-step (suc k) =
+      let p = in-step k in
+      let m = itemAt items k in
+      (ap (λ (r : Result). r .after) (item-agrees k p), map-store b (afterItems b st items k) (m .space) (m .page) (m .frame) (m .rights) ∙ p .1)
+
+  answers-agree : tabulate (length items) (manager.answerAt b (st .tables) items) ≡ tabulate (length items) (answerAt b st items)
+  unfolding manager.answerAt answerAt
+  answers-agree = ap (tabulate (length items)) (fun-ext (λ k. ap (λ (r : Result). numberOf (r .answer)) (item-agrees k (in-step k))))
+
+  -- ---- the whole
+
+  module _ (answers : List ℕ) where
+    refusal-agrees : firstRefusal (mapAllCauses b (st .tables) items answers) ≡ firstRefusal (callCauses b st (mapAll items answers))
+    unfolding firstRefusal callCauses
+    refusal-agrees = rw (lengths-right b (st .store) (wf .memory-length) (wf .words-length) (wf .tags-length), and-true)
+
+    pub batch-agrees : BatchAgrees b st (mapAll items answers) (mapAllCall b (st .tables) items answers)
+    unfolding mapAllCall
+    batch-agrees =
+        perform-cases b st (mapAll items answers)
+        (λ (r : state-of.Result). mapAllCall b (st .tables) items answers ≡ batchResult (r .answer .outcome) (r .answer .buffer) (r .after .tables))
+        (λ e. ap (λ (n : ℕ). wholeResult n answers (st .tables) (made b (st .tables) items)) (refusal-agrees ∙ e) ∙ (λ i. batchResult (accepted 0 noOps) (answers-agree i) (in-step (length items) .0 i)))
+        (λ n e. ap (λ (n : ℕ). wholeResult n answers (st .tables) (made b (st .tables) items)) (refusal-agrees ∙ e))
+
+pub manager-agrees : (b : Board) → ManagerAgrees b
+manager-agrees b st (single call) wf = single-agrees b st call wf
+manager-agrees b st (mapAll items answers) wf = batch-agrees b st wf items answers
+
+-- ---- a kernel's own list
+
+module _ (b : Board) (t : Tables) (items : List Mapping) (answers : List ℕ) where
+  -- one that is too long is refused
+  long-refused : batchSize < length items → firstRefusal (mapAllCauses b t items answers) ≡ 0 → ⊥
+  long-refused h e =
+      let n = none-applies (mapAllCauses b t items answers) refl e in
+      true≢false (sym (ap (λ (l : Bool). l || not (eqb (length answers) (length items))) (lt-ltb batchSize (length items) h)) ∙ n .1 .0)
+
+  -- a refusal is the same whatever the list would have given
+  refused-alike : (n : ℕ) → (n ≡ 0 → ⊥) → (r r′ : BatchResult) → wholeResult n answers t r ≡ wholeResult n answers t r′
+  refused-alike zero h r r′ = absurd (h refl)
+  refused-alike (suc n) h r r′ = refl
+
+  lent-refusal : firstRefusal (mapAllCauses b t (itemsOf (batchOf items)) answers) ≡ firstRefusal (mapAllCauses b t items answers)
+  lent-refusal = ap (λ (n : ℕ). firstRefusal ((1 if not (lengthsRight b t)) ∷ batchCause n (length answers) ∷ [])) (batch-of-length items)
+
+pub lent-list : LentList
+unfolding mapAllCall
+lent-list b t items answers = go (decLe (length items) batchSize)
+  where
+    go : Dec (length items ≤ batchSize) → mapAllCall b t (itemsOf (batchOf items)) answers ≡ mapAllCall b t items answers
+    go (yes fits) = ap (λ (xs : List Mapping). mapAllCall b t xs answers) (batch-of-items items fits)
+    go (no long) =
+        ap (λ (n : ℕ). wholeResult n answers t (made b t (itemsOf (batchOf items)))) (lent-refusal b t items answers)
+        ∙ refused-alike b t items answers (firstRefusal (mapAllCauses b t items answers)) (long-refused b t items answers (omega arith)) _ _
