@@ -1,7 +1,7 @@
 -- A list of mappings: what is lent is tested once, the items are listed at once, and that is mapping them singly.
-use mathlib.Core.Path.{_≡_, refl, sym, ap, ap₂, _∙_}
+use mathlib.Core.Path.{_≡_, refl, sym, ap, _∙_}
 use mathlib.Core.Bool.{Bool, true, not, _&&_, and-true}
-use mathlib.Core.List.{List, [], _∷_, _++_}
+use mathlib.Core.List.{List, [], _∷_}
 use mathlib.Core.Option.{none}
 use Prim.Native.Nat.{ℕ, zero, suc}
 use borrow.Author.Tests.{not-false}
@@ -12,10 +12,10 @@ use Rattle.board.specs.declared.Board.{Board}
 use Rattle.mapping.specs.declared.Mapping.{Mapping}
 use Rattle.mapping.specs.Entry.{zeroMapping}
 use Rattle.manager.specs.Answers.{refused, accepted, numberOf}
-use Rattle.manager.specs.Appended.{listRefusal, listedAll, wholeRefusal, batchMade}
+use Rattle.manager.specs.Appended.{listRefusal, listedAll, batchMade}
 use Rattle.manager.specs.Batch.{BatchResult, batchResult, itemAt, wholeResult}
 use Rattle.manager.specs.Calls.{noOps}
-use Rattle.manager.specs.Refusals.{_if_, firstRefusal, batchCause, tableCauses}
+use Rattle.manager.specs.Refusals.{_if_, firstRefusal, batchCause}
 use Rattle.manager.specs.Tables.{Tables, lengthsRight, rulesKept, tabulate}
 use Rattle.manager.specs.Theorems.{WellFormed}
 use Rattle.manager.proofs.CauseLaws.{none-applies}
@@ -23,44 +23,23 @@ use Rattle.manager.proofs.Singly.{refusalBy, takenBy, singly, lengths-refused, 
 use Rattle.cache.specs.Store.{Store}
 use Rattle.cache.specs.Tag.{tagsKeepRules}
 use Rattle.machine.specs.Call.{mapOf, afterItems, answerAt, callCauses, perform}
-use Rattle.machine.specs.Plans.{storeCauses, earlier}
-use Rattle.machine.specs.Refusals.{storeLengths, lentCauses, ownCauses, causes}
-use Rattle.machine.specs.State.{State, state, Call, mapAll, Result, lentBuffer}
+use Rattle.machine.specs.Refusals.{storeLengths, lentCauses, causes}
+use Rattle.machine.specs.State.{State, state, single, mapAll, Result}
 use Rattle.machine.specs.Step.{answer, result, accept, step}
+use Rattle.machine.proofs.CallLaws.{perform-cases, map-store}
 
 -- ---- one item
 
 module _ (b : Board) (st : State) (m : Mapping) where
-  -- a map by this refusal
-  abbrev made : ℕ → Result
-  made n = elim n as (λ k. Result) [ zero ↦ accept b st (mapOf m) | suc k ↦ result (answer (refused (suc k)) none (lentBuffer (mapOf m))) st ]
-
-  made-number : (n : ℕ) → numberOf (made n .answer .outcome) ≡ n
-  unfolding accept
-  made-number zero = refl
-  made-number (suc n) = refl
-
-  made-tables : (n : ℕ) → made n .after .tables ≡ takenBy b n (st .tables) m
-  unfolding accept
-  made-tables zero = refl
-  made-tables (suc n) = refl
-
-  made-store : (n : ℕ) → made n .after .store ≡ st .store
-  unfolding accept
-  made-store zero = refl
-  made-store (suc n) = refl
-
   item-number : numberOf (step b st (mapOf m) .answer .outcome) ≡ firstRefusal (causes b st (mapOf m))
-  unfolding step
-  item-number = made-number (firstRefusal (causes b st (mapOf m)))
+  unfolding perform callCauses accept
+  item-number = perform-cases b st (single (mapOf m)) (λ r. numberOf (r .answer .outcome) ≡ firstRefusal (causes b st (mapOf m))) (λ e. sym e) (λ n e. sym e)
 
   item-tables : step b st (mapOf m) .after .tables ≡ takenBy b (firstRefusal (causes b st (mapOf m))) (st .tables) m
-  unfolding step
-  item-tables = made-tables (firstRefusal (causes b st (mapOf m)))
-
-  item-store : step b st (mapOf m) .after .store ≡ st .store
-  unfolding step
-  item-store = made-store (firstRefusal (causes b st (mapOf m)))
+  unfolding perform callCauses accept
+  item-tables =
+      perform-cases b st (single (mapOf m)) (λ r. r .after .tables ≡ takenBy b (firstRefusal (causes b st (mapOf m))) (st .tables) m)
+      (λ e. ap (λ (n : ℕ). takenBy b n (st .tables) m) (sym e)) (λ n e. ap (λ (n : ℕ). takenBy b n (st .tables) m) (sym e))
 
 -- ---- the items in turn
 
@@ -77,7 +56,7 @@ module _ (b : Board) (st : State) (items : List Mapping) where
   items-store : (k : ℕ) → afterItems b st items k .store ≡ st .store
   unfolding afterItems
   items-store zero = refl
-  items-store (suc k) = item-store b (afterItems b st items k) (itemAt items k) ∙ items-store k
+  items-store (suc k) = let m = itemAt items k in map-store b (afterItems b st items k) (m .space) (m .page) (m .frame) (m .rights) ∙ items-store k
 
   items-state : (k : ℕ) → afterItems b st items k ≡ state (tablesAt k) (st .store)
   items-state k = ap (state (tablesAt k)) (items-store k)

@@ -2,5 +2,5 @@
 pub mod StoreLaws
 pub mod MergeLaws
 pub mod StepLaws
-pub mod ItemLaws
 pub mod CallLaws
+pub mod ItemLaws

@@ -20,7 +20,7 @@ use Rattle.mapping.specs.Facts.{InRange, Rules, FoundAt}
 use Rattle.mapping.specs.Lookup.{lookup}
 use Rattle.mapping.specs.Rules as list-of
 use Rattle.mapping.proofs.Laws.{keepsRules-true, lookup-at}
-use Rattle.manager.specs.Refusals.{Cause, firstRefusal, tableCauses, mapCauses, pageCauses, writeCauses, transferCauses, outOfSpace, isRight, found, isMapped, placeOf, listedMapping}
+use Rattle.manager.specs.Refusals.{Cause, firstRefusal, tableCauses, pageCauses, writeCauses, transferCauses, outOfSpace, isRight, found, isMapped, placeOf, listedMapping}
 use Rattle.manager.specs.Appended.{listRefusal}
 use Rattle.manager.specs.Tables.{Tables, recordWords, recordAt, recordsKeepRules, lengthsRight, rulesKept}
 

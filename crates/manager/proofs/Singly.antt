@@ -1,11 +1,10 @@
 -- Listing the items of a list at once is mapping them singly: over any sequence of tables of which each is what mapping the next item leaves,
 -- whatever else is lent beside the tables.
 use mathlib.Core.Path.{_≡_, refl, sym, ap, ap₂, subst, subst⁻¹, _∙_}
-use mathlib.Core.Bool.{Bool, true, false, not, cond, _&&_}
+use mathlib.Core.Bool.{Bool, true, false, not, cond}
 use mathlib.Core.List.{List, [], _∷_, _++_}
-use Prim.Native.Nat.{ℕ, zero, suc, _≤_, _<_}
+use Prim.Native.Nat.{ℕ, zero, suc, _≤_}
 use native.Mathlib.Omega.{arith}
-use borrow.Author.Tests.{ne-eqb, eq-eqb}
 use lib.Dec.{eqb}
 use lib.ListN.{length}
 use Rattle.board.specs.declared.Board.{Board}
@@ -14,7 +13,7 @@ use Rattle.mapping.specs.declared.MappingList.{MappingList}
 use Rattle.mapping.specs.Change.{append}
 use Rattle.mapping.proofs.Laws.{append-count}
 use Rattle.manager.specs.Answers.{accepted, numberOf}
-use Rattle.manager.specs.Appended.{listRefusal, listedBy, listAfter, refusalAt, relisted, listedAll, wholeRefusal, batchMade}
+use Rattle.manager.specs.Appended.{listRefusal, listedBy, listAfter, refusalAt, relisted, listedAll, batchMade}
 use Rattle.manager.specs.Batch.{itemAt, BatchResult, batchResult, wholeResult, tablesAfter, answerAt, mapAllCall}
 use Rattle.manager.specs.Calls.{noOps, commitMap, placed, listResult}
 use Rattle.manager.specs.Refusals.{Cause, _if_, firstRefusal, tableCauses, mapCauses, listCauses, batchCause}

@@ -2,7 +2,7 @@
 use mathlib.Core.Path.{refl, sym, _∙_}
 use borrow.Author.Needs.{needs}
 use Rattle.manager.specs.Appended.{listRefusal}
-use Rattle.manager.specs.Refusals.{firstRefusal, tableCauses, mapCauses}
+use Rattle.manager.specs.Refusals.{tableCauses, mapCauses}
 use Rattle.manager.specs.Tables.{tables}
 use Rattle.manager.proofs.CauseLaws.{refusal-prefix, refusal-rest}
 use Rattle.manager.proofs.refusals.map_refusal.Statement.{statement}
