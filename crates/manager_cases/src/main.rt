@@ -1,23 +1,29 @@
-// Runs the manager on cases worked out by hand from document 01: each refusal, broken tables, and accepted calls with their orders and protections.
+// Runs the manager on cases worked out by hand from documents 01 and 02: each refusal, broken tables, and accepted calls with their orders and protections.
 // Records and lists start empty, protections as nines.
 mod show;
 
 use libc::STDOUT_FILENO;
+use mapping::BATCH;
+use mapping::Batch;
+use mapping::Mapping;
 use mapping::MappingList;
 use show::entry;
+ghost use Prim.Native.Nat.{_≤_};
 
 fn main() {
-    limits();
+    let two = limits();
     orders();
     lengths();
     lists();
     records();
-    full();
+    let all = map_all(two);
+    full(all);
 }
 
 // ---- limits of the numbers, and which of two refusals is given
 
-fn limits() {
+// Hands back the list of the two mappings that are accepted.
+fn limits() -> MappingList {
     io::write_all(STDOUT_FILENO, b"limits\n");
     let mut records = [0u32; 192];
     let mut protections = [9u8; 256];
@@ -25,6 +31,7 @@ fn limits() {
     page_limits(list, &mut records, &mut protections);
     frame_limits(list, &mut records, &mut protections);
     unmap_limits(list, &mut records, &mut protections);
+    list
 }
 
 fn map_limits(records: &[u32; 192], protections: &mut [u8; 256]) -> MappingList {
@@ -194,20 +201,109 @@ fn last_record(held: u32, stale: u32, dirty: u32) {
     show::device_read(mapping::empty(), &mut records, &mut protections, 63);
 }
 
-// ---- the full list
+// ---- lists of mappings in one call
 
-fn full() {
-    io::write_all(STDOUT_FILENO, b"full\n");
-    let records = [0u32; 192];
+// On the list of two mappings that single calls made. Hands back a full list.
+fn map_all(two: MappingList) -> MappingList {
+    io::write_all(STDOUT_FILENO, b"map all\n");
+    items(two);
+    batches(two);
+    filled()
+}
+
+// Doubles of the first item and of the third; then the first is one of a mapping from before. A list with refused items between two others, again
+// on what it left, and on a list that breaks its rules, where 12 stands before 2, and 2 before an item's own refusal.
+fn items(two: MappingList) {
+    let start = mapping::empty();
+    let doubles = five(
+        entry(0, 0, 0, 2),
+        entry(0, 0, 4, 1),
+        entry(1, 0, 0, 1),
+        entry(1, 8, 0, 2),
+        entry(1, 0, 0, 1),
+    );
+    laid(start, doubles, 192, 256, 5);
+    laid(two, doubles, 192, 256, 5);
+    let next = laid(start, mixed(), 192, 256, 5);
+    laid(next, mixed(), 192, 256, 5);
+    let mut over = start;
+    over.count = 257;
+    laid(over, mixed(), 192, 256, 5);
+    laid(over, mixed(), 192, 256, 4);
+}
+
+// The second to the fourth are refused by 3, 4 and 5. The last takes the page that they name.
+fn mixed() -> Batch {
+    five(
+        entry(0, 1, 0, 2),
+        entry(16, 8, 0, 1),
+        entry(0, 8, 64, 1),
+        entry(0, 8, 0, 3),
+        entry(0, 8, 0, 1),
+    )
+}
+
+// 64 and 65 items; answers one short and one long; no items. Then lengths that are wrong beside both: 1 stands before 12.
+fn batches(two: MappingList) {
+    laid(two, first_pages(64), 192, 256, 64);
+    laid(two, first_pages(65), 192, 256, 65);
+    laid(two, first_pages(5), 192, 256, 4);
+    laid(two, first_pages(5), 192, 256, 6);
+    laid(two, first_pages(0), 192, 256, 0);
+    laid(two, first_pages(65), 191, 256, 65);
+    laid(two, first_pages(5), 192, 255, 4);
+}
+
+// The 256th mapping as the second item. After it a page that is mapped, and rights out of range, go before 9.
+fn filled() -> MappingList {
+    let items = five(
+        entry(1, 0, 0, 1),
+        entry(1, 1, 0, 1),
+        entry(1, 2, 0, 1),
+        entry(1, 1, 0, 1),
+        entry(1, 2, 0, 3),
+    );
+    laid(pages(254), items, 192, 256, 5)
+}
+
+// The call on r words of records and p protections, with n answers, each 8 before it, which no map gives. Frame 0 is dirty in colour 0, so its
+// mappings have the protection 2 or, to read only, 1 there, and 0 elsewhere.
+fn laid(list: MappingList, batch: Batch, r: usize, p: usize, n: usize) -> MappingList
+    requires { ⌜ (r ≤ 192) × (p ≤ 256) × (n ≤ 65) ⌝ }
+{
+    let mut records = [0u32; 192];
     let mut protections = [9u8; 256];
-    let almost = pages(255);
-    let all = show::map(almost, &records, &mut protections, entry(0, 255, 63, 2));
-    show::map(all, &records, &mut protections, entry(0, 256, 0, 1));
-    show::map(all, &records, &mut protections, entry(0, 255, 0, 1));
-    show::map(all, &records, &mut protections, entry(0, 256, 0, 3));
-    let less = show::unmap(all, &records, &mut protections, 0, 0);
-    let again = show::map(less, &records, &mut protections, entry(0, 256, 0, 1));
-    show::map(again, &records, &mut protections, entry(0, 0, 0, 1));
+    let mut answers = [8u8; 65];
+    records[0] = 1;
+    records[2] = 1;
+    show::map_all(
+        list,
+        &records[0..r],
+        &mut protections[0..p],
+        batch,
+        &mut answers[0..n],
+    )
+}
+
+fn five(a: Mapping, b: Mapping, c: Mapping, d: Mapping, e: Mapping) -> Batch {
+    let mut items = [Mapping::zero(); BATCH];
+    items[0] = a;
+    items[1] = b;
+    items[2] = c;
+    items[3] = d;
+    items[4] = e;
+    Batch { items, count: 5 }
+}
+
+// The first pages of space 1, with this count.
+fn first_pages(count: usize) -> Batch {
+    let mut items = [Mapping::zero(); BATCH];
+    let mut page: u16 = 0;
+    while page < 64 {
+        items[page as usize] = entry(1, page, 0, 2);
+        page += 1;
+    }
+    Batch { items, count }
 }
 
 // The list of the first n pages of space 0.
@@ -219,4 +315,19 @@ fn pages(n: u16) -> MappingList {
         page += 1;
     }
     list
+}
+
+// ---- the full list
+
+// The list of 256 that a list of mappings filled: a fresh page, a mapped one, and rights out of range; then with one mapping less.
+fn full(all: MappingList) {
+    io::write_all(STDOUT_FILENO, b"full\n");
+    let records = [0u32; 192];
+    let mut protections = [9u8; 256];
+    show::map(all, &records, &mut protections, entry(0, 256, 0, 1));
+    show::map(all, &records, &mut protections, entry(1, 1, 0, 1));
+    show::map(all, &records, &mut protections, entry(0, 256, 0, 3));
+    let less = show::unmap(all, &records, &mut protections, 0, 0);
+    let again = show::map(less, &records, &mut protections, entry(0, 256, 63, 1));
+    show::map(again, &records, &mut protections, entry(0, 0, 0, 1));
 }

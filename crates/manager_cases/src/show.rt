@@ -1,7 +1,9 @@
 // One call of the manager each, and a line of text: the refusal or 0, the first and the second operation, and the first three protections after it.
+// A list of mappings has a second line: n, how many are listed after it, and a, the answers.
 use libc::STDOUT_FILENO;
 use manager::Answer;
 use manager::FrameOps;
+use mapping::Batch;
 use mapping::Mapping;
 use mapping::MappingList;
 use page_model::Op;
@@ -23,6 +25,23 @@ pub fn map(list: MappingList, records: &[u32], protections: &mut [u8], m: Mappin
     let next = listed.list;
     io::write_all(STDOUT_FILENO, b"map ");
     line(answer, protections);
+    next
+}
+
+// Maps the items of a batch, and hands back the list.
+pub fn map_all(
+    list: MappingList,
+    records: &[u32],
+    protections: &mut [u8],
+    batch: Batch,
+    answers: &mut [u8],
+) -> MappingList {
+    let listed = manager::map_all(list, records, protections, batch, answers);
+    let answer = listed.answer;
+    let next = listed.list;
+    io::write_all(STDOUT_FILENO, b"map all ");
+    line(answer, protections);
+    items(next.count, answers);
     next
 }
 
@@ -120,6 +139,18 @@ fn three(protections: &[u8]) {
         byte(protections[0]);
         byte(protections[1]);
         byte(protections[2]);
+    }
+    io::write_all(STDOUT_FILENO, b"\n");
+}
+
+fn items(count: usize, answers: &[u8]) {
+    io::write_all(STDOUT_FILENO, b"n ");
+    io::print_decimal(STDOUT_FILENO, count as u64);
+    io::write_all(STDOUT_FILENO, b" a");
+    let mut i = 0;
+    while i < answers.len() {
+        byte(answers[i]);
+        i += 1;
     }
     io::write_all(STDOUT_FILENO, b"\n");
 }
