@@ -5,7 +5,7 @@ use mathlib.Core.List.{List, [], _∷_}
 use Prim.Native.Nat.{ℕ, zero, suc, _≤_}
 use native.Mathlib.Omega.{arith}
 use lib.Dec.{eqb}
-use lib.ListN.{length}
+use lib.ListN.{length, getD}
 use Rattle.board.specs.declared.Board.{Board}
 use Rattle.board.specs.Board.{Regular}
 use Rattle.mapping.specs.declared.Mapping.{Mapping}
@@ -18,7 +18,7 @@ use Rattle.machine.specs.Refusals.{causes}
 use Rattle.machine.specs.State.{State, Single, map, unmap, read, write, deviceRead, deviceWrite, evict, Call, single, mapAll, Result}
 use Rattle.machine.specs.Step.{accept, step}
 use Rattle.machine.proofs.CallLaws.{perform-cases, accept-accepted, refused-number}
-use Rattle.consistency.specs.Cacheless.{Cacheless, start, afterSingle, itemRefused, itemsTaken, isRefused, after}
+use Rattle.consistency.specs.Cacheless.{Cacheless, start, afterSingle, itemsTaken, isRefused, fed}
 use Rattle.consistency.specs.Demand3.{startState, Finds, AllFind, stateAfter, cachelessAfter, Holds, Demand3}
 use Rattle.consistency.proofs.Device.{device-read-taken, device-write-taken}
 use Rattle.consistency.proofs.Evict.{evict-taken}
@@ -42,7 +42,7 @@ module _ (b : Board) (reg : Regular b) where
 
   -- an accepted call finds its words, and every call keeps the invariant
   abbrev Serves : Cacheless → Call → Result → Type 0
-  Serves m call r = (isRefused (r .answer) ≡ false → Finds b m call (r .answer)) × Invariant b (r .after) (after m call (r .answer))
+  Serves m call r = (isRefused (r .answer) ≡ false → Finds b m call (r .answer)) × Invariant b (r .after) (fed m call (r .answer))
 
   serves-single : (st : State) (m : Cacheless) → Invariant b st m → (call : Single) → Serves m (single call) (perform b st (single call))
   unfolding callCauses
@@ -54,11 +54,11 @@ module _ (b : Board) (reg : Regular b) where
   -- ---- a list of mappings
 
   module _ (st : State) (m : Cacheless) (inv : Invariant b st m) (items : List Mapping) where
-    abbrev answered : List ℕ
-    answered = tabulate (length items) (answerAt b st items)
+    abbrev answered : ℕ → Bool
+    answered k = not (eqb (getD (tabulate (length items) (answerAt b st items)) k 0) 0)
 
     -- an item was refused exactly if its answer says so
-    item-refused : (k : ℕ) → suc k ≤ length items → isRefused (step b (afterItems b st items k) (mapOf (itemAt items k)) .answer) ≡ itemRefused answered k
+    item-refused : (k : ℕ) → suc k ≤ length items → isRefused (step b (afterItems b st items k) (mapOf (itemAt items k)) .answer) ≡ answered k
     unfolding answerAt
     item-refused k h =
         refused-number b (afterItems b st items k) (mapOf (itemAt items k)) ∙ ap (λ (n : ℕ). not (eqb n 0)) (sym (getD-tabulate (length items) (answerAt b st items) k h))
@@ -82,12 +82,12 @@ module _ (b : Board) (reg : Regular b) where
   all-find : (st : State) (m : Cacheless) → Invariant b st m → (calls : List Call) → AllFind b st m calls
   all-find st m inv [] = tt
   all-find st m inv (call ∷ calls) =
-      let s = serves st m inv call in (s .0, all-find (perform b st call .after) (after m call (perform b st call .answer)) (s .1) calls)
+      let s = serves st m inv call in (s .0, all-find (perform b st call .after) (fed m call (perform b st call .answer)) (s .1) calls)
 
   invariant-after : (st : State) (m : Cacheless) → Invariant b st m → (calls : List Call) → Invariant b (stateAfter b st calls) (cachelessAfter b st m calls)
   invariant-after st m inv [] = inv
   invariant-after st m inv (call ∷ calls) =
-      invariant-after (perform b st call .after) (after m call (perform b st call .answer)) (serves st m inv call .1) calls
+      invariant-after (perform b st call .after) (fed m call (perform b st call .answer)) (serves st m inv call .1) calls
 
   holds : (st : State) (m : Cacheless) → Invariant b st m → (calls : List Call) → Holds b st m calls
   holds st m inv calls =

@@ -54,21 +54,27 @@ afterSingle m call false = afterAccepted m call
 
 -- ---- a list of mappings
 
--- whether item k was refused: its answer is not 0
-abbrev pub itemRefused : List ℕ → ℕ → Bool
-itemRefused answers k = not (eqb (getD answers k 0) 0)
-
 -- after the first k items, each taken as the single call that it is, by whether that item was refused
-abbrev pub itemsTaken : Cacheless → List Mapping → List ℕ → ℕ → Cacheless
-itemsTaken m items answers zero = m
-itemsTaken m items answers (suc k) = afterSingle (itemsTaken m items answers k) (mapOf (itemAt items k)) (itemRefused answers k)
+abbrev pub itemsTaken : Cacheless → List Mapping → (ℕ → Bool) → ℕ → Cacheless
+itemsTaken m items refused zero = m
+itemsTaken m items refused (suc k) = afterSingle (itemsTaken m items refused k) (mapOf (itemAt items k)) (refused k)
 
--- ---- a call, with its answer
+-- ---- a call: it is told whether that was refused, and whether item k of a list was
+
+-- a list that is refused whole changes nothing
+abbrev pub after : Cacheless → Call → Bool → (ℕ → Bool) → Cacheless
+after m (single call) whole item = afterSingle m call whole
+after m (mapAll items answers) whole item = cond whole m (itemsTaken m items item (length items))
+
+-- ---- what it is told of an answer
 
 abbrev pub isRefused : Answer → Bool
 isRefused a = isRefusal (a .outcome)
 
--- a list that is refused whole changes nothing
-abbrev pub after : Cacheless → Call → Answer → Cacheless
-after m (single call) a = afterSingle m call (isRefused a)
-after m (mapAll items answers) a = cond (isRefused a) m (itemsTaken m items (a .buffer) (length items))
+-- item k's answer is not 0
+abbrev pub itemRefused : Answer → ℕ → Bool
+itemRefused a k = not (eqb (getD (a .buffer) k 0) 0)
+
+-- so it is fed a call with its answer, and sees nothing else of that
+abbrev pub fed : Cacheless → Call → Answer → Cacheless
+fed m call a = after m call (isRefused a) (itemRefused a)

@@ -1,6 +1,6 @@
 -- Demand 3: over any list of calls from the start, every accepted read finds what memory without a cache would give, and once every line
 -- has been evicted memory equals that memory word for word. Proved of every regular board. A list of mappings among the calls counts as its
--- items in order, each by whether that item was refused (`after` in `Cacheless`).
+-- items in order, each by whether that item was refused (`itemsTaken` in `Cacheless`).
 use mathlib.Core.Bool.{false}
 use mathlib.Core.List.{List, [], _∷_}
 use mathlib.Core.Logic.{_⊎_}
@@ -16,7 +16,7 @@ use Rattle.manager.specs.Tables.{tables, tabulate, recordWords}
 use Rattle.cache.specs.Store.{store, memoryWord}
 use Rattle.machine.specs.Call.{perform}
 use Rattle.machine.specs.State.{State, state, map, unmap, read, write, deviceRead, deviceWrite, evict, Call, single, mapAll, Answer}
-use Rattle.consistency.specs.Cacheless.{Cacheless, start, isRefused, after}
+use Rattle.consistency.specs.Cacheless.{Cacheless, start, isRefused, fed}
 
 -- ---- the start: empty list, page states and cache, whatever words memory, cache and protections hold
 
@@ -52,7 +52,7 @@ abbrev pub AllFind : Board → State → Cacheless → List Call → Type 0
 AllFind b st m [] = Unit {0}
 AllFind b st m (call ∷ calls) =
     (isRefused (perform b st call .answer) ≡ false → Finds b m call (perform b st call .answer))
-    × AllFind b (perform b st call .after) (after m call (perform b st call .answer)) calls
+    × AllFind b (perform b st call .after) (fed m call (perform b st call .answer)) calls
 
 abbrev pub stateAfter : Board → State → List Call → State
 stateAfter b st [] = st
@@ -60,7 +60,7 @@ stateAfter b st (call ∷ calls) = stateAfter b (perform b st call .after) calls
 
 abbrev pub cachelessAfter : Board → State → Cacheless → List Call → Cacheless
 cachelessAfter b st m [] = m
-cachelessAfter b st m (call ∷ calls) = cachelessAfter b (perform b st call .after) (after m call (perform b st call .answer)) calls
+cachelessAfter b st m (call ∷ calls) = cachelessAfter b (perform b st call .after) (fed m call (perform b st call .answer)) calls
 
 -- ---- evicting lines, which document 01 calls turning them out
 

@@ -23,21 +23,16 @@ use Rattle.demands.specs.Demands.{Clear, Left, mapped, ItemLeft, EachMap
 use Rattle.demands.proofs.Answers.{no-cause, first-cause}
 use Rattle.demands.proofs.Kept.{left}
 
--- `ItemLeft`, and that a refusal's number is not 0
-abbrev Item : Board → State → Mapping → State → ℕ → Type 0
-Item b st m after n =
-    (Clear (causes b st (mapOf m)) × (n ≡ 0) × Left b st (mapOf m) after (mapped [])) ⊎ ((n ≡ 0 → ⊥) × First (causes b st (mapOf m)) n × (after ≡ st))
-
 module _ (b : Board) (reg : Regular b) where
-  item : (st : State) (m : Mapping) → Item b st m (step b st (mapOf m) .after) (numberOf (step b st (mapOf m) .answer .outcome))
+  item : (st : State) (m : Mapping) → ItemLeft b st m (step b st (mapOf m) .after) (numberOf (step b st (mapOf m) .answer .outcome))
   unfolding perform callCauses accept
   item st m =
-      perform-cases b st (single (mapOf m)) (λ (r : Result). Item b st m (r .after) (numberOf (r .answer .outcome)))
+      perform-cases b st (single (mapOf m)) (λ (r : Result). ItemLeft b st m (r .after) (numberOf (r .answer .outcome)))
       (λ e. inl (no-cause b st (single (mapOf m)) e, refl, left b reg st (mapOf m) e))
       (λ n e. inr (λ z. omega arith, first-cause b st (single (mapOf m)) n e, refl))
 
   module _ (st : State) (items : List Mapping) where
-    item-at : (k : ℕ) → Item b (afterItems b st items k) (itemAt items k) (afterItems b st items (suc k)) (answerAt b st items k)
+    item-at : (k : ℕ) → ItemLeft b (afterItems b st items k) (itemAt items k) (afterItems b st items (suc k)) (answerAt b st items k)
     unfolding afterItems answerAt
     item-at k = item (afterItems b st items k) (itemAt items k)
 
@@ -52,7 +47,7 @@ module _ (b : Board) (reg : Regular b) where
     until zero = inl (λ k h. absurd (omega arith), refl)
     until (suc n) = go (item-at n) (until n)
       where
-        go : Item b (afterItems b st items n) (itemAt items n) (afterItems b st items (suc n)) (answerAt b st items n) → Until n → Until (suc n)
+        go : ItemLeft b (afterItems b st items n) (itemAt items n) (afterItems b st items (suc n)) (answerAt b st items n) → Until n → Until (suc n)
         go (inl a) before = inr (n, omega arith, a .1, a .2)
         go (inr a) (inl p) = inl (λ k h. below-more (λ k. answerAt b st items k ≡ 0 → ⊥) n (p .0) (a .0) k (omega arith), a .2 ∙ p .1)
         go (inr a) (inr l) =
@@ -67,7 +62,7 @@ module _ (b : Board) (reg : Regular b) where
           counted = length-tabulate (length items) (answerAt b st items);
           between = afterItems b st items;
           begun = refl;
-          each = λ k h. subst⁻¹ (ItemLeft b (afterItems b st items k) (itemAt items k) (afterItems b st items (suc k))) (at k h) (left-by (item-at k));
+          each = λ k h. subst⁻¹ (ItemLeft b (afterItems b st items k) (itemAt items k) (afterItems b st items (suc k))) (at k h) (item-at k);
           ended = refl;
           last = λ k h z. last-left (until (length items)) k h (sym (at k h) ∙ z);
           unchanged = λ none. none-left (until (length items)) (λ k h z. none k h (at k h ∙ z));
@@ -75,10 +70,6 @@ module _ (b : Board) (reg : Regular b) where
       where
         at : (k : ℕ) → k < length items → getD (tabulate (length items) (answerAt b st items)) k 0 ≡ answerAt b st items k
         at = getD-tabulate (length items) (answerAt b st items)
-
-        left-by : {before after : State} {m : Mapping} {n : ℕ} → Item b before m after n → ItemLeft b before m after n
-        left-by (inl a) = inl a
-        left-by (inr a) = inr (a .1, a .2)
 
         last-left : Until (length items) → (k : ℕ) → k < length items → answerAt b st items k ≡ 0
             → (j : ℕ) × (j < length items) × Left b (afterItems b st items j) (mapOf (itemAt items j)) (afterItems b st items (length items)) (mapped [])

@@ -53,6 +53,8 @@ FirstCause b st call n = First (callCauses b st call) n × (perform b st call �
 abbrev pub Demand1 : Board → Type 0
 Demand1 b = (st : State) (call : Call) → NoCause b st call ⊎ ((n : ℕ) × FirstCause b st call n)
 
+-- The refusals of the items of a list are in `ItemLeft` below.
+
 -- ---- 2. Orders, page states and protections are those of the page model; list, memory, cache words and tags after each call are what the
 -- board's rules leave. An access passes without a stop exactly if its right allows it and the model would order nothing and alter nothing.
 
@@ -82,7 +84,7 @@ abbrev pub Modelled : Board → Tables → Tables → Outcome → Option FrameSt
 Modelled b before after o none = (o ≡ accepted 0 noOps) × (after .records ≡ before .records)
 Modelled b before after o (some s) = ByTable b before after o (s .frame) (s .step)
 
--- the list after a call
+-- the list after a single call
 abbrev pub listAfter : MappingList → Single → MappingList
 listAfter l (map space page frame rights) = append l (record { space = space; page = page; frame = frame; rights = rights })
 listAfter l (unmap space page) = remove l (placeOf (lookup l space page))
@@ -139,10 +141,10 @@ pub record Left (b : Board) (st : State) (call : Single) (after : State) (a : An
 abbrev pub mapped : List ℕ → Answer
 mapped buffer = answer (accepted 0 noOps) none buffer
 
--- an item of a list, and its answer: no cause applies, it is mapped and answers 0; or the first cause's refusal, which changes nothing
+-- an item of a list, and its answer: no cause applies, it is mapped and answers 0; or the first cause's refusal, which is not 0 and changes nothing
 abbrev pub ItemLeft : Board → State → Mapping → State → ℕ → Type 0
 ItemLeft b st m after n =
-    (Clear (causes b st (mapOf m)) × (n ≡ 0) × Left b st (mapOf m) after (mapped [])) ⊎ (First (causes b st (mapOf m)) n × (after ≡ st))
+    (Clear (causes b st (mapOf m)) × (n ≡ 0) × Left b st (mapOf m) after (mapped [])) ⊎ ((n ≢ 0) × First (causes b st (mapOf m)) n × (after ≡ st))
 
 -- what an accepted list of mappings leaves, and answers: its items in order, from st to the state after, with what stands between them
 pub record EachMapped (b : Board) (st : State) (items : List Mapping) (after : State) (a : Answer) : Type 0 where

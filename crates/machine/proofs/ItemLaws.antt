@@ -12,7 +12,7 @@ use Rattle.board.specs.declared.Board.{Board}
 use Rattle.mapping.specs.declared.Mapping.{Mapping}
 use Rattle.mapping.specs.Entry.{zeroMapping}
 use Rattle.manager.specs.Answers.{refused, accepted, numberOf}
-use Rattle.manager.specs.Appended.{listRefusal, listedAll, batchMade}
+use Rattle.manager.specs.Appended.{mappingRefusal, listedAll, batchMade}
 use Rattle.manager.specs.Batch.{BatchResult, batchResult, itemAt, wholeResult}
 use Rattle.manager.specs.Calls.{noOps}
 use Rattle.manager.specs.Refusals.{_if_, firstRefusal, batchCause}
@@ -63,13 +63,13 @@ module _ (b : Board) (st : State) (items : List Mapping) where
 
   -- item k's refusal
   items-refusal : (k : ℕ) → firstRefusal (causes b (afterItems b st items k) (mapOf (itemAt items k)))
-      ≡ refusalBy (lentBy (tablesAt k)) (listRefusal b (tablesAt k .list) (itemAt items k))
+      ≡ refusalBy (lentBy (tablesAt k)) (mappingRefusal b (tablesAt k .list) (itemAt items k))
   unfolding causes lentCauses
   items-refusal k =
       ap (λ (x : State). firstRefusal (causes b x (mapOf (itemAt items k)))) (items-state k)
       ∙ refusal-by (lentCauses b (state (tablesAt k) (st .store)) (mapOf zeroMapping)) b (tablesAt k .list) (itemAt items k) refl
 
-  items-answered : (k : ℕ) → answerAt b st items k ≡ refusalBy (lentBy (tablesAt k)) (listRefusal b (tablesAt k .list) (itemAt items k))
+  items-answered : (k : ℕ) → answerAt b st items k ≡ refusalBy (lentBy (tablesAt k)) (mappingRefusal b (tablesAt k .list) (itemAt items k))
   unfolding answerAt
   items-answered k = item-number b (afterItems b st items k) (itemAt items k) ∙ items-refusal k
 

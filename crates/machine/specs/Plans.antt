@@ -1,4 +1,4 @@
--- How a call is planned: the machine's own refusal beside the manager's plan, of which the number that stands earlier is given.
+-- How a single call is planned: the machine's own refusal beside the manager's plan, of which the number that stands earlier is given.
 use mathlib.Core.Bool.{Bool, true, not, cond, _&&_}
 use mathlib.Core.List.{List, [], _∷_, _++_}
 use mathlib.Core.Option.{none, some}

@@ -1,4 +1,4 @@
--- Document 01, "Answers": for each call of the machine the causes of refusal, its own and the manager's, in the order of the table.
+-- Document 01, "Answers": for each single call of the machine the causes of refusal, its own and the manager's, in the order of the table.
 use mathlib.Core.Bool.{Bool, true, not, _&&_}
 use mathlib.Core.List.{List, [], _∷_, _++_}
 use Prim.Native.Nat.{ℕ}
@@ -6,7 +6,7 @@ use lib.Dec.{eqb, leb}
 use lib.ListN.{length}
 use Rattle.board.specs.declared.Board.{Board}
 use Rattle.board.specs.Board.{memoryWords, cacheWords, lines}
-use Rattle.manager.specs.Refusals.{Cause, _if_, spaceCause, frameCause, unmappedCause, readOnlyCause, listCauses}
+use Rattle.manager.specs.Refusals.{Cause, _if_, spaceCause, frameCause, unmappedCause, readOnlyCause, mappingCauses}
 use Rattle.manager.specs.Tables.{lengthsRight, rulesKept}
 use Rattle.cache.specs.Store.{Store}
 use Rattle.cache.specs.Tag.{tagsKeepRules}
@@ -26,7 +26,7 @@ bufferRight b (deviceRead frame buffer) = eqb (length buffer) (b .page)
 bufferRight b (deviceWrite frame buffer) = eqb (length buffer) (b .page)
 bufferRight b (evict line) = true
 
--- what each call tests of all that it is lent
+-- what each tests of all that it is lent
 unfoldable pub lentCauses : Board → State → Single → List Cause
 unfolding storeLengths
 lentCauses b st call =
@@ -40,7 +40,7 @@ offsetCause limit offset = 6 if leb limit offset
 
 -- and of its own numbers
 unfoldable pub ownCauses : Board → State → Single → List Cause
-ownCauses b st (map space page frame rights) = listCauses b (st .tables .list) space page frame rights
+ownCauses b st (map space page frame rights) = mappingCauses b (st .tables .list) space page frame rights
 ownCauses b st (unmap space page) = spaceCause space page ∷ unmappedCause (st .tables .list) space page ∷ []
 ownCauses b st (read space page offset) =
     spaceCause space page

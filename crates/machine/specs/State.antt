@@ -50,7 +50,7 @@ pub record Result : Type 0 where
   pub answer : Answer
   pub after : State
 
--- the buffer that a device read is lent; other calls fill none
+-- the buffer that a device read is lent; other single calls fill none
 abbrev pub lentBuffer : Single → List ℕ
 lentBuffer (map space page frame rights) = []
 lentBuffer (unmap space page) = []

@@ -1,4 +1,4 @@
--- What a call answers and leaves: a refusal leaves all as it was; an accepted call asks the manager, carries out its orders, then makes
+-- What a single call answers and leaves: a refusal leaves all as it was; an accepted one asks the manager, carries out its orders, then makes
 -- the access. Document 01, "The board as modelled" and "Answers".
 use mathlib.Core.List.{List, []}
 use mathlib.Core.Option.{Option, none, some}
@@ -73,7 +73,7 @@ accept b st (deviceWrite frame buffer) =
     stepped b st (changeOf b (st .tables) frame table.deviceWrite) (λ s. none) (λ s. []) (hardware.deviceWrite b frame buffer)
 accept b st (evict line) = listed (refill b (st .tables)) (hardware.evict b line (st .store))
 
--- ---- a call
+-- ---- a single call
 
 unfoldable pub step : Board → State → Single → Result
 unfolding accept

@@ -13,7 +13,7 @@ use Rattle.mapping.specs.declared.MappingList.{MappingList}
 use Rattle.mapping.specs.Batch.{batchSize}
 use Rattle.mapping.specs.Change.{append}
 use Rattle.manager.specs.Answers.{Outcome, refused, accepted}
-use Rattle.manager.specs.Appended.{listRefusal, listedBy, listAfter, refusalAt, relisted, listedAll, wholeRefusal, batchMade}
+use Rattle.manager.specs.Appended.{mappingRefusal, listedBy, listAfter, refusalAt, relisted, listedAll, wholeRefusal, batchMade}
 use Rattle.manager.specs.Batch.{itemAt, BatchResult, batchResult, wholeResult}
 use Rattle.manager.specs.Calls.{noOps}
 use Rattle.manager.specs.Refusals.{_if_, batchCause}
@@ -32,11 +32,11 @@ listed-refused zero l m h = absurd (h refl)
 listed-refused (suc n) l m h = refl
 
 module _ (b : Board) (l : MappingList) (items : List Mapping) (k : ℕ) {before : MappingList} {m : Mapping} {n : ℕ} (list : before ≡ listAfter b l items k)
-    (item : m ≡ itemAt items k) (refusal : n ≡ listRefusal b before m) where
+    (item : m ≡ itemAt items k) (refusal : n ≡ mappingRefusal b before m) where
   -- its refusal
   pub refusal-more : n ≡ refusalAt b l items k
   unfolding refusalAt
-  refusal-more = refusal ∙ ap₂ (listRefusal b) list item
+  refusal-more = refusal ∙ ap₂ (mappingRefusal b) list item
 
   -- and the list with it
   pub list-more : {after : MappingList} → after ≡ listedBy n before m → after ≡ listAfter b l items (k + 1)

@@ -21,7 +21,7 @@ use Rattle.mapping.specs.Lookup.{lookup}
 use Rattle.mapping.specs.Rules as list-of
 use Rattle.mapping.proofs.Laws.{keepsRules-true, lookup-at}
 use Rattle.manager.specs.Refusals.{Cause, firstRefusal, tableCauses, pageCauses, writeCauses, transferCauses, outOfSpace, isRight, found, isMapped, placeOf, listedMapping}
-use Rattle.manager.specs.Appended.{listRefusal}
+use Rattle.manager.specs.Appended.{mappingRefusal}
 use Rattle.manager.specs.Tables.{Tables, recordWords, recordAt, recordsKeepRules, lengthsRight, rulesKept}
 
 -- ---- the lent tables
@@ -89,11 +89,11 @@ module _ (b : Board) (t : Tables) where
     page-refusal-is space page eo em = rw (clear .0, clear .1, eo, em)
 
 -- the refusal of a mapping in its numbers and the list is what is known of its conditions, in their order
-pub list-refusal-is : (b : Board) (l : MappingList) (m : Mapping) {o f r t n : Bool} → outOfSpace (m .space) (m .page) ≡ o → leb (b .frames) (m .frame) ≡ f
+pub mapping-refusal-is : (b : Board) (l : MappingList) (m : Mapping) {o f r t n : Bool} → outOfSpace (m .space) (m .page) ≡ o → leb (b .frames) (m .frame) ≡ f
     → isRight (m .rights) ≡ r → isMapped l (m .space) (m .page) ≡ t → eqb (l .count) capacity ≡ n
-    → cond o 3 (cond f 4 (cond (not r) 5 (cond t 7 (cond n 9 0)))) ≡ listRefusal b l m
-unfolding firstRefusal listRefusal
-list-refusal-is b l m eo ef er et en = rw (eo, ef, er, et, en)
+    → cond o 3 (cond f 4 (cond (not r) 5 (cond t 7 (cond n 9 0)))) ≡ mappingRefusal b l m
+unfolding firstRefusal mappingRefusal
+mapping-refusal-is b l m eo ef er et en = rw (eo, ef, er, et, en)
 
 -- ---- no refusal: no cause applies
 

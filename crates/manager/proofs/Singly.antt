@@ -13,10 +13,10 @@ use Rattle.mapping.specs.declared.MappingList.{MappingList}
 use Rattle.mapping.specs.Change.{append}
 use Rattle.mapping.proofs.Laws.{append-count}
 use Rattle.manager.specs.Answers.{accepted, numberOf}
-use Rattle.manager.specs.Appended.{listRefusal, listedBy, listAfter, refusalAt, relisted, listedAll, batchMade}
+use Rattle.manager.specs.Appended.{mappingRefusal, listedBy, listAfter, refusalAt, relisted, listedAll, batchMade}
 use Rattle.manager.specs.Batch.{itemAt, BatchResult, batchResult, wholeResult, tablesAfter, answerAt, mapAllCall}
 use Rattle.manager.specs.Calls.{noOps, commitMap, placed, listResult}
-use Rattle.manager.specs.Refusals.{Cause, _if_, firstRefusal, tableCauses, mapCauses, listCauses, batchCause}
+use Rattle.manager.specs.Refusals.{Cause, _if_, firstRefusal, tableCauses, mapCauses, mappingCauses, batchCause}
 use Rattle.manager.specs.Tables.{Tables, tables, lengthsRight, rulesKept, protectionAt, tabulate, refill}
 use Rattle.manager.specs.Theorems.{WellFormed}
 use Rattle.manager.proofs.AcceptedLaws.{map-accepted}
@@ -64,9 +64,9 @@ module _ (b : Board) (t : Tables) (l : MappingList) where
       go false = length-tabulate _ _
 
 -- what a mapping that the list does not refuse leaves, where the tables keep their rules
-module _ (b : Board) (t : Tables) (w : WellFormed b t) (m : Mapping) (e : listRefusal b (t .list) m ≡ 0) where
+module _ (b : Board) (t : Tables) (w : WellFormed b t) (m : Mapping) (e : mappingRefusal b (t .list) m ≡ 0) where
   unrefused : firstRefusal (mapCauses b t (m .space) (m .page) (m .frame) (m .rights)) ≡ 0
-  unfolding mapCauses listRefusal firstRefusal
+  unfolding mapCauses mappingRefusal firstRefusal
   unrefused = rw (w .0, w .1) e
 
   pub one-keeps : WellFormed b (commitMap b t m)
@@ -79,12 +79,12 @@ module _ (b : Board) (t : Tables) (w : WellFormed b t) (m : Mapping) (e : listRe
 
 -- `lent` is the refusal in what is lent with the tables: none tells that they keep their rules, and hangs on nothing else of them
 module _ (b : Board) (lent : Tables → ℕ) (items : List Mapping) (after : ℕ → Tables) (answer : ℕ → ℕ)
-    (answered : (k : ℕ) → answer k ≡ refusalBy (lent (after k)) (listRefusal b (after k .list) (itemAt items k)))
+    (answered : (k : ℕ) → answer k ≡ refusalBy (lent (after k)) (mappingRefusal b (after k .list) (itemAt items k)))
     (next : (k : ℕ) → after (suc k) ≡ takenBy b (answer k) (after k) (itemAt items k)) where
   -- where there is one, each item has it, and nothing changes
   module _ (n : ℕ) (broken : lent (after 0) ≡ suc n) where
     answer-by : (k : ℕ) → after k ≡ after 0 → answer k ≡ suc n
-    answer-by k e = answered k ∙ ap (λ (x : ℕ). refusalBy x (listRefusal b (after k .list) (itemAt items k))) (ap lent e ∙ broken)
+    answer-by k e = answered k ∙ ap (λ (x : ℕ). refusalBy x (mappingRefusal b (after k .list) (itemAt items k))) (ap lent e ∙ broken)
 
     pub broken-after : (k : ℕ) → after k ≡ after 0
     broken-after zero = refl
@@ -120,12 +120,12 @@ module _ (b : Board) (lent : Tables → ℕ) (items : List Mapping) (after : ℕ
         protections-long : length (after k .protections) ≡ length (after 0 .protections)
         protections-long = ap (λ (t : Tables). length (t .protections)) (h .tables-are) ∙ relisted-length b (after 0) list
 
-        refusal-is : answer k ≡ listRefusal b (after k .list) item
-        refusal-is = answered k ∙ ap (λ (x : ℕ). refusalBy x (listRefusal b (after k .list) item)) (h .still-clear)
+        refusal-is : answer k ≡ mappingRefusal b (after k .list) item
+        refusal-is = answered k ∙ ap (λ (x : ℕ). refusalBy x (mappingRefusal b (after k .list) item)) (h .still-clear)
 
         pub answer-is : answer k ≡ refusalAt b (after 0 .list) items k
         unfolding refusalAt
-        answer-is = refusal-is ∙ ap (λ (l : MappingList). listRefusal b l item) list-is
+        answer-is = refusal-is ∙ ap (λ (l : MappingList). mappingRefusal b l item) list-is
 
         more : (n : ℕ) → answer k ≡ n → Listed (suc k)
         unfolding listAfter refusalAt refill
@@ -183,9 +183,9 @@ lengths-refused false r = refl
 
 -- the refusal of a mapping is that of what is lent, or else the list's
 pub refusal-by : (cs : List Cause) (b : Board) (l : MappingList) (m : Mapping) → numbered cs ≡ true
-    → firstRefusal (cs ++ listCauses b l (m .space) (m .page) (m .frame) (m .rights)) ≡ refusalBy (firstRefusal cs) (listRefusal b l m)
-unfolding listRefusal
-refusal-by cs b l m numbers = go (listCauses b l (m .space) (m .page) (m .frame) (m .rights)) (firstRefusal cs) refl
+    → firstRefusal (cs ++ mappingCauses b l (m .space) (m .page) (m .frame) (m .rights)) ≡ refusalBy (firstRefusal cs) (mappingRefusal b l m)
+unfolding mappingRefusal
+refusal-by cs b l m numbers = go (mappingCauses b l (m .space) (m .page) (m .frame) (m .rights)) (firstRefusal cs) refl
   where
     go : (own : List Cause) (n : ℕ) → firstRefusal cs ≡ n → firstRefusal (cs ++ own) ≡ refusalBy n (firstRefusal own)
     go own zero e = sym (refusal-rest cs own numbers e)
@@ -208,7 +208,7 @@ mapped-after b t m (suc n) place = refl
 
 module _ (b : Board) (t : Tables) (items : List Mapping) where
   answered-singly : (k : ℕ) → answerAt b t items k
-      ≡ refusalBy (firstRefusal (tableCauses b (tablesAfter b t items k))) (listRefusal b (tablesAfter b t items k .list) (itemAt items k))
+      ≡ refusalBy (firstRefusal (tableCauses b (tablesAfter b t items k))) (mappingRefusal b (tablesAfter b t items k .list) (itemAt items k))
   unfolding answerAt mapCauses
   answered-singly k =
       let u = tablesAfter b t items k in

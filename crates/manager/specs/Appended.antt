@@ -1,5 +1,5 @@
--- How a list of mappings is listed at once: what is lent is tested once, the items are appended one after the other, and the protections are
--- filled once, if a mapping was listed.
+-- How the code lists a list of mappings at once: what is lent is tested once, the items are appended one after the other, and the protections
+-- are filled once, if a mapping was listed. It is proved to be `mapAllCall` (`map-all-made`).
 use mathlib.Core.Bool.{cond}
 use mathlib.Core.List.{List, [], _∷_}
 use Prim.Native.Nat.{ℕ, zero, suc}
@@ -12,14 +12,14 @@ use Rattle.mapping.specs.Change.{append}
 use Rattle.manager.specs.Answers.{accepted}
 use Rattle.manager.specs.Batch.{itemAt, BatchResult, batchResult, wholeResult}
 use Rattle.manager.specs.Calls.{noOps}
-use Rattle.manager.specs.Refusals.{_if_, firstRefusal, listCauses, batchCause}
+use Rattle.manager.specs.Refusals.{_if_, firstRefusal, mappingCauses, batchCause}
 use Rattle.manager.specs.Tables.{Tables, tables, tabulate, refill}
 
 -- ---- the list
 
 -- the refusal of a mapping in its numbers and the list, or 0
-unfoldable pub listRefusal : Board → MappingList → Mapping → ℕ
-listRefusal b l m = firstRefusal (listCauses b l (m .space) (m .page) (m .frame) (m .rights))
+unfoldable pub mappingRefusal : Board → MappingList → Mapping → ℕ
+mappingRefusal b l m = firstRefusal (mappingCauses b l (m .space) (m .page) (m .frame) (m .rights))
 
 -- the list with the mapping, unless that is refused
 abbrev pub listedBy : ℕ → MappingList → Mapping → MappingList
@@ -28,14 +28,14 @@ listedBy (suc n) l m = l
 
 -- the list after the first k items
 unfoldable pub listAfter : Board → MappingList → List Mapping → ℕ → MappingList
-unfolding listRefusal
+unfolding mappingRefusal
 listAfter b l items zero = l
-listAfter b l items (suc k) = listedBy (listRefusal b (listAfter b l items k) (itemAt items k)) (listAfter b l items k) (itemAt items k)
+listAfter b l items (suc k) = listedBy (mappingRefusal b (listAfter b l items k) (itemAt items k)) (listAfter b l items k) (itemAt items k)
 
 -- the refusal of item k, or 0
 unfoldable pub refusalAt : Board → MappingList → List Mapping → ℕ → ℕ
 unfolding listAfter
-refusalAt b l items k = listRefusal b (listAfter b l items k) (itemAt items k)
+refusalAt b l items k = mappingRefusal b (listAfter b l items k) (itemAt items k)
 
 -- ---- the tables
 
@@ -55,6 +55,7 @@ listedAll b (suc lent) t items = batchResult (accepted 0 noOps) (tabulate (lengt
 unfoldable pub wholeRefusal : ℕ → ℕ → ℕ → ℕ
 wholeRefusal lent items answers = firstRefusal ((1 if eqb lent 1) ∷ batchCause items answers ∷ [])
 
+-- the call, where `lent` is the refusal in what is lent, or 0
 unfoldable pub batchMade : Board → ℕ → Tables → List Mapping → List ℕ → BatchResult
 unfolding listedAll wholeRefusal
 batchMade b lent t items answers = wholeResult (wholeRefusal lent (length items) (length answers)) answers t (listedAll b lent t items)

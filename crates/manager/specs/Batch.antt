@@ -42,6 +42,7 @@ pub record BatchResult : Type 0 where
 abbrev pub batchResult : Outcome → List ℕ → Tables → BatchResult
 batchResult o answers t = record { answer = o; answers = answers; after = t }
 
+-- what refuses the whole
 abbrev pub mapAllCauses : Board → Tables → List Mapping → List ℕ → List Cause
 mapAllCauses b t items answers = (1 if not (lengthsRight b t)) ∷ batchCause (length items) (length answers) ∷ []
 
@@ -50,6 +51,7 @@ abbrev pub wholeResult : ℕ → List ℕ → Tables → BatchResult → BatchRe
 wholeResult zero answers t made = made
 wholeResult (suc n) answers t made = batchResult (refused (suc n)) answers t
 
+-- the items in order; where none is accepted the protections stay as they were, since a refused map fills none
 unfoldable pub mapAllCall : Board → Tables → List Mapping → List ℕ → BatchResult
 unfolding answerAt
 mapAllCall b t items answers =

@@ -75,7 +75,7 @@ placeOf Nothing = capacity
 abbrev pub listedMapping : MappingList → ℕ → ℕ → Mapping
 listedMapping l space page = mappingAt l (placeOf (lookup l space page))
 
--- ---- the causes that lie in a call's numbers, each with its place in document 01's table
+-- ---- the causes that lie in a call's numbers, each with its place in document 01's table, with what the requests add to that
 
 abbrev pub spaceCause : ℕ → ℕ → Cause
 spaceCause space page = 3 if outOfSpace space page
@@ -109,8 +109,8 @@ unfoldable pub tableCauses : Board → Tables → List Cause
 tableCauses b t = (1 if not (lengthsRight b t)) ∷ (2 if not (rulesKept b t)) ∷ []
 
 -- of a mapping, in its numbers and the list
-abbrev pub listCauses : Board → MappingList → ℕ → ℕ → ℕ → ℕ → List Cause
-listCauses b l space page frame rights =
+abbrev pub mappingCauses : Board → MappingList → ℕ → ℕ → ℕ → ℕ → List Cause
+mappingCauses b l space page frame rights =
     spaceCause space page
     ∷ frameCause b frame
     ∷ rightsCause rights
@@ -120,7 +120,7 @@ listCauses b l space page frame rights =
 
 unfoldable pub mapCauses : Board → Tables → ℕ → ℕ → ℕ → ℕ → List Cause
 unfolding tableCauses
-mapCauses b t space page frame rights = tableCauses b t ++ listCauses b (t .list) space page frame rights
+mapCauses b t space page frame rights = tableCauses b t ++ mappingCauses b (t .list) space page frame rights
 
 -- unmap and read
 unfoldable pub pageCauses : Board → Tables → ℕ → ℕ → List Cause

@@ -4,14 +4,13 @@ ghost use Prim.Native.Nat.{_≤_};
 ghost use lib.ListN.{length};
 ghost use Rattle.board.specs.Board.{Regular};
 ghost use Rattle.mapping.specs.Batch.{batchSize, itemsOf};
-ghost use Rattle.mapping.specs.Entry.{capacity};
 ghost use Rattle.manager.specs.Answers.{outcome};
-ghost use Rattle.manager.specs.Appended.{listAfter, refusalAt, relisted, wholeRefusal, batchMade};
+ghost use Rattle.manager.specs.Appended.{listAfter, refusalAt, wholeRefusal, batchMade};
 ghost use Rattle.manager.specs.Batch.{batchResult};
 ghost use Rattle.manager.specs.Tables.{tables, tabulate};
 use super::Listed;
 use super::records::refill;
-use super::refusals::list_refusal;
+use super::refusals::mapping_refusal;
 use board::Board;
 use mapping::Batch;
 use mapping::MappingList;
@@ -81,7 +80,7 @@ fn append_all(board: Board, list: MappingList, batch: Batch, answers: &mut [u8])
     let mut i = 0;
     while i < answers.len() {
         let m = batch.items[i];
-        let refusal = list_refusal(board, next, m);
+        let refusal = mapping_refusal(board, next, m);
         if refusal == 0 {
             next = mapping::append(next, m);
         }

@@ -1,4 +1,4 @@
-// The manager: keeps the page states of all frames and says which operations are due (document 01: orders). A call is a plan, which changes nothing, and a commit.
+// The manager: keeps the page states of all frames and says which operations are due (document 01: orders). A call is a plan, which changes nothing, and a commit; a list of mappings is its items in order.
 pub mod batch;
 pub mod records;
 pub mod refusals;

@@ -3,7 +3,7 @@ ghost use mathlib.Core.Path.{_≡_};
 ghost use Rattle.board.specs.Board.{Regular};
 ghost use Rattle.manager.specs.Tables.{tables};
 ghost use Rattle.manager.specs.Refusals.{firstRefusal, refusalPlace, tableCauses, mapCauses, pageCauses, writeCauses, transferCauses, outOfSpace, isRight, isMapped, placeOf, listedMapping};
-ghost use Rattle.manager.specs.Appended.{listRefusal};
+ghost use Rattle.manager.specs.Appended.{mappingRefusal};
 ghost use Rattle.mapping.specs.Lookup.{lookup};
 use super::records::RECORD_WORDS;
 use super::records::records_keep_rules;
@@ -66,12 +66,12 @@ pub fn map_refusal(
     if refusal != 0 {
         return refusal;
     }
-    list_refusal(board, list, m)
+    mapping_refusal(board, list, m)
 }
 
 // Of a mapping, in its numbers and the list.
-pub fn list_refusal(board: Board, list: MappingList, m: Mapping) -> u8
-    ensures { λ r. ⌜ r ≡ listRefusal board list m ⌝ }
+pub fn mapping_refusal(board: Board, list: MappingList, m: Mapping) -> u8
+    ensures { λ r. ⌜ r ≡ mappingRefusal board list m ⌝ }
 {
     if out_of_space(m.space, m.page) {
         return 3;

@@ -1,5 +1,5 @@
 -- The laws of the mapping list, for callers: what the rules and a lookup say, what each operation does at a place, to the rules and to lookups, and a batch's items.
-pub use Rattle.mapping.proofs.Records.{items-length, batch-items-length}
+pub use Rattle.mapping.proofs.Records.{items-length}
 pub use Rattle.mapping.proofs.Entry.{inRange-true, range-inRange, isZero-true, isZero-zero, isAt-true, maps-isAt, isAt-false, not-isAt}
 pub use Rattle.mapping.proofs.Rules.{keepsRules-true, rules-keepsRules, count-length}
 pub use Rattle.mapping.proofs.Lookups.{lookup-at, at-lookup, lookup-nothing, nothing-lookup, lookup-cases, listed-found}

@@ -3,7 +3,6 @@ pub mod lent;
 
 ghost use mathlib.Core.Path.{_≡_};
 ghost use Prim.Native.Nat.{_≤_, _<_};
-ghost use lib.ListN.{getD};
 ghost use Rattle.mapping.specs.Entry.{capacity, zeroMapping, inRange, isZero, isAt, mappingAt};
 ghost use Rattle.mapping.specs.Rules.{allInRange, noDoubles, restZero, keepsRules};
 ghost use Rattle.mapping.specs.Lookup.{lookup};
@@ -92,17 +91,6 @@ impl Mapping {
 }
 
 impl Batch {
-    // The item at place k, all 0 past the last record.
-    pub fn item(self, k: usize) -> Mapping
-        ensures { λ r. ⌜ r ≡ getD (self .items) k zeroMapping ⌝ }
-    {
-        if k < BATCH {
-            self.items[k]
-        } else {
-            Mapping::zero()
-        }
-    }
-
     // Zero records only, with a count.
     fn zero(count: usize) -> Self
         ensures { λ r. ⌜ r ≡ zeroBatch count ⌝ }

@@ -1,5 +1,5 @@
 //! The manager: which page maps which frame, the state of every frame, and the operations that each
-//! step needs. Protections never show in a run's text, so it keeps none.
+//! step needs. Protections show neither in a run's text nor in an answer, so it keeps none.
 
 use crate::board::{Frame, Place, FRAMES};
 use crate::call::Operations;

@@ -31,7 +31,7 @@ loop-again c =
     let start = c .before .before .before .before .before .before in
     let long = start .pre .0 in
     let item = sym (items-of-at (start .args .t3) (l .i) (omega arith)) in
-    let refusal = c .before .list-refusal .ensures in (
+    let refusal = c .before .mapping-refusal .ensures in (
       simp length-set (l .inv .0),
       omega arith,
       list-more _ _ _ (l .i) (l .inv .2) item refusal (⊎-elim (λ w. w .2 ∙ w .1 .ensures ∙ listed-accepted _ _ _ (w .0 .taken)) (λ w. w .1 ∙ listed-refused _ _ _ (w .0 .left)) (c .if1 .came)),
