@@ -18,7 +18,7 @@ pub use refusal::Refusal;
 use board::{Frame, Line};
 use cacheless::Cacheless;
 use call::{Answer, Call, Mapping};
-use machine::Machine;
+use machine::{Machine, ITEMS};
 use sheet::Sheet;
 use text::Text;
 
@@ -27,15 +27,22 @@ pub fn run(sheet: &[u8]) -> Vec<u8> {
     try_run(sheet).unwrap_or_else(|difference| panic!("{difference}"))
 }
 
-/// The text of a sheet, or how the machine and the cacheless memory differ.
+/// The text of a sheet, or how the machine and the cacheless memory differ. The mappings are made in lists, as
+/// many to a list as it takes: what they answer is what single calls would.
 pub fn try_run(sheet: &[u8]) -> Result<Vec<u8>, String> {
     let Ok(sheet) = Sheet::parse(sheet) else {
         return Ok(text::broken());
     };
     let mut pair = Pair::default();
     let mut text = Text::default();
-    for (k, &mapping) in sheet.mappings.iter().enumerate() {
-        text.mapping(k, pair.call(mapping)?);
+    let mut answers = vec![0; sheet.mappings.len()];
+    let lists = sheet.mappings.chunks(ITEMS).zip(answers.chunks_mut(ITEMS));
+    for (items, answers) in lists {
+        pair.map_all(items, answers)
+            .map_err(|refusal| format!("{} mappings: {refusal:?}", items.len()))?;
+    }
+    for (k, &answer) in answers.iter().enumerate() {
+        text.mapping(k, answer);
     }
     for (k, &step) in sheet.steps.iter().enumerate() {
         text.step(k, pair.call(step).map_err(|e| format!("step {k}: {e}"))?);

@@ -9,7 +9,7 @@ use crate::record::{Access, Transfer};
 use crate::Refusal;
 
 /// The most items that one `map_all` takes.
-const ITEMS: usize = 64;
+pub const ITEMS: usize = 64;
 
 #[derive(Clone, Debug, Default, PartialEq, Eq)]
 pub struct Machine {

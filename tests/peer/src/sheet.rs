@@ -8,7 +8,7 @@ const STEPS: usize = 4096;
 
 #[derive(Debug, PartialEq, Eq)]
 pub struct Sheet {
-    pub mappings: Vec<Call>,
+    pub mappings: Vec<Mapping>,
     pub steps: Vec<Call>,
 }
 
@@ -27,11 +27,11 @@ impl Sheet {
 }
 
 /// A count of at most `limit`, and that many records of `N` bytes.
-fn section<const N: usize>(
+fn section<const N: usize, T>(
     rest: &mut &[u8],
     limit: usize,
-    record: impl Fn(&[u8; N]) -> Result<Call, Refusal>,
-) -> Result<Vec<Call>, Refusal> {
+    record: impl Fn(&[u8; N]) -> Result<T, Refusal>,
+) -> Result<Vec<T>, Refusal> {
     let count = usize::from(u16::from_le_bytes(*take(rest)?));
     if count > limit {
         return Err(Refusal::Sheet);
@@ -46,13 +46,13 @@ fn take<'a, const N: usize>(rest: &mut &'a [u8]) -> Result<&'a [u8; N], Refusal>
     Ok(taken)
 }
 
-fn mapping(&[space, page_low, page_high, frame, rights]: &[u8; 5]) -> Result<Call, Refusal> {
-    Ok(Call::Map(Mapping {
+fn mapping(&[space, page_low, page_high, frame, rights]: &[u8; 5]) -> Result<Mapping, Refusal> {
+    Ok(Mapping {
         space,
         page: u16::from_le_bytes([page_low, page_high]),
         frame,
         rights,
-    }))
+    })
 }
 
 fn step(&[kind, s, p0, p1, o, w0, w1, w2, w3]: &[u8; 9]) -> Result<Call, Refusal> {

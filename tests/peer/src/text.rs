@@ -17,8 +17,8 @@ pub struct Text {
 }
 
 impl Text {
-    pub fn mapping(&mut self, k: usize, answer: Answer) {
-        self.line(format_args!("m{k} {}", number(&answer)));
+    pub fn mapping(&mut self, k: usize, number: u8) {
+        self.line(format_args!("m{k} {number}"));
     }
 
     pub fn step(&mut self, k: usize, answer: Answer) {
