@@ -1,9 +1,12 @@
-// Runs the machine on cases worked out by hand from document 01: each refusal beside others that stand earlier or later, and accepted calls.
+// Runs the machine on cases worked out by hand from documents 01 and 02: each refusal beside others that stand earlier or later, and accepted calls.
 // Each line ends with parts of what was lent; src/show.rt says which.
 // What is lent goes by letters: r records, p protections, m memory, w the cache's words, t its tags, b the device's buffer.
 mod show;
 
 use libc::STDOUT_FILENO;
+use mapping::BATCH;
+use mapping::Batch;
+use mapping::Mapping;
 use mapping::MappingList;
 use show::entry;
 ghost use Prim.Native.Nat.{_≤_};
@@ -12,6 +15,7 @@ fn main() {
     lengths();
     tags();
     tables();
+    lists();
     refused();
     accepted();
 }
@@ -130,6 +134,51 @@ fn tables() {
     tried(double, 192, 256, 4096, 512, 64, 64, 0, 0);
     tried(over, 192, 256, 4096, 512, 64, 64, 0, 0);
     tried(list, 192, 256, 4095, 512, 64, 64, 0, 2);
+}
+
+// ---- a list of mappings
+
+// Memory, words and tags of a wrong length beside an answer too many, which stands after these and before a tag that breaks the rules; then that tag
+// alone, which refuses each item.
+fn lists() {
+    io::write_all(STDOUT_FILENO, b"lists\n");
+    laid(4095, 512, 64, 3, 0);
+    laid(4096, 513, 64, 3, 0);
+    laid(4096, 512, 63, 3, 65);
+    laid(4096, 512, 64, 3, 65);
+    laid(4096, 512, 64, 2, 65);
+}
+
+// On these lengths of memory, words, tags and answers, with this tag of line 40. The answers are eights before.
+fn laid(m: usize, w: usize, t: usize, a: usize, tag: u8)
+    requires { ⌜ (m ≤ 4096) × (w ≤ 513) × (t ≤ 64) × (a ≤ 3) ⌝ }
+{
+    let records = [0u32; 192];
+    let mut protections = [9u8; 256];
+    let memory = [70u32; 4096];
+    let words = [80u32; 513];
+    let mut tags = [0u8; 64];
+    let mut answers = [8u8; 3];
+    tags[40] = tag;
+    show::map_all(
+        two_pages(),
+        &records,
+        &mut protections,
+        &memory[0..m],
+        &words[0..w],
+        &tags[0..t],
+        pair(),
+        &mut answers[0..a],
+    );
+    show::parts(&records, &protections, &memory, &words, &tags);
+}
+
+// A page that is mapped already, and one of colour 1.
+fn pair() -> Batch {
+    let mut items = [Mapping::zero(); BATCH];
+    items[0] = entry(1, 9, 5, 2);
+    items[1] = entry(0, 17, 3, 2);
+    Batch { items, count: 2 }
 }
 
 // ---- other refusals, on what the rows are given
@@ -330,7 +379,7 @@ fn evictions(
     show::left(r, p, m, w, t);
 }
 
-// A page unmapped with a word in the cache, and its frame mapped again in the other colour.
+// A page unmapped with a word in the cache, its frame mapped again in the other colour by a list of mappings, and a read through that.
 fn unmapped(
     list: MappingList,
     r: &mut [u32; 192],
@@ -346,7 +395,8 @@ fn unmapped(
     show::left(r, p, m, w, t);
     show::read(one, r, p, m, w, t, 0, 0, 0);
     show::left(r, p, m, w, t);
-    let two = show::map(one, r, p, m, w, t, entry(0, 17, 3, 2));
+    let mut answers = [8u8; 2];
+    let two = show::map_all(one, r, p, m, w, t, pair(), &mut answers);
     show::left(r, p, m, w, t);
     show::read(two, r, p, m, w, t, 0, 17, 0);
     show::left(r, p, m, w, t);

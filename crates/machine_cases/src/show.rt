@@ -1,10 +1,12 @@
-// Calls of the machine, and text on each: the refusal, or 0, the two operations and the word read; of a transfer also b, the first word of the buffer.
+// Calls of the machine, and text on each: the refusal, or 0, the two operations and the word read; of a transfer also b, the first word of the buffer, and
+// of a list of mappings a, the first two answers.
 // Then `left` ends the line with parts of what the calls left: p the first three protections, r the record of frame 3, m the frame's first word in
 // memory, l tag and first word of line 0, and of line 8, where the frame's first words lie in colours 0 and 1.
 use libc::STDOUT_FILENO;
 use machine::Loaded;
 use manager::Answer;
 use manager::FrameOps;
+use mapping::Batch;
 use mapping::Mapping;
 use mapping::MappingList;
 use page_model::Op;
@@ -35,6 +37,35 @@ pub fn map(
     io::write_all(STDOUT_FILENO, b"map");
     told(answer);
     apart();
+    next
+}
+
+// Maps the items of a batch, and hands back the list.
+pub fn map_all(
+    list: MappingList,
+    records: &[u32],
+    protections: &mut [u8],
+    memory: &[u32],
+    words: &[u32],
+    tags: &[u8],
+    batch: Batch,
+    answers: &mut [u8],
+) -> MappingList {
+    let listed = machine::map_all(
+        list,
+        records,
+        protections,
+        memory,
+        words,
+        tags,
+        batch,
+        answers,
+    );
+    let answer = listed.answer;
+    let next = listed.list;
+    io::write_all(STDOUT_FILENO, b"map all");
+    told(answer);
+    two(answers);
     next
 }
 
@@ -324,6 +355,15 @@ fn first(buffer: &[u32]) {
     if buffer.len() > 0 {
         spaced(long(buffer[0]));
     }
+}
+
+fn two(answers: &[u8]) {
+    io::write_all(STDOUT_FILENO, b" a");
+    if answers.len() > 1 {
+        spaced(wide(answers[0]));
+        spaced(wide(answers[1]));
+    }
+    apart();
 }
 
 fn spaced(n: u64) {
