@@ -203,44 +203,43 @@ fn last_record(held: u32, stale: u32, dirty: u32) {
 
 // ---- lists of mappings in one call
 
-// On the list of two mappings that single calls made. Hands back a full list.
+// `two` is the list of two mappings that single calls made. Last the 256th mapping as the second item: after it a page that is mapped, and rights out
+// of range, go before 9. Hands back that full list.
 fn map_all(two: MappingList) -> MappingList {
     io::write_all(STDOUT_FILENO, b"map all\n");
     items(two);
     batches(two);
-    filled()
+    let last = six(
+        entry(1, 0, 0, 1),
+        entry(1, 1, 0, 1),
+        entry(1, 2, 0, 1),
+        entry(1, 1, 0, 1),
+        entry(0, 0, 0, 1),
+        entry(1, 2, 0, 3),
+    );
+    laid(pages(254), last, 192, 256, 6)
 }
 
-// Doubles of the first item and of the third; then the first is one of a mapping from before. A list with refused items between two others, again
-// on what it left, and on a list that breaks its rules, where 12 stands before 2, and 2 before an item's own refusal.
+// A list with a double of its first item and with items that 3, 4 and 5 refuse; its last item takes the page that these name. It goes to an empty
+// list, again to what it left, which has all of it, and to the list of two, which has its first. Then to a list that breaks its rules, where 12
+// stands before 2, and 2 before an item's own refusal.
 fn items(two: MappingList) {
-    let start = mapping::empty();
-    let doubles = five(
+    let mixed = six(
         entry(0, 0, 0, 2),
         entry(0, 0, 4, 1),
-        entry(1, 0, 0, 1),
-        entry(1, 8, 0, 2),
-        entry(1, 0, 0, 1),
-    );
-    laid(start, doubles, 192, 256, 5);
-    laid(two, doubles, 192, 256, 5);
-    let next = laid(start, mixed(), 192, 256, 5);
-    laid(next, mixed(), 192, 256, 5);
-    let mut over = start;
-    over.count = 257;
-    laid(over, mixed(), 192, 256, 5);
-    laid(over, mixed(), 192, 256, 4);
-}
-
-// The second to the fourth are refused by 3, 4 and 5. The last takes the page that they name.
-fn mixed() -> Batch {
-    five(
-        entry(0, 1, 0, 2),
         entry(16, 8, 0, 1),
         entry(0, 8, 64, 1),
         entry(0, 8, 0, 3),
         entry(0, 8, 0, 1),
-    )
+    );
+    let start = mapping::empty();
+    let next = laid(start, mixed, 192, 256, 6);
+    laid(next, mixed, 192, 256, 6);
+    laid(two, mixed, 192, 256, 6);
+    let mut over = start;
+    over.count = 257;
+    laid(over, mixed, 192, 256, 6);
+    laid(over, mixed, 192, 256, 5);
 }
 
 // 64 and 65 items; answers one short and one long; no items. Then lengths that are wrong beside both: 1 stands before 12.
@@ -252,18 +251,6 @@ fn batches(two: MappingList) {
     laid(two, first_pages(0), 192, 256, 0);
     laid(two, first_pages(65), 191, 256, 65);
     laid(two, first_pages(5), 192, 255, 4);
-}
-
-// The 256th mapping as the second item. After it a page that is mapped, and rights out of range, go before 9.
-fn filled() -> MappingList {
-    let items = five(
-        entry(1, 0, 0, 1),
-        entry(1, 1, 0, 1),
-        entry(1, 2, 0, 1),
-        entry(1, 1, 0, 1),
-        entry(1, 2, 0, 3),
-    );
-    laid(pages(254), items, 192, 256, 5)
 }
 
 // The call on r words of records and p protections, with n answers, each 8 before it, which no map gives. Frame 0 is dirty in colour 0, so its
@@ -285,14 +272,15 @@ fn laid(list: MappingList, batch: Batch, r: usize, p: usize, n: usize) -> Mappin
     )
 }
 
-fn five(a: Mapping, b: Mapping, c: Mapping, d: Mapping, e: Mapping) -> Batch {
+fn six(a: Mapping, b: Mapping, c: Mapping, d: Mapping, e: Mapping, f: Mapping) -> Batch {
     let mut items = [Mapping::zero(); BATCH];
     items[0] = a;
     items[1] = b;
     items[2] = c;
     items[3] = d;
     items[4] = e;
-    Batch { items, count: 5 }
+    items[5] = f;
+    Batch { items, count: 6 }
 }
 
 // The first pages of space 1, with this count.
