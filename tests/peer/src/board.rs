@@ -33,8 +33,8 @@ impl Frame {
     }
 }
 
-/// A page of an address space.
-#[derive(Clone, Copy, Debug, PartialEq, Eq)]
+/// A page of an address space. Places go by space, then by page.
+#[derive(Clone, Copy, Debug, PartialEq, Eq, PartialOrd, Ord)]
 pub struct Place {
     space: u8,
     page: u16,

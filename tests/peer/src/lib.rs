@@ -1,6 +1,6 @@
 //! Runs a run sheet as document 01 describes, on a machine written from documents 01 and 02 alone (of
-//! 02 the request N1), with a cacheless memory beside it that every accepted read and the memory at
-//! the end must equal.
+//! 02 the requests N1 and N2), with a cacheless memory beside it that every accepted read and the
+//! memory at the end must equal.
 
 pub mod board;
 pub mod cacheless;
