@@ -11,7 +11,7 @@ pub mod manager;
 pub mod record;
 mod refusal;
 pub mod sheet;
-mod text;
+pub mod text;
 
 pub use refusal::Refusal;
 

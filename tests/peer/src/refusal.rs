@@ -1,10 +1,12 @@
 //! Why a call is refused, by the numbers of document 01, "Answers", and of document 02.
 
 /// The cases stand in the order in which a call tests them: a number of document 02 has the place
-/// that its request gives it. Number 1, a lent buffer of another length, has no case: the types here
-/// fix every length that it tests.
+/// that its request gives it.
 #[derive(Clone, Copy, Debug, PartialEq, Eq)]
 pub enum Refusal {
+    /// A lent buffer of another length. No call of the peer meets it, since the types here fix every
+    /// length that it tests; those of `tests/duties` do.
+    Length = 1,
     /// More items than one call maps, or not as many answers as items.
     Items = 12,
     Rules = 2,

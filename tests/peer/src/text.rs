@@ -9,6 +9,7 @@ pub fn broken() -> Vec<u8> {
     format!("refused {}\n", Refusal::Sheet.number()).into_bytes()
 }
 
+/// The lines so far.
 #[derive(Default)]
 pub struct Text {
     lines: Vec<u8>,
@@ -17,10 +18,12 @@ pub struct Text {
 }
 
 impl Text {
+    /// The line of mapping `k`, by the number that it answered.
     pub fn mapping(&mut self, k: usize, number: u8) {
         self.line(format_args!("m{k} {number}"));
     }
 
+    /// The line of step `k`.
     pub fn step(&mut self, k: usize, answer: Answer) {
         let number = number(&answer);
         let Accepted { operations, found } = answer.unwrap_or_default();
@@ -39,6 +42,7 @@ impl Text {
         self.line(format_args!("{k} {number} {a} {b} {v}"));
     }
 
+    /// The whole text, with its last line.
     pub fn end(mut self) -> Vec<u8> {
         let (flushes, purges) = (self.flushes, self.purges);
         self.line(format_args!("end {flushes} {purges}"));
