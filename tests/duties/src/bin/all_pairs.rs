@@ -1,0 +1,7 @@
+//! Reads a run sheet on standard input and prints its text. The list stands in order of mapping, tested for doubles by all pairs.
+
+use duties::list::AllPairs;
+
+fn main() -> std::io::Result<()> {
+    duties::run_input::<AllPairs>()
+}

@@ -1,0 +1,170 @@
+//! The machine's calls on what they are lent. Each tests all of that, then its own numbers, in the
+//! order of the refusals, and changes nothing before it is sure to accept.
+
+use crate::every;
+use crate::hardware::Hardware;
+use crate::list::{MappingList, Order, MAPPINGS};
+use crate::record::{self, Record, RECORDS_WORDS};
+use peer::board::{Frame, Line, Offset, Place, PAGE_WORDS};
+use peer::call::{Accepted, Answer, Found, Mapping, Operations};
+use peer::record::{Access, Transfer};
+use peer::Refusal;
+
+/// What every call is lent.
+pub struct Lent<'a, O> {
+    pub list: &'a mut MappingList<O>,
+    pub records: &'a mut [u32],
+    pub protections: &'a mut [u8],
+    pub hardware: Hardware<'a>,
+}
+
+const NO_OPERATIONS: Operations = [None, None];
+
+impl<O: Order> Lent<'_, O> {
+    pub fn map(&mut self, mapping: Mapping) -> Answer {
+        self.test()?;
+        let Mapping {
+            space,
+            page,
+            frame,
+            rights,
+        } = mapping;
+        Place::new(space, page)?;
+        Frame::new(frame)?;
+        if !matches!(rights, 1 | 2) {
+            return Err(Refusal::Rights);
+        }
+        let Err(at) = self.list.find(space, page) else {
+            return Err(Refusal::Mapped);
+        };
+        if self.list.count == MAPPINGS {
+            return Err(Refusal::Full);
+        }
+        self.list.insert(at, mapping);
+        self.accept(NO_OPERATIONS, Found::Nothing)
+    }
+
+    pub fn unmap(&mut self, space: u8, page: u16) -> Answer {
+        self.test()?;
+        Place::new(space, page)?;
+        let at = self.mapped(space, page)?;
+        self.list.remove(at);
+        self.accept(NO_OPERATIONS, Found::Nothing)
+    }
+
+    pub fn read(&mut self, space: u8, page: u16, offset: u8) -> Answer {
+        self.access(space, page, offset, None)
+    }
+
+    pub fn write(&mut self, space: u8, page: u16, offset: u8, word: u32) -> Answer {
+        self.access(space, page, offset, Some(word))
+    }
+
+    /// The device takes the frame's words into its buffer.
+    pub fn device_read(&mut self, frame: u8, buffer: &mut [u32]) -> Answer {
+        let (frame, operations) = self.transfer(Transfer::Read, frame, buffer.len())?;
+        buffer.copy_from_slice(self.hardware.page(frame));
+        self.accept(operations, Found::Nothing)
+    }
+
+    /// The device sends the words of its buffer to the frame.
+    pub fn device_write(&mut self, frame: u8, buffer: &[u32]) -> Answer {
+        let (frame, operations) = self.transfer(Transfer::Write, frame, buffer.len())?;
+        self.hardware.page(frame).copy_from_slice(buffer);
+        self.accept(operations, Found::Nothing)
+    }
+
+    /// Document 01's "turning out".
+    pub fn evict(&mut self, line: u8) -> Answer {
+        self.test()?;
+        self.hardware.evict(Line::new(line)?);
+        self.accept(NO_OPERATIONS, Found::Nothing)
+    }
+
+    /// A processor access: a write if there is a word to write.
+    fn access(&mut self, space: u8, page: u16, offset: u8, written: Option<u32>) -> Answer {
+        self.test()?;
+        let (place, offset) = (Place::new(space, page)?, Offset::new(offset)?);
+        let Mapping { frame, rights, .. } = self.list.items[self.mapped(space, page)?];
+        let access = match written {
+            None => Access::Read,
+            Some(_) if rights == 2 => Access::Write,
+            Some(_) => return Err(Refusal::ReadOnly),
+        };
+        let (frame, colour) = (Frame::new(frame)?, place.colour());
+        let operations = self.step(frame, |record| {
+            record::access(record, access, frame, colour)
+        });
+        let found = match written {
+            None => Found::Word(self.hardware.load(frame, colour, offset)),
+            Some(word) => {
+                self.hardware.store(frame, colour, offset, word);
+                Found::Nothing
+            }
+        };
+        self.accept(operations, found)
+    }
+
+    /// What comes before a transfer, with a device buffer of this length.
+    fn transfer(
+        &mut self,
+        transfer: Transfer,
+        frame: u8,
+        length: usize,
+    ) -> Result<(Frame, Operations), Refusal> {
+        if length != PAGE_WORDS {
+            return Err(Refusal::Length);
+        }
+        self.test()?;
+        let frame = Frame::new(frame)?;
+        let operations = self.step(frame, |record| record::transfer(record, transfer, frame));
+        Ok((frame, operations))
+    }
+
+    /// Refusals 1 and 2: tests all that the call is lent.
+    fn test(&self) -> Result<(), Refusal> {
+        if self.records.len() != RECORDS_WORDS
+            || self.protections.len() != MAPPINGS
+            || !self.hardware.has_lengths()
+        {
+            return Err(Refusal::Length);
+        }
+        let (records, _) = self.records.as_chunks();
+        if self.list.keeps_rules()
+            && every(records, record::keeps_rules)
+            && self.hardware.keeps_rules()
+        {
+            Ok(())
+        } else {
+            Err(Refusal::Rules)
+        }
+    }
+
+    fn mapped(&self, space: u8, page: u16) -> Result<usize, Refusal> {
+        let found = self.list.find(space, page);
+        found.map_err(|_| Refusal::Unmapped)
+    }
+
+    /// Steps the frame's record, and has the cache do what is due.
+    fn step(&mut self, frame: Frame, step: impl Fn(Record) -> (Record, Operations)) -> Operations {
+        let (records, _) = self.records.as_chunks_mut();
+        let record = &mut records[frame.index()];
+        let (next, operations) = step(*record);
+        *record = next;
+        for operation in operations.into_iter().flatten() {
+            self.hardware.perform(operation);
+        }
+        operations
+    }
+
+    /// Answers, with every protection brought up to the tables: 0 past the count.
+    fn accept(&mut self, operations: Operations, found: Found) -> Answer {
+        let (records, _) = self.records.as_chunks();
+        let (listed, rest) = self.protections.split_at_mut(self.list.count);
+        for (protection, mapping) in listed.iter_mut().zip(self.list.listed()) {
+            *protection = record::protection(&records[usize::from(mapping.frame)], mapping);
+        }
+        rest.fill(0);
+        Ok(Accepted { operations, found })
+    }
+}

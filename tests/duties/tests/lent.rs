@@ -1,0 +1,277 @@
+//! What a call does with what it is lent: it tests all of it, leaves it as it was if it refuses, and
+//! has every protection agree with the tables if it accepts.
+
+use duties::buffers::Buffers;
+use duties::list::{AllPairs, Neighbours, Order, MAPPINGS};
+use peer::call::{Call, Mapping};
+use peer::Refusal::{self, Length, Place, Rules};
+
+/// The words of a record, from its frame's first.
+const STALE: usize = 1;
+const DIRTY: usize = 2;
+
+fn mapping(space: u8, page: u16, frame: u8, rights: u8) -> Mapping {
+    Mapping {
+        space,
+        page,
+        frame,
+        rights,
+    }
+}
+
+fn read(space: u8, page: u16) -> Call {
+    Call::Read {
+        space,
+        page,
+        offset: 0,
+    }
+}
+
+fn write(space: u8, page: u16) -> Call {
+    Call::Write {
+        space,
+        page,
+        offset: 0,
+        word: 7,
+    }
+}
+
+fn accept<O: Order>(buffers: &mut Buffers<O>, call: Call) {
+    assert!(buffers.call(call).is_ok(), "{call:?}");
+}
+
+/// Four pages of three spaces, mapped in rising order, so that the list is the same in both orders.
+fn started<O: Order>() -> Buffers<O> {
+    let mut buffers = Buffers::default();
+    for (space, page, frame) in [(1, 8, 5), (1, 9, 5), (2, 8, 6), (15, 1023, 63)] {
+        accept(&mut buffers, Call::Map(mapping(space, page, frame, 2)));
+    }
+    buffers
+}
+
+/// A call of each kind, which the started buffers accept.
+fn calls() -> [Call; 7] {
+    [
+        Call::Map(mapping(2, 9, 7, 1)),
+        Call::Unmap { space: 1, page: 8 },
+        read(1, 8),
+        write(1, 9),
+        Call::DeviceRead { frame: 5 },
+        Call::DeviceWrite { frame: 5, first: 1 },
+        Call::Evict { line: 0 },
+    ]
+}
+
+type Change<O> = fn(&mut Buffers<O>);
+
+/// What every call, on buffers with this change, is refused with: none if each is accepted.
+fn refusal<O: Order + Clone + PartialEq>(change: Change<O>) -> Option<Refusal> {
+    let answers = calls().map(|call| {
+        let mut buffers = started();
+        change(&mut buffers);
+        let before = buffers.clone();
+        let refusal = buffers.call(call).err();
+        assert!(refusal.is_none() || buffers == before, "{call:?}");
+        refusal
+    });
+    assert_eq!(answers, [answers[0]; 7]);
+    answers[0]
+}
+
+fn lengths<O: Order + Clone + PartialEq>() {
+    let changes: [Change<O>; 10] = [
+        |lent| lent.records.truncate(191),
+        |lent| lent.records.push(0),
+        |lent| lent.protections.truncate(255),
+        |lent| lent.protections.push(0),
+        |lent| lent.memory.truncate(4095),
+        |lent| lent.memory.push(0),
+        |lent| lent.words.truncate(511),
+        |lent| lent.words.push(0),
+        |lent| lent.tags.clear(),
+        |lent| lent.tags.push(0),
+    ];
+    for (at, change) in changes.into_iter().enumerate() {
+        assert_eq!(refusal(change), Some(Length), "{at}");
+    }
+    // Before a rule and a number of the call.
+    let mut buffers = started::<O>();
+    buffers.tags[0] = 65;
+    for length in [0, 63, 65] {
+        let mut device = vec![0; length];
+        let answer = buffers.lend().device_read(64, &mut device);
+        assert_eq!(answer, Err(Length));
+        assert_eq!(buffers.lend().device_write(64, &device), Err(Length));
+    }
+    assert_eq!(buffers.call(read(16, 0)), Err(Rules));
+    buffers.tags[0] = 64;
+    assert_eq!(buffers.call(read(16, 0)), Err(Place));
+}
+
+#[test]
+fn another_length_is_refused() {
+    lengths::<AllPairs>();
+    lengths::<Neighbours>();
+}
+
+fn rules<O: Order + Clone + PartialEq>() {
+    assert_eq!(refusal::<O>(|_| {}), None);
+    let changes: [Change<O>; 23] = [
+        // Doubles, side by side and apart; frame and rights may differ.
+        |lent| lent.list.items[1].page = 8,
+        |lent| lent.list.items[3] = mapping(1, 8, 63, 1),
+        // The count, and what stands past it.
+        |lent| lent.list.count = 3,
+        |lent| lent.list.count = 5,
+        |lent| lent.list.count = MAPPINGS + 1,
+        |lent| lent.list.count = usize::MAX,
+        |lent| lent.list.items[4].space = 1,
+        |lent| lent.list.items[255].page = 256,
+        |lent| lent.list.items[255].frame = 1,
+        |lent| lent.list.items[128].rights = 1,
+        // What is listed.
+        |lent| lent.list.items[3].space = 16,
+        |lent| lent.list.items[3].page = 1024,
+        |lent| lent.list.items[3].frame = 64,
+        |lent| lent.list.items[0].rights = 0,
+        |lent| lent.list.items[0].rights = 3,
+        // Records: a mask, a bit in both masks, a flag with no held colour, and no flag.
+        |lent| lent.records[3 * 63 + STALE] = 256,
+        |lent| lent.records[..2].fill(1),
+        |lent| lent.records[3 * 63 + DIRTY] = 1,
+        |lent| lent.records[DIRTY] = 2,
+        // Document 01's edge 7.
+        |lent| lent.records[..3].copy_from_slice(&[3, 0, 1]),
+        // Tags.
+        |lent| lent.tags[63] = 65,
+        |lent| lent.tags[0] = 128,
+        |lent| lent.tags[31] = 193,
+    ];
+    for (at, change) in changes.into_iter().enumerate() {
+        assert_eq!(refusal(change), Some(Rules), "{at}");
+    }
+}
+
+#[test]
+fn a_broken_rule_is_refused() {
+    rules::<AllPairs>();
+    rules::<Neighbours>();
+}
+
+#[test]
+fn a_list_out_of_order_is_refused() {
+    // By page; by space, though the page rises; by both.
+    for (at, other) in [(0, 1), (1, 2), (0, 2)] {
+        let mut all_pairs = started::<AllPairs>();
+        all_pairs.list.items.swap(at, other);
+        accept(&mut all_pairs, read(1, 8));
+
+        let mut neighbours = started::<Neighbours>();
+        neighbours.list.items.swap(at, other);
+        let before = neighbours.clone();
+        for call in calls() {
+            assert_eq!(neighbours.call(call), Err(Rules), "{call:?}");
+        }
+        assert!(neighbours == before);
+    }
+}
+
+#[test]
+fn the_last_that_keeps_the_rules_is_accepted() {
+    let changes: [Change<Neighbours>; 4] = [
+        |lent| lent.tags.fill(64),
+        |lent| lent.tags[63] = 192,
+        |lent| lent.records[3 * 63..].copy_from_slice(&[128, 127, 1]),
+        |lent| lent.records[3 * 63..].copy_from_slice(&[3, 252, 0]),
+    ];
+    for change in changes {
+        assert_eq!(refusal(change), None);
+    }
+}
+
+#[test]
+fn a_full_list() {
+    let mut buffers = Buffers::<Neighbours>::default();
+    for page in (0..256).rev() {
+        accept(&mut buffers, Call::Map(mapping(3, 2 * page, 0, 1)));
+    }
+    let map = |page| Call::Map(mapping(3, page, 0, 1));
+    assert_eq!(buffers.call(map(1)), Err(Refusal::Full));
+    assert_eq!(buffers.call(map(2)), Err(Refusal::Mapped));
+    accept(&mut buffers, read(3, 510));
+    accept(&mut buffers, Call::Unmap { space: 3, page: 0 });
+    accept(&mut buffers, map(1));
+}
+
+/// The listed pages with their protections. The whole buffer held something else before the call.
+fn after<O: Order>(buffers: &mut Buffers<O>, call: Call) -> Vec<(u8, u16, u8)> {
+    buffers.protections.fill(99);
+    accept(buffers, call);
+    let (listed, rest) = buffers.protections.split_at(buffers.list.count);
+    assert!(rest.iter().all(|&protection| protection == 0));
+    let listed = buffers.list.listed().iter().zip(listed);
+    listed
+        .map(|(mapping, &protection)| (mapping.space, mapping.page, protection))
+        .collect()
+}
+
+/// Pages 1 and 9 have one colour, page 2 has another; all are of frame 5, and page 9 may only be read.
+#[test]
+fn protections() {
+    let mut buffers = Buffers::<Neighbours>::default();
+    let map = |page, rights| Call::Map(mapping(0, page, 5, rights));
+    let rows = [
+        (map(9, 1), vec![(9, 0)]),
+        (read(0, 9), vec![(9, 1)]),
+        // First, in the middle, and last: what was there moves up with its protection.
+        (map(1, 2), vec![(1, 1), (9, 1)]),
+        (map(2, 2), vec![(1, 1), (2, 0), (9, 1)]),
+        (map(10, 2), vec![(1, 1), (2, 0), (9, 1), (10, 0)]),
+        (write(0, 1), vec![(1, 2), (2, 0), (9, 1), (10, 0)]),
+        (read(0, 2), vec![(1, 0), (2, 1), (9, 0), (10, 1)]),
+        (read(0, 9), vec![(1, 1), (2, 1), (9, 1), (10, 1)]),
+        (write(0, 10), vec![(1, 0), (2, 2), (9, 0), (10, 2)]),
+        (
+            Call::Evict { line: 16 },
+            vec![(1, 0), (2, 2), (9, 0), (10, 2)],
+        ),
+        // In the middle, first, and last: what comes later moves down.
+        (
+            Call::Unmap { space: 0, page: 2 },
+            vec![(1, 0), (9, 0), (10, 2)],
+        ),
+        (Call::Unmap { space: 0, page: 1 }, vec![(9, 0), (10, 2)]),
+        (Call::DeviceRead { frame: 5 }, vec![(9, 0), (10, 0)]),
+        (read(0, 9), vec![(9, 1), (10, 0)]),
+        (Call::Unmap { space: 0, page: 10 }, vec![(9, 1)]),
+        (Call::DeviceWrite { frame: 5, first: 0 }, vec![(9, 0)]),
+    ];
+    for (call, right) in rows {
+        let right: Vec<_> = right
+            .into_iter()
+            .map(|(page, protection)| (0, page, protection))
+            .collect();
+        assert_eq!(after(&mut buffers, call), right, "{call:?}");
+    }
+}
+
+fn listed<O: Order>(places: &[(u8, u16)]) -> Vec<(u8, u16)> {
+    let mut buffers = Buffers::<O>::default();
+    for &(space, page) in places {
+        accept(&mut buffers, Call::Map(mapping(space, page, 0, 1)));
+    }
+    let listed = buffers.list.listed().iter();
+    listed
+        .map(|mapping| (mapping.space, mapping.page))
+        .collect()
+}
+
+#[test]
+fn each_order_lists_a_mapping_at_its_place() {
+    let places = [(2, 7), (3, 0), (1, 7), (0, 1023)];
+    assert_eq!(listed::<AllPairs>(&places), places);
+    assert_eq!(
+        listed::<Neighbours>(&places),
+        [(0, 1023), (1, 7), (2, 7), (3, 0)]
+    );
+}

@@ -1,0 +1,97 @@
+//! Both orders print what the peer prints.
+
+use compare::generate::accepted_sheet;
+use compare::harness::compare;
+use duties::list::{AllPairs, Neighbours};
+use duties::run;
+use std::fs;
+use std::path::Path;
+
+/// Holds both texts of a sheet to the peer's, and gives it.
+fn check(sheet: &[u8]) -> String {
+    let right = String::from_utf8(peer::run(sheet)).unwrap();
+    for text in [run::<AllPairs>(sheet), run::<Neighbours>(sheet)] {
+        assert_eq!(String::from_utf8(text).unwrap(), right);
+    }
+    right
+}
+
+/// The bytes of a text of hexadecimal digits, with comments.
+fn bytes(text: &str) -> Vec<u8> {
+    text.lines()
+        .filter_map(|line| line.split('#').next())
+        .flat_map(str::split_whitespace)
+        .map(|byte| u8::from_str_radix(byte, 16).unwrap())
+        .collect()
+}
+
+#[test]
+fn examples_and_cases() {
+    let root = Path::new(env!("CARGO_MANIFEST_DIR")).join("../..");
+    let mut files = 0;
+    for folder in ["examples", "crates/sheet_cases/data"] {
+        for file in fs::read_dir(root.join(folder)).unwrap() {
+            let file = file.unwrap().path();
+            if file.extension().is_some_and(|ending| ending == "hex") {
+                check(&bytes(&fs::read_to_string(&file).unwrap()));
+                files += 1;
+            }
+        }
+    }
+    assert!(files > 20, "{files} files");
+}
+
+#[test]
+fn nothing_to_do_and_broken() {
+    assert_eq!(check(&[0, 0, 0, 0]), "end 0 0\n");
+    assert_eq!(check(&[0, 0, 0]), "refused 11\n");
+}
+
+/// Mapped from the last to the first, with a double, and unmapped from the middle, first and last.
+#[test]
+fn unmaps_and_refusals() {
+    let sheet = "
+        07 00
+        0f ff 03 3f 02    # m0 space 15, page 1023, frame 63, read and write
+        01 08 00 05 02    # m1 space 1, page 8, frame 5
+        01 00 00 05 01    # m2 page 0, of the same colour, to read
+        00 08 00 06 02    # m3 space 0, page 8, frame 6
+        01 08 00 06 02    # m4 mapped: 7
+        00 00 04 06 02    # m5 page 1024: 3
+        00 01 00 05 02    # m6 page 1, of another colour
+        0d 00
+        02 01 08 00 03 07 00 00 00    # 0 writes 7 to frame 5
+        01 01 00 00 03 00 00 00 00    # 1 finds it
+        06 01 00 00 00 00 00 00 00    # 2 unmaps one in the middle
+        01 01 00 00 03 00 00 00 00    # 3 not mapped: 8
+        01 00 01 00 03 00 00 00 00    # 4 finds 7 after a flush
+        06 00 01 00 00 00 00 00 00    # 5 unmaps the first
+        06 0f ff 03 00 00 00 00 00    # 6 unmaps the last
+        06 0f ff 03 00 00 00 00 00    # 7 not mapped: 8
+        01 00 08 00 03 00 00 00 00    # 8 page 8 of space 0 has another frame
+        01 01 08 00 03 00 00 00 00    # 9 finds 7
+        01 01 08 00 40 00 00 00 00    # 10 offset 64: 6
+        03 05 00 00 00 00 00 00 00    # 11 the device reads frame 5
+        05 40 00 00 00 00 00 00 00    # 12 line 64: 6
+    ";
+    let right = "m0 0\nm1 0\nm2 0\nm3 0\nm4 7\nm5 3\nm6 0\n\
+        0 0 - - -\n1 0 - - 7\n2 0 - - -\n3 8 - - -\n4 0 F5.0 - 7\n5 0 - - -\n6 0 - - -\n\
+        7 8 - - -\n8 0 - - 0\n9 0 - - 7\n10 6 - - -\n11 0 - - 0\n12 6 - - -\nend 1 0\n";
+    assert_eq!(check(&bytes(sheet)), right);
+}
+
+#[test]
+fn large_sheets() {
+    for mappings in [1, 16, 64, 256] {
+        check(&accepted_sheet(1, mappings));
+    }
+}
+
+#[test]
+fn random_sheets() {
+    for program in [run::<AllPairs>, run::<Neighbours>] {
+        let result = compare(1, 2000, &mut peer::run, &mut { program }, |_| {});
+        let tally = result.unwrap_or_else(|difference| panic!("{difference}"));
+        assert!(tally.left_out().is_empty(), "{tally}");
+    }
+}
