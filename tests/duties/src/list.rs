@@ -1,4 +1,4 @@
-//! The mapping list as it is lent, and the two orders in which it may stand.
+//! The mapping list as it is lent, the two orders in which it may stand, and how it is tested.
 
 use crate::every;
 use peer::board::{FRAMES, PAGES, SPACES};
@@ -16,20 +16,41 @@ const NONE: Mapping = Mapping {
     rights: 0,
 };
 
-/// How listed mappings stand, and so how a double is seen and a page found.
+/// How listed mappings stand, and how a double is seen and a page found.
 pub trait Order {
     /// Whether these, at most as many as the list takes, are in range and stand in order.
     fn holds(listed: &[Mapping]) -> bool;
 
-    /// Where a key's mapping stands or, if there is none, where one would go.
-    fn find(listed: &[Mapping], key: u32) -> Result<usize, usize>;
+    /// Where the mapping of a space's page stands or, if there is none, where one would go.
+    fn find(listed: &[Mapping], space: u8, page: u16) -> Result<usize, usize>;
 }
 
-/// In order of mapping, as before request N2: each is compared with all before it.
+/// In order of mapping, as before request N2: each is compared with all before it. This is the plain
+/// one: it goes record by record and compares space and page. Of the plain forms, two loops and `any`
+/// among them, this is the one that the compiler makes the quickest.
 #[derive(Clone, Debug, PartialEq, Eq)]
 pub struct AllPairs;
 
 impl Order for AllPairs {
+    fn holds(listed: &[Mapping]) -> bool {
+        listed.iter().enumerate().all(|(at, mapping)| {
+            in_range(mapping) && Self::find(&listed[..at], mapping.space, mapping.page).is_err()
+        })
+    }
+
+    fn find(listed: &[Mapping], space: u8, page: u16) -> Result<usize, usize> {
+        // The page first: it differs more often.
+        let same = |mapping: &Mapping| mapping.page == page && mapping.space == space;
+        listed.iter().position(same).ok_or(listed.len())
+    }
+}
+
+/// As `AllPairs`, but it packs space and page into one number, a key, and compares the keys, which the
+/// compiler does several at a time.
+#[derive(Clone, Debug, PartialEq, Eq)]
+pub struct AllPairsPacked;
+
+impl Order for AllPairsPacked {
     fn holds(listed: &[Mapping]) -> bool {
         let mut keys = [0; MAPPINGS];
         listed.iter().enumerate().all(|(at, mapping)| {
@@ -38,7 +59,8 @@ impl Order for AllPairs {
         })
     }
 
-    fn find(listed: &[Mapping], key: u32) -> Result<usize, usize> {
+    fn find(listed: &[Mapping], space: u8, page: u16) -> Result<usize, usize> {
+        let key = key(space, page);
         let mut keys = listed.iter().map(key_of);
         keys.position(|other| other == key).ok_or(listed.len())
     }
@@ -59,8 +81,8 @@ impl Order for Neighbours {
         })
     }
 
-    fn find(listed: &[Mapping], key: u32) -> Result<usize, usize> {
-        listed.binary_search_by_key(&key, key_of)
+    fn find(listed: &[Mapping], space: u8, page: u16) -> Result<usize, usize> {
+        listed.binary_search_by_key(&key(space, page), key_of)
     }
 }
 
@@ -116,7 +138,7 @@ impl<O: Order> MappingList<O> {
 
     /// Where the mapping of a space's page stands or, if there is none, where one would go.
     pub fn find(&self, space: u8, page: u16) -> Result<usize, usize> {
-        O::find(self.listed(), key(space, page))
+        O::find(self.listed(), space, page)
     }
 
     /// Puts a mapping at its place in a list that has room. The later ones move up.

@@ -2,7 +2,7 @@
 //! has every protection agree with the tables if it accepts.
 
 use duties::buffers::Buffers;
-use duties::list::{AllPairs, Neighbours, Order, MAPPINGS};
+use duties::list::{AllPairs, AllPairsPacked, Neighbours, Order, MAPPINGS};
 use peer::call::{Call, Mapping};
 use peer::Refusal::{self, Length, Place, Rules};
 
@@ -111,6 +111,7 @@ fn lengths<O: Order + Clone + PartialEq>() {
 #[test]
 fn another_length_is_refused() {
     lengths::<AllPairs>();
+    lengths::<AllPairsPacked>();
     lengths::<Neighbours>();
 }
 
@@ -155,24 +156,37 @@ fn rules<O: Order + Clone + PartialEq>() {
 #[test]
 fn a_broken_rule_is_refused() {
     rules::<AllPairs>();
+    rules::<AllPairsPacked>();
     rules::<Neighbours>();
+}
+
+/// Started, with two in each other's place: by page; by space, though the page rises; by both.
+fn swapped<O: Order>() -> [Buffers<O>; 3] {
+    [(0, 1), (1, 2), (0, 2)].map(|(at, other)| {
+        let mut buffers = started::<O>();
+        buffers.list.items.swap(at, other);
+        buffers
+    })
 }
 
 #[test]
 fn a_list_out_of_order_is_refused() {
-    // By page; by space, though the page rises; by both.
-    for (at, other) in [(0, 1), (1, 2), (0, 2)] {
-        let mut all_pairs = started::<AllPairs>();
-        all_pairs.list.items.swap(at, other);
-        accept(&mut all_pairs, read(1, 8));
-
-        let mut neighbours = started::<Neighbours>();
-        neighbours.list.items.swap(at, other);
-        let before = neighbours.clone();
+    for mut buffers in swapped::<Neighbours>() {
+        let before = buffers.clone();
         for call in calls() {
-            assert_eq!(neighbours.call(call), Err(Rules), "{call:?}");
+            assert_eq!(buffers.call(call), Err(Rules), "{call:?}");
         }
-        assert!(neighbours == before);
+        assert!(buffers == before);
+    }
+}
+
+#[test]
+fn all_pairs_may_stand_in_any_order() {
+    for mut buffers in swapped::<AllPairs>() {
+        accept(&mut buffers, read(1, 8));
+    }
+    for mut buffers in swapped::<AllPairsPacked>() {
+        accept(&mut buffers, read(1, 8));
     }
 }
 
@@ -189,9 +203,8 @@ fn the_last_that_keeps_the_rules_is_accepted() {
     }
 }
 
-#[test]
-fn a_full_list() {
-    let mut buffers = Buffers::<Neighbours>::default();
+fn full<O: Order + Clone>() {
+    let mut buffers = Buffers::<O>::default();
     for page in (0..256).rev() {
         accept(&mut buffers, Call::Map(mapping(3, 2 * page, 0, 1)));
     }
@@ -199,8 +212,21 @@ fn a_full_list() {
     assert_eq!(buffers.call(map(1)), Err(Refusal::Full));
     assert_eq!(buffers.call(map(2)), Err(Refusal::Mapped));
     accept(&mut buffers, read(3, 510));
+    // Doubles: the first two, the last two, the two ends, and two of the middle.
+    for (at, other) in [(0, 1), (254, 255), (0, 255), (100, 200)] {
+        let mut double = buffers.clone();
+        double.list.items[other] = double.list.items[at];
+        assert_eq!(double.call(read(3, 0)), Err(Rules), "{at} and {other}");
+    }
     accept(&mut buffers, Call::Unmap { space: 3, page: 0 });
     accept(&mut buffers, map(1));
+}
+
+#[test]
+fn a_full_list() {
+    full::<AllPairs>();
+    full::<AllPairsPacked>();
+    full::<Neighbours>();
 }
 
 /// The listed pages with their protections. The whole buffer held something else before the call.
@@ -270,6 +296,7 @@ fn listed<O: Order>(places: &[(u8, u16)]) -> Vec<(u8, u16)> {
 fn each_order_lists_a_mapping_at_its_place() {
     let places = [(2, 7), (3, 0), (1, 7), (0, 1023)];
     assert_eq!(listed::<AllPairs>(&places), places);
+    assert_eq!(listed::<AllPairsPacked>(&places), places);
     assert_eq!(
         listed::<Neighbours>(&places),
         [(0, 1023), (1, 7), (2, 7), (3, 0)]

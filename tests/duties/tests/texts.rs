@@ -1,17 +1,21 @@
-//! Both orders print what the peer prints.
+//! All three programs print what the peer prints.
 
 use compare::generate::accepted_sheet;
 use compare::harness::compare;
-use duties::list::{AllPairs, Neighbours};
+use duties::list::{AllPairs, AllPairsPacked, Neighbours};
 use duties::run;
 use std::fs;
 use std::path::Path;
 
-/// Holds both texts of a sheet to the peer's, and gives it.
+type Program = fn(&[u8]) -> Vec<u8>;
+
+const PROGRAMS: [Program; 3] = [run::<AllPairs>, run::<AllPairsPacked>, run::<Neighbours>];
+
+/// Holds the texts of a sheet to the peer's, and gives it.
 fn check(sheet: &[u8]) -> String {
     let right = String::from_utf8(peer::run(sheet)).unwrap();
-    for text in [run::<AllPairs>(sheet), run::<Neighbours>(sheet)] {
-        assert_eq!(String::from_utf8(text).unwrap(), right);
+    for program in PROGRAMS {
+        assert_eq!(String::from_utf8(program(sheet)).unwrap(), right);
     }
     right
 }
@@ -89,8 +93,8 @@ fn large_sheets() {
 
 #[test]
 fn random_sheets() {
-    for program in [run::<AllPairs>, run::<Neighbours>] {
-        let result = compare(1, 2000, &mut peer::run, &mut { program }, |_| {});
+    for mut program in PROGRAMS {
+        let result = compare(1, 2000, &mut peer::run, &mut program, |_| {});
         let tally = result.unwrap_or_else(|difference| panic!("{difference}"));
         assert!(tally.left_out().is_empty(), "{tally}");
     }
