@@ -107,10 +107,7 @@ impl FrameRecord {
         requires { ⌜ colour < width ⌝ }
         ensures { λ r. ⌜ r ≡ isHeld (stateOf self colour) ⌝ }
     {
-        if bits::bit(self.stale, colour) {
-            return false;
-        }
-        bits::bit(self.held, colour)
+        bits::bit(self.held, colour) & !bits::bit(self.stale, colour)
     }
 
     // Whether a colour is dirty, in any record.
@@ -118,11 +115,7 @@ impl FrameRecord {
         requires { ⌜ colour < width ⌝ }
         ensures { λ r. ⌜ r ≡ isDirty (stateOf self colour) ⌝ }
     {
-        if self.dirty == 1 {
-            self.holds(colour)
-        } else {
-            false
-        }
+        self.holds(colour) & (self.dirty == 1)
     }
 
     // No operation, and the record as it is.
