@@ -11,13 +11,13 @@ use Rattle.board.specs.declared.Board.{Board}
 use Rattle.mapping.specs.declared.Found.the-variants.{Nothing}
 use Rattle.mapping.specs.declared.Mapping.{Mapping}
 use Rattle.mapping.specs.declared.MappingList.{MappingList}
-use Rattle.mapping.specs.Change.{append, remove}
+use Rattle.mapping.specs.Change.{insert, remove}
 use Rattle.mapping.specs.Entry.{capacity}
 use Rattle.mapping.specs.Facts.{InRange, Rules, FoundAt}
-use Rattle.mapping.specs.Lookup.{lookup, mappingOf}
-use Rattle.mapping.proofs.Laws.{append-length, append-rules, mappingOf-append-same, mappingOf-append-other, remove-length, remove-rules, mappingOf-remove-same, mappingOf-remove-other}
+use Rattle.mapping.specs.Lookup.{lookup, mappingOf, placeOf}
+use Rattle.mapping.proofs.Laws.{inserted-length, inserted-rules, mappingOf-inserted-same, mappingOf-inserted-other, remove-length, remove-rules, mappingOf-remove-same, mappingOf-remove-other}
 use Rattle.manager.specs.Calls.{commitUnmap}
-use Rattle.manager.specs.Refusals.{firstRefusal, mapCauses, placeOf}
+use Rattle.manager.specs.Refusals.{firstRefusal, mapCauses}
 use Rattle.manager.specs.Tables.{tables, lengthsRight, refill}
 use Rattle.manager.specs.Theorems.{WellFormed}
 use Rattle.manager.proofs.AcceptedLaws.{map-accepted}
@@ -74,20 +74,20 @@ module _ (b : Board) (st : State) (m : Cacheless) (inv : Invariant b st m) where
   -- ---- map
 
   module _ (mp : Mapping) (range : InRange b mp) (new : lookup (st .tables .list) (mp .space) (mp .page) ≡ Nothing) (room : st .tables .list .count < capacity) where
-    map-sound : Sound b (tables (append (st .tables .list) mp) (st .tables .records) (st .tables .protections))
+    map-sound : Sound b (tables (insert (st .tables .list) mp) (st .tables .records) (st .tables .protections))
     map-sound =
-        list-sound (append (st .tables .list) mp) (append-length (st .tables .list) mp ∙ inv .sound .items-length)
-        (append-rules (st .tables .list) mp (inv .sound .items-length) room b (inv .sound .list-rules) range new)
+        list-sound (insert (st .tables .list) mp) (inserted-length (st .tables .list) mp (inv .sound .items-length) room b (inv .sound .list-rules) ∙ inv .sound .items-length)
+        (inserted-rules (st .tables .list) mp (inv .sound .items-length) room b (inv .sound .list-rules) range new)
 
-    map-listed : (x y : ℕ) → replaced (m .frame) (mp .space) (mp .page) (some (mp .frame)) x y ≡ frameIn (mappingOf (append (st .tables .list) mp) x y)
+    map-listed : (x y : ℕ) → replaced (m .frame) (mp .space) (mp .page) (some (mp .frame)) x y ≡ frameIn (mappingOf (insert (st .tables .list) mp) x y)
     map-listed x y =
-        replaced-cases (λ v. v ≡ frameIn (mappingOf (append (st .tables .list) mp) x y)) (m .frame) (mp .space) (mp .page) (some (mp .frame)) x y
-        (λ p q. sym (ap frameIn (ap₂ (mappingOf (append (st .tables .list) mp)) (sym p) (sym q) ∙ mappingOf-append-same (st .tables .list) mp (inv .sound .items-length) room b (inv .sound .list-rules) range new)))
-        (λ ne. inv .listed x y ∙ sym (ap frameIn (mappingOf-append-other (st .tables .list) mp (inv .sound .items-length) room x y (λ e. ne (e .0) (e .1)))))
+        replaced-cases (λ v. v ≡ frameIn (mappingOf (insert (st .tables .list) mp) x y)) (m .frame) (mp .space) (mp .page) (some (mp .frame)) x y
+        (λ p q. sym (ap frameIn (ap₂ (mappingOf (insert (st .tables .list) mp)) (sym p) (sym q) ∙ mappingOf-inserted-same (st .tables .list) mp (inv .sound .items-length) room b (inv .sound .list-rules) range new)))
+        (λ ne. inv .listed x y ∙ sym (ap frameIn (mappingOf-inserted-other (st .tables .list) mp (inv .sound .items-length) room b (inv .sound .list-rules) range new x y (λ e. ne (e .0) (e .1)))))
 
-    map-kept : Invariant b (state (refill b (tables (append (st .tables .list) mp) (st .tables .records) (st .tables .protections))) (st .store))
+    map-kept : Invariant b (state (refill b (tables (insert (st .tables .list) mp) (st .tables .records) (st .tables .protections))) (st .store))
         (cacheless (m .word) (replaced (m .frame) (mp .space) (mp .page) (some (mp .frame))))
-    map-kept = relisted (append (st .tables .list) mp) (replaced (m .frame) (mp .space) (mp .page) (some (mp .frame))) map-sound map-listed
+    map-kept = relisted (insert (st .tables .list) mp) (replaced (m .frame) (mp .space) (mp .page) (some (mp .frame))) map-sound map-listed
 
   pub map-taken : (space page frame rights : ℕ) → firstRefusal (causes b st (map space page frame rights)) ≡ 0 → Taken b st m (map space page frame rights)
   unfolding accept afterAccepted

@@ -7,9 +7,8 @@ use Rattle.board.specs.declared.Board.{Board}
 use Rattle.mapping.specs.declared.Found.{Found}
 use Rattle.mapping.specs.declared.Found.the-variants.{At, Nothing}
 use Rattle.mapping.specs.Entry.{mappingAt}
-use Rattle.mapping.specs.Lookup.{lookup, mappingOf}
+use Rattle.mapping.specs.Lookup.{lookup, mappingOf, found, isMapped, placeOf}
 use Rattle.mapping.proofs.Laws.{mappingOf-at}
-use Rattle.manager.specs.Refusals.{found, isMapped, placeOf}
 use Rattle.machine.specs.State.{State}
 use Rattle.machine.specs.Step.{pageFrame}
 use Rattle.consistency.specs.Cacheless.{Cacheless}

@@ -19,9 +19,10 @@ use Rattle.page_model.specs.Table as table
 use Rattle.page_model.specs.Theorems.{Idle}
 use Rattle.page_model.proofs.Theorems.{few-operations, state-after}
 use Rattle.mapping.specs.Entry.{capacity, readWrite, mappingAt}
+use Rattle.mapping.specs.Lookup.{isMapped}
 use Rattle.manager.specs.Answers.{accepted}
 use Rattle.manager.specs.Calls.{commitChange}
-use Rattle.manager.specs.Refusals.{firstRefusal, isMapped, isRight}
+use Rattle.manager.specs.Refusals.{firstRefusal, isRight}
 use Rattle.manager.specs.Tables.{Tables, tables, recordAt, lengthsRight, rulesKept, protectionAt, tabulate, refill}
 use Rattle.manager.specs.Theorems.{WellFormed}
 use Rattle.manager.proofs.AcceptedLaws.{lengths-known, records-rules}

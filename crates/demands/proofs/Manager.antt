@@ -8,10 +8,10 @@ use borrow.Author.Tests.{eq-eqb, lt-leb}
 use Rattle.board.specs.declared.Board.{Board}
 use Rattle.board.specs.Board.{colourOf}
 use Rattle.page_model.specs.Table as table
-use Rattle.mapping.specs.Lookup.{lookup}
+use Rattle.mapping.specs.Lookup.{lookup, placeOf, placeFor}
 use Rattle.manager.specs.Answers.{refused}
 use Rattle.manager.specs.Calls.{Result, result, changeOf, planned, placed, stepResult, listResult, commitMap, commitUnmap}
-use Rattle.manager.specs.Refusals.{Cause, firstRefusal, placeIn, refusalPlace, inOrder, placeOf, spaceCause, frameCause, rightsCause, mappedCause, unmappedCause, fullCause, readOnlyCause, tableCauses, mapCauses, writeCauses, transferCauses}
+use Rattle.manager.specs.Refusals.{Cause, firstRefusal, placeIn, refusalPlace, inOrder, spaceCause, frameCause, rightsCause, mappedCause, unmappedCause, fullCause, readOnlyCause, tableCauses, mapCauses, writeCauses, transferCauses}
 use Rattle.cache.specs.Store.{WellFormed}
 use Rattle.machine.specs.Plans.{storeCauses, earlier}
 use Rattle.machine.specs.Refusals.{bufferRight, offsetCause, ownCauses, causes}
@@ -50,7 +50,7 @@ unfolding accept ownCauses inOrder refusalPlace placeIn firstRefusal mapCauses w
 single-agrees b st (map space page frame rights) wf =
     let l = st .tables .list in
     agrees b st (map space page frame rights)
-    (λ n. listResult (st .tables) (λ place. commitMap b (st .tables) (record { space = space; page = page; frame = frame; rights = rights })) (placed n (l .count)))
+    (λ n. listResult (st .tables) (λ place. commitMap b (st .tables) place (record { space = space; page = page; frame = frame; rights = rights })) (placed n (placeFor l space page)))
     refl (λ n. refl) _
     (managers-first b st (map space page frame rights) wf refl []
     (spaceCause space page ∷ frameCause b frame ∷ rightsCause rights ∷ mappedCause l space page ∷ fullCause l ∷ []) refl refl refl refl)

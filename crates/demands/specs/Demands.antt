@@ -15,13 +15,13 @@ use Rattle.page_model.specs.Table.{cellAt}
 use Rattle.page_model.specs.Theorems.{Idle}
 use Rattle.mapping.specs.declared.Mapping.{Mapping}
 use Rattle.mapping.specs.declared.MappingList.{MappingList}
-use Rattle.mapping.specs.Change.{append, remove}
+use Rattle.mapping.specs.Change.{insert, remove}
 use Rattle.mapping.specs.Entry.{capacity, readWrite, mappingAt}
-use Rattle.mapping.specs.Lookup.{lookup}
+use Rattle.mapping.specs.Lookup.{lookup, placeOf}
 use Rattle.manager.specs.Answers.{Outcome, refused, accepted}
 use Rattle.manager.specs.Batch.{itemAt}
 use Rattle.manager.specs.Calls.{noOps}
-use Rattle.manager.specs.Refusals.{Cause, isRight, placeOf}
+use Rattle.manager.specs.Refusals.{Cause, isRight}
 use Rattle.manager.specs.Tables.{Tables, tables, recordAt, protectionAt, tabulate}
 use Rattle.manager.specs.Theorems.{First, WellFormed}
 use Rattle.cache.specs.Cache as hardware
@@ -86,7 +86,7 @@ Modelled b before after o (some s) = ByTable b before after o (s .frame) (s .ste
 
 -- the list after a single call
 abbrev pub listAfter : MappingList → Single → MappingList
-listAfter l (map space page frame rights) = append l (record { space = space; page = page; frame = frame; rights = rights })
+listAfter l (map space page frame rights) = insert l (record { space = space; page = page; frame = frame; rights = rights })
 listAfter l (unmap space page) = remove l (placeOf (lookup l space page))
 listAfter l (read space page offset) = l
 listAfter l (write space page offset word) = l

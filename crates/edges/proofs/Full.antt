@@ -1,6 +1,6 @@
--- Case 4: lists of 255 and of 256 mappings. That no two of them share a page is shown and not computed.
+-- Case 4: lists of 255 and of 256 mappings. That they stand in order is shown and not computed.
 use mathlib.Core.Bool.{true, _&&_}
-use mathlib.Core.Logic.{inl, ⊎-elim}
+use mathlib.Core.Logic.{inl, inr, ⊎-elim}
 use mathlib.Core.Path.{_≡_, refl, sym, ap, subst⁻¹, _∙_}
 use mathlib.Core.List.{[], _∷_}
 use Prim.Native.Nat.{ℕ, zero, suc, _<_, _≤_}
@@ -13,7 +13,7 @@ use Rattle.board.specs.Board.{board01}
 use Rattle.mapping.specs.declared.Mapping.{Mapping}
 use Rattle.mapping.specs.Entry.{capacity, zeroMapping, mappingAt}
 use Rattle.mapping.specs.Facts.{InRange, Rules}
-use Rattle.mapping.proofs.Entry.{maps-cong₂}
+use Rattle.mapping.proofs.Order.{before-cong₂}
 use Rattle.mapping.proofs.Rules.{rules-keepsRules}
 use Rattle.manager.specs.Refusals.{firstRefusal}
 use Rattle.machine.specs.State.{State, Single, map, Result}
@@ -57,7 +57,7 @@ module _ (n : ℕ) (room : n ≤ capacity) where
       record {
         count-le = room;
         in-range = λ i h. subst⁻¹ (λ (m : Mapping). InRange board01 m) (listed-at i h) (record { space-lt = omega arith; page-lt = omega arith; frame-lt = omega arith; rights-of = inl refl });
-        distinct = λ i j hi hj e. maps-cong₂ (listed-at i hi) (listed-at j hj) e .1;
+        ordered = λ i j h k. before-cong₂ (sym (listed-at i (omega arith))) (sym (listed-at j k)) (inr (refl, h));
         rest-zero = rest-at;
       }
 

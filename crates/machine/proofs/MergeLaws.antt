@@ -40,6 +40,17 @@ earlier-second zero n h l = refl
 earlier-second (suc m) zero h l = absurd (h refl)
 earlier-second (suc m) (suc n) h l = rw (lt-leb (refusalPlace (suc m)) (refusalPlace (suc n)) (l (λ z. omega arith)))
 
+-- where there is neither, the second is none
+pub earlier-neither : (m n : ℕ) → earlier m n ≡ 0 → n ≡ 0
+unfolding earlier
+earlier-neither zero n e = e
+earlier-neither (suc m) zero e = refl
+earlier-neither (suc m) (suc n) e = absurd (go (leb (refusalPlace (suc m)) (refusalPlace (suc n))) e)
+  where
+    go : (t : Bool) → cond t (suc m) (suc n) ≡ 0 → ⊥
+    go true z = omega arith
+    go false z = omega arith
+
 earlier-none : (m : ℕ) → m ≡ earlier m 0
 unfolding earlier
 earlier-none zero = refl

@@ -6,12 +6,12 @@ use Prim.Native.Nat.{ℕ, zero, suc}
 use Rattle.board.specs.declared.Board.{Board}
 use Rattle.board.specs.Board.{colourOf}
 use Rattle.page_model.specs.Table as table
-use Rattle.mapping.specs.Lookup.{lookup}
+use Rattle.mapping.specs.Lookup.{lookup, placeOf, listedMapping, placeFor}
 use Rattle.manager.specs.declared.Change.{Change}
 use Rattle.manager.specs.Answers as operation
 use Rattle.manager.specs.Answers.{Outcome, refused, accepted, FrameOperation, firstOperation, secondOperation}
 use Rattle.manager.specs.Calls.{noOps, changeOf, commitChange, commitMap, commitUnmap}
-use Rattle.manager.specs.Refusals.{firstRefusal, placeOf, listedMapping}
+use Rattle.manager.specs.Refusals.{firstRefusal}
 use Rattle.manager.specs.Tables.{Tables, refill}
 use Rattle.cache.specs.Cache as hardware
 use Rattle.cache.specs.Store.{Store}
@@ -57,7 +57,7 @@ pageFrame st space page = listedMapping (st .tables .list) space page .frame
 
 unfoldable pub accept : Board → State → Single → Result
 accept b st (map space page frame rights) =
-    listed (commitMap b (st .tables) (record { space = space; page = page; frame = frame; rights = rights })) (st .store)
+    listed (commitMap b (st .tables) (placeFor (st .tables .list) space page) (record { space = space; page = page; frame = frame; rights = rights })) (st .store)
 accept b st (unmap space page) = listed (commitUnmap b (st .tables) (placeOf (lookup (st .tables .list) space page))) (st .store)
 accept b st (read space page offset) =
     let f : ℕ = pageFrame st space page in

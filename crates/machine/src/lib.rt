@@ -23,6 +23,9 @@ use mapping::Batch;
 use mapping::Mapping;
 use mapping::MappingList;
 
+// The colours of the board, as a number by itself: see the manager's.
+const COLOURS: usize = BOARD01.colours;
+
 // The answer of a read: the refusal's number, or the operations and the word.
 pub enum Loaded {
     Refused(u8),
@@ -46,10 +49,10 @@ pub fn map(
         (call.map (m .space) (m .page) (m .frame) (m .rights)) ⌝ }
 {
     let plan = plans::plan_map(BOARD01, list, records, protections, memory, words, tags, m);
-    let ListPlan::Place(_) = plan else {
+    let ListPlan::Place(place) = plan else {
         return manager::refused_as(list, place_refusal(plan));
     };
-    manager::listed_as(manager::commit_map(BOARD01, list, records, protections, m))
+    manager::listed_as(manager::commit_map(COLOURS, list, records, protections, place, m))
 }
 
 // Gives each item's page its frame, in order, and answers each: 0, or the number of its refusal. Only 1 and 12 refuse the whole.
@@ -104,7 +107,7 @@ pub fn unmap(
     let ListPlan::Place(place) = plan else {
         return manager::refused_as(list, place_refusal(plan));
     };
-    manager::listed_as(manager::commit_unmap(BOARD01, list, records, protections, place))
+    manager::listed_as(manager::commit_unmap(COLOURS, list, records, protections, place))
 }
 
 // The processor reads a word.
@@ -143,7 +146,7 @@ pub fn read(
     let frame = change.frame;
     let next = change.next;
     let ops = change.ops;
-    manager::commit_change(BOARD01, list, records, protections, frame, next);
+    manager::commit_change(COLOURS, list, records, protections, frame, next);
     let colour = board::colour_of(BOARD01, page as usize);
     let word = operations::load(
         BOARD01,
@@ -195,7 +198,7 @@ pub fn write(
     let frame = change.frame;
     let next = change.next;
     let ops = change.ops;
-    manager::commit_change(BOARD01, list, records, protections, frame, next);
+    manager::commit_change(COLOURS, list, records, protections, frame, next);
     let colour = board::colour_of(BOARD01, page as usize);
     operations::put(
         BOARD01,
@@ -245,7 +248,7 @@ pub fn device_read(
     let frame = change.frame;
     let next = change.next;
     let ops = change.ops;
-    manager::commit_change(BOARD01, list, records, protections, frame, next);
+    manager::commit_change(COLOURS, list, records, protections, frame, next);
     operations::send(BOARD01, memory, words, tags, frame as usize, ops, buffer);
     Answer::Accepted(FrameOps { frame, ops })
 }
@@ -284,7 +287,7 @@ pub fn device_write(
     let frame = change.frame;
     let next = change.next;
     let ops = change.ops;
-    manager::commit_change(BOARD01, list, records, protections, frame, next);
+    manager::commit_change(COLOURS, list, records, protections, frame, next);
     operations::receive(BOARD01, memory, words, tags, frame as usize, ops, buffer);
     Answer::Accepted(FrameOps { frame, ops })
 }
@@ -318,7 +321,7 @@ pub fn evict(
     if refusal != 0 {
         return Answer::Refused(refusal);
     }
-    manager::records::refill(BOARD01, list, records, protections);
+    manager::records::refill(COLOURS, list, records, protections);
     cache::line::evict(BOARD01, memory, words, tags, line);
     manager::no_operations()
 }

@@ -5,10 +5,10 @@ ghost use lib.Dec.{eqb};
 ghost use lib.ListN.{length};
 ghost use Rattle.board.specs.Board.{Regular, colourOf};
 ghost use Rattle.page_model.specs.Table as step;
-ghost use Rattle.mapping.specs.Lookup.{lookup};
+ghost use Rattle.mapping.specs.Lookup.{lookup, placeOf, listedMapping, placeFor};
 ghost use Rattle.manager.specs.Calls.{changeOf};
 ghost use Rattle.manager.specs.Tables.{tables};
-ghost use Rattle.manager.specs.Refusals.{firstRefusal, placeOf, listedMapping, tableCauses};
+ghost use Rattle.manager.specs.Refusals.{firstRefusal, tableCauses};
 ghost use Rattle.cache.specs.Store.{store};
 ghost use Rattle.machine.specs.Refusals.{causes};
 ghost use Rattle.machine.specs.State as call;
@@ -35,7 +35,7 @@ pub fn plan_map(
     requires { ⌜ Regular board ⌝ }
     ensures { λ r. ⌜ r ≡ planPlace board
         (machineOf list (now (records .entry)) (now (protections .entry)) (now (memory .entry)) (now (words .entry)) (now (tags .entry)))
-        (call.map (m .space) (m .page) (m .frame) (m .rights)) (list .count) ⌝ }
+        (call.map (m .space) (m .page) (m .frame) (m .rights)) (placeFor list (m .space) (m .page)) ⌝ }
 {
     let own = store_refusal(board, memory, words, tags);
     let plan = manager::plan_map(board, list, records, protections, m);
@@ -175,7 +175,8 @@ pub fn evict_refusal(
         (call.evict line)) ⌝ }
 {
     let own = access_refusal(board, memory, words, tags, board::lines(board), line);
-    let managers = manager::refusals::tables_refusal(board, list, records, protections);
+    let kept = mapping::keeps_rules(board, list);
+    let managers = manager::refusals::tables_refusal(board, kept, records, protections);
     earlier(own, managers)
 }
 
@@ -194,7 +195,8 @@ pub fn lent_refusal(
         (firstRefusal (tableCauses board (tables list (now (records .entry)) (now (protections .entry))))) ⌝ }
 {
     let own = store_refusal(board, memory, words, tags);
-    let managers = manager::refusals::tables_refusal(board, list, records, protections);
+    let kept = mapping::keeps_rules(board, list);
+    let managers = manager::refusals::tables_refusal(board, kept, records, protections);
     earlier(own, managers)
 }
 

@@ -1,7 +1,7 @@
 -- What tables that keep their rules, and a map of which no cause of refusal applies, tell part by part.
-use mathlib.Core.Path.{_≡_, refl, sym}
+use mathlib.Core.Path.{_≡_, refl, sym, _∙_}
 use mathlib.Core.Bool.{Bool, true, false, _&&_, _||_, false≢true}
-use mathlib.Core.Logic.{inl, inr, ⊎-elim}
+use mathlib.Core.Logic.{_≢_, inl, inr, ⊎-elim}
 use Prim.Native.Nat.{_*_, _<_}
 use native.Mathlib.Omega.{arith}
 use borrow.Author.Tests.{eqb-true, eqb-false, leb-false, not-false}
@@ -13,15 +13,17 @@ use Rattle.board.specs.Board.{spaces, pages}
 use Rattle.mapping.specs.declared.Found.{Found}
 use Rattle.mapping.specs.declared.Found.the-variants.{At, Nothing}
 use Rattle.mapping.specs.declared.Mapping.{Mapping}
+use Rattle.mapping.specs.declared.MappingList.{MappingList}
 use Rattle.mapping.specs.Entry.{capacity}
 use Rattle.mapping.specs.Facts.{InRange}
-use Rattle.mapping.specs.Lookup.{lookup}
+use Rattle.mapping.specs.Lookup.{lookup, found}
 use Rattle.mapping.specs.Rules as list-of
 use Rattle.mapping.proofs.Tests.{or-either}
-use Rattle.manager.specs.Refusals.{firstRefusal, mapCauses, found}
+use Rattle.manager.specs.Refusals.{firstRefusal, tableCauses, mapCauses, mappingCauses}
+use Rattle.manager.specs.Inserted.{mappingRefusal}
 use Rattle.manager.specs.Tables.{Tables, recordWords, recordsKeepRules, lengthsRight, rulesKept}
 use Rattle.manager.specs.Theorems.{WellFormed}
-use Rattle.manager.proofs.CauseLaws.{list-rules, none-applies}
+use Rattle.manager.proofs.CauseLaws.{list-rules, none-applies, refusal-rest}
 
 -- ---- the tables' lengths and rules, part by part
 
@@ -50,22 +52,31 @@ not-found : (f : Found) → found f ≡ false → f ≡ Nothing
 not-found (At i) e = absurd (false≢true (sym e))
 not-found Nothing e = refl
 
-pub map-accepted : (b : Board) (t : Tables) (m : Mapping) → firstRefusal (mapCauses b t (m .space) (m .page) (m .frame) (m .rights)) ≡ 0
-    → WellFormed b t × InRange b m × (lookup (t .list) (m .space) (m .page) ≡ Nothing) × (t .list .count < capacity)
-unfolding mapCauses
-map-accepted b t m e =
-    let n = none-applies (mapCauses b t (m .space) (m .page) (m .frame) (m .rights)) refl e in
-    let within = or-neither (leb spaces (m .space)) (leb pages (m .page)) (n .1 .1 .0) in
-    let kept : rulesKept b t ≡ true = not-false _ (n .1 .0) in
-    let some = list-rules b t kept .count-le in
-    let room = eqb-false (t .list .count) capacity (n .1 .1 .1 .1 .1 .1 .0) in (
-      (not-false _ (n .0), kept),
+-- a mapping that the list does not refuse
+pub mapping-accepted : (b : Board) (l : MappingList) (m : Mapping) → mappingRefusal b l m ≡ 0
+    → InRange b m × (lookup l (m .space) (m .page) ≡ Nothing) × (l .count ≢ capacity)
+unfolding mappingRefusal
+mapping-accepted b l m e =
+    let n = none-applies (mappingCauses b l (m .space) (m .page) (m .frame) (m .rights)) refl e in
+    let within = or-neither (leb spaces (m .space)) (leb pages (m .page)) (n .0) in (
       record {
         space-lt = leb-false _ _ (within .0);
         page-lt = leb-false _ _ (within .1);
-        frame-lt = leb-false _ _ (n .1 .1 .1 .0);
-        rights-of = ⊎-elim (λ r. inl (eqb-true _ _ r)) (λ r. inr (eqb-true _ _ r)) (or-either _ _ (not-false _ (n .1 .1 .1 .1 .0)));
+        frame-lt = leb-false _ _ (n .1 .0);
+        rights-of = ⊎-elim (λ r. inl (eqb-true _ _ r)) (λ r. inr (eqb-true _ _ r)) (or-either _ _ (not-false _ (n .1 .1 .0)));
       },
-      not-found _ (n .1 .1 .1 .1 .1 .0),
-      omega arith,
+      not-found _ (n .1 .1 .1 .0),
+      eqb-false (l .count) capacity (n .1 .1 .1 .1 .0),
     )
+
+pub map-accepted : (b : Board) (t : Tables) (m : Mapping) → firstRefusal (mapCauses b t (m .space) (m .page) (m .frame) (m .rights)) ≡ 0
+    → WellFormed b t × InRange b m × (lookup (t .list) (m .space) (m .page) ≡ Nothing) × (t .list .count < capacity)
+unfolding firstRefusal mapCauses mappingRefusal tableCauses
+map-accepted b t m e =
+    let n = none-applies (mapCauses b t (m .space) (m .page) (m .frame) (m .rights)) refl e in
+    let kept : rulesKept b t ≡ true = not-false _ (n .1 .0) in
+    let lengths : lengthsRight b t ≡ true = not-false _ (n .0) in
+    let some = list-rules b t kept .count-le in
+    let own = mapping-accepted b (t .list) m (refusal-rest (tableCauses b t) (mappingCauses b (t .list) (m .space) (m .page) (m .frame) (m .rights)) refl (rw (lengths, kept)) ∙ e) in
+    let room = own .2 in
+    ((lengths, kept), own .0, own .1, omega arith)

@@ -11,9 +11,9 @@ use Rattle.board.specs.declared.Board.{Board}
 use Rattle.mapping.specs.declared.Mapping.{Mapping}
 use Rattle.mapping.specs.declared.MappingList.{MappingList}
 use Rattle.mapping.specs.Batch.{batchSize}
-use Rattle.mapping.specs.Change.{append}
+use Rattle.mapping.specs.Change.{insert}
 use Rattle.manager.specs.Answers.{Outcome, refused, accepted}
-use Rattle.manager.specs.Appended.{mappingRefusal, listedBy, listAfter, refusalAt, relisted, listedAll, wholeRefusal, batchMade}
+use Rattle.manager.specs.Inserted.{mappingRefusal, listedBy, listAfter, refusalAt, relisted, listedAll, wholeRefusal, batchMade}
 use Rattle.manager.specs.Batch.{itemAt, BatchResult, batchResult, wholeResult}
 use Rattle.manager.specs.Calls.{noOps}
 use Rattle.manager.specs.Refusals.{_if_, batchCause}
@@ -23,7 +23,7 @@ use Rattle.manager.proofs.CauseLaws.{none-applies}
 
 -- ---- one more item
 
-pub listed-accepted : (n : ℕ) (l : MappingList) (m : Mapping) → n ≡ 0 → append l m ≡ listedBy n l m
+pub listed-accepted : (n : ℕ) (l : MappingList) (m : Mapping) → n ≡ 0 → insert l m ≡ listedBy n l m
 listed-accepted zero l m e = refl
 listed-accepted (suc n) l m e = absurd (omega arith)
 

@@ -1,8 +1,8 @@
 -- Laws of the causes of refusal: what a refusal, or none, tells of the conditions, and what the conditions of the tables tell of them.
 use mathlib.Core.Path.{_≡_, refl, sym, ap, ap₂, _∙_}
-use mathlib.Core.Bool.{Bool, true, false, not, cond, _&&_, and-false, false≢true}
+use mathlib.Core.Bool.{Bool, true, false, not, cond, _&&_, false≢true}
 use mathlib.Core.List.{List, [], _∷_, _++_}
-use Prim.Native.Nat.{ℕ, _*_, _<_}
+use Prim.Native.Nat.{ℕ, zero, suc, _*_, _<_}
 use native.Mathlib.Omega.{arith}
 use borrow.Author.Tests.{eq-eqb, ltb-true, leb-false, not-false}
 use lib.Dec.{eqb, leb, ltb}
@@ -11,18 +11,18 @@ use Rattle.bits.proofs.Mask.{all-at}
 use Rattle.bits.proofs.Tautology.{and-left, and-right}
 use Rattle.board.specs.declared.Board.{Board}
 use Rattle.page_model.specs.Record as record-of
-use Rattle.mapping.specs.declared.Mapping.{Mapping}
 use Rattle.mapping.specs.declared.MappingList.{MappingList}
 use Rattle.mapping.specs.Entry.{capacity}
 use Rattle.mapping.specs.declared.Found.{Found}
+use Rattle.mapping.specs.declared.Seen.{Seen}
 use Rattle.mapping.specs.declared.Found.the-variants.{At, Nothing}
 use Rattle.mapping.specs.Facts.{InRange, Rules, FoundAt}
-use Rattle.mapping.specs.Lookup.{lookup}
+use Rattle.mapping.specs.Look.{find, look}
+use Rattle.mapping.specs.Lookup.{lookup, found, isMapped, placeOf, listedMapping, placeFor}
 use Rattle.mapping.specs.Rules as list-of
-use Rattle.mapping.proofs.Laws.{keepsRules-true, lookup-at}
-use Rattle.manager.specs.Refusals.{Cause, firstRefusal, tableCauses, pageCauses, writeCauses, transferCauses, outOfSpace, isRight, found, isMapped, placeOf, listedMapping}
-use Rattle.manager.specs.Appended.{mappingRefusal}
-use Rattle.manager.specs.Tables.{Tables, recordWords, recordAt, recordsKeepRules, lengthsRight, rulesKept}
+use Rattle.mapping.proofs.Laws.{keepsRules-true, lookup-at, found-place, look-kept, look-broken}
+use Rattle.manager.specs.Refusals.{Cause, firstRefusal, tableCauses, pageCauses, writeCauses, transferCauses, frameCause, toldTables, toldMapping, toldPage, outOfSpace, isRight}
+use Rattle.manager.specs.Tables.{Tables, tables, recordWords, recordAt, recordsKeepRules, lengthsRight, rulesKept}
 
 -- ---- the lent tables
 
@@ -31,41 +31,14 @@ abbrev refusal2 : Bool → Bool → ℕ → ℕ
 refusal2 lengths rules rest = cond (not lengths) 1 (cond (not rules) 2 rest)
 
 module _ (b : Board) (t : Tables) where
-  pub lengths-records : eqb (length (t .records)) (b .frames * recordWords) ≡ false → lengthsRight b t ≡ false
-  unfolding lengthsRight
-  lengths-records e = rw (e, and-false)
-
-  pub lengths-protections : eqb (length (t .protections)) capacity ≡ false → lengthsRight b t ≡ false
-  unfolding lengthsRight
-  lengths-protections e = rw (e, and-false)
-
   pub lengths-right : length (t .list .items) ≡ capacity → length (t .records) ≡ b .frames * recordWords → length (t .protections) ≡ capacity
       → lengthsRight b t ≡ true
   unfolding lengthsRight
   lengths-right l r p = ap₂ _&&_ (ap₂ _&&_ (eq-eqb _ _ l) (eq-eqb _ _ r)) (eq-eqb _ _ p)
 
-  pub rules-list : list-of.keepsRules b (t .list) ≡ false → rulesKept b t ≡ false
-  unfolding rulesKept
-  rules-list e = rw e
-
-  pub rules-records : recordsKeepRules b (t .records) ≡ false → rulesKept b t ≡ false
-  unfolding rulesKept
-  rules-records e = rw (e, and-false)
-
   pub rules-kept : list-of.keepsRules b (t .list) ≡ true → recordsKeepRules b (t .records) ≡ true → rulesKept b t ≡ true
   unfolding rulesKept
   rules-kept l r = ap₂ _&&_ l r
-
-  -- the refusal of the tables stands before any other
-  pub tables-refuse : (rest : ℕ) → (firstRefusal (tableCauses b t) ≡ 0 → ⊥)
-      → firstRefusal (tableCauses b t) ≡ refusal2 (lengthsRight b t) (rulesKept b t) rest
-  unfolding firstRefusal tableCauses
-  tables-refuse rest = go (lengthsRight b t) (rulesKept b t)
-    where
-      go : (l r : Bool) → (refusal2 l r 0 ≡ 0 → ⊥) → refusal2 l r 0 ≡ refusal2 l r rest
-      go true true h = absurd (h refl)
-      go true false h = refl
-      go false r h = refl
 
   -- where the tables give none, they have their lengths and keep their rules
   pub tables-clear : firstRefusal (tableCauses b t) ≡ 0 → (lengthsRight b t ≡ true) × (rulesKept b t ≡ true)
@@ -77,23 +50,18 @@ module _ (b : Board) (t : Tables) where
       go true false h = absurd (omega arith)
       go false r h = absurd (omega arith)
 
-  -- past the tables, a call's refusal is what is known of its other conditions, in their order
-  module _ (clear : (lengthsRight b t ≡ true) × (rulesKept b t ≡ true)) where
-    pub transfer-refusal-is : (frame : ℕ) {f : Bool} → leb (b .frames) frame ≡ f → cond f 4 0 ≡ firstRefusal (transferCauses b t frame)
-    unfolding firstRefusal transferCauses
-    transfer-refusal-is frame ef = rw (clear .0, clear .1, ef)
+-- ---- a refusal by what was told is what is known of its conditions, in their order
 
-    pub page-refusal-is : (space page : ℕ) {o m : Bool} → outOfSpace space page ≡ o → isMapped (t .list) space page ≡ m
-        → cond o 3 (cond (not m) 8 0) ≡ firstRefusal (pageCauses b t space page)
-    unfolding firstRefusal pageCauses
-    page-refusal-is space page eo em = rw (clear .0, clear .1, eo, em)
+pub mapping-refusal-is : (b : Board) (space page frame rights : ℕ) (seen : Seen) {o f r t n : Bool} → outOfSpace space page ≡ o → leb (b .frames) frame ≡ f
+    → isRight rights ≡ r → seen .mapped ≡ t → eqb (seen .count) capacity ≡ n
+    → cond o 3 (cond f 4 (cond (not r) 5 (cond t 7 (cond n 9 0)))) ≡ firstRefusal (toldMapping b space page frame rights seen)
+unfolding firstRefusal
+mapping-refusal-is b space page frame rights seen eo ef er et en = rw (eo, ef, er, et, en)
 
--- the refusal of a mapping in its numbers and the list is what is known of its conditions, in their order
-pub mapping-refusal-is : (b : Board) (l : MappingList) (m : Mapping) {o f r t n : Bool} → outOfSpace (m .space) (m .page) ≡ o → leb (b .frames) (m .frame) ≡ f
-    → isRight (m .rights) ≡ r → isMapped l (m .space) (m .page) ≡ t → eqb (l .count) capacity ≡ n
-    → cond o 3 (cond f 4 (cond (not r) 5 (cond t 7 (cond n 9 0)))) ≡ mappingRefusal b l m
-unfolding firstRefusal mappingRefusal
-mapping-refusal-is b l m eo ef er et en = rw (eo, ef, er, et, en)
+pub page-refusal-is : (space page : ℕ) (seen : Seen) {o m : Bool} → outOfSpace space page ≡ o → seen .mapped ≡ m
+    → cond o 3 (cond (not m) 8 0) ≡ firstRefusal (toldPage space page seen)
+unfolding firstRefusal
+page-refusal-is space page seen eo em = rw (eo, em)
 
 -- ---- no refusal: no cause applies
 
@@ -135,6 +103,15 @@ refusal-rest (c ∷ cs) ds n e =
     refusal-rest cs ds (and-right (ltb 0 (c .number)) _ n) (ap (λ (t : Bool). cond t (c .number) (firstRefusal cs)) (sym (none .0)) ∙ e)
     ∙ ap (λ (t : Bool). cond t (c .number) (firstRefusal (cs ++ ds))) (sym (none .0))
 
+-- the causes behind those of the tables
+module _ (b : Board) (kept : Bool) (rs ps : List ℕ) (own : List Cause) where
+  pub told-first : (firstRefusal (toldTables b kept rs ps) ≡ 0 → ⊥) → firstRefusal (toldTables b kept rs ps) ≡ firstRefusal (toldTables b kept rs ps ++ own)
+  told-first = refusal-prefix (toldTables b kept rs ps) own
+
+  pub told-past : firstRefusal (toldTables b kept rs ps) ≡ 0 → firstRefusal own ≡ firstRefusal (toldTables b kept rs ps ++ own)
+  unfolding toldTables
+  told-past = refusal-rest (toldTables b kept rs ps) own refl
+
 -- ---- what the tables' rules tell of a frame
 
 module _ (b : Board) (t : Tables) (kept : rulesKept b t ≡ true) where
@@ -162,6 +139,56 @@ module _ (b : Board) (t : Tables) (kept : rulesKept b t ≡ true) where
       → record-of.keepsRules (b .colours) (recordAt (t .records) (listedMapping (t .list) space page .frame)) ≡ true
   mapped-rules space page e = record-rules _ (mapped-range space page e .frame-lt)
 
+-- ---- what a look at the list tells
+
+pub list-keeps : (b : Board) (t : Tables) → rulesKept b t ≡ true → list-of.keepsRules b (t .list) ≡ true
+unfolding rulesKept
+list-keeps b t = and-left _ (recordsKeepRules b (t .records))
+
+-- the refusal of the tables, by whether their list keeps its rules
+pub told-tables : (b : Board) (l : MappingList) (rs ps : List ℕ) {kept : Bool} → length (l .items) ≡ capacity → kept ≡ list-of.keepsRules b l
+    → firstRefusal (toldTables b kept rs ps) ≡ firstRefusal (tableCauses b (tables l rs ps))
+unfolding firstRefusal toldTables tableCauses lengthsRight rulesKept
+told-tables b l rs ps long e = rw (eq-eqb _ _ long, e)
+
+module _ (b : Board) (l : MappingList) (s p : ℕ) {seen : Seen} (told : seen ≡ look b l s p) where
+  told-kept : seen .kept ≡ list-of.keepsRules b l
+  told-kept = ap (λ (x : Seen). x .kept) told ∙ go (list-of.keepsRules b l) refl
+    where
+      go : (t : Bool) → list-of.keepsRules b l ≡ t → look b l s p .kept ≡ t
+      go true e = ap (λ (x : Seen). x .kept) (look-kept b l s p e)
+      go false e = ap (λ (x : Seen). x .kept) (look-broken b l s p e)
+
+  pub told-found : list-of.keepsRules b l ≡ true → seen ≡ find l s p
+  told-found kept = told ∙ look-kept b l s p kept
+
+  -- the refusal by what was told is that of the tables
+  pub told-rest : (rs ps : List ℕ) (own : Seen → List Cause) → length (l .items) ≡ capacity
+      → firstRefusal (toldTables b (seen .kept) rs ps ++ own seen) ≡ firstRefusal (tableCauses b (tables l rs ps) ++ own (find l s p))
+  unfolding toldTables tableCauses
+  told-rest rs ps own long = go (firstRefusal (toldTables b (seen .kept) rs ps)) refl
+    where
+      same : firstRefusal (toldTables b (seen .kept) rs ps) ≡ firstRefusal (tableCauses b (tables l rs ps))
+      same = told-tables b l rs ps long told-kept
+
+      go : (n : ℕ) → firstRefusal (toldTables b (seen .kept) rs ps) ≡ n
+          → firstRefusal (toldTables b (seen .kept) rs ps ++ own seen) ≡ firstRefusal (tableCauses b (tables l rs ps) ++ own (find l s p))
+      go zero e =
+          let none = sym same ∙ e in
+          sym (refusal-rest (toldTables b (seen .kept) rs ps) (own seen) refl e)
+          ∙ ap (λ (x : Seen). firstRefusal (own x)) (told-found (list-keeps b (tables l rs ps) (tables-clear b (tables l rs ps) none .1)))
+          ∙ refusal-rest (tableCauses b (tables l rs ps)) (own (find l s p)) refl none
+      go (suc n) e =
+          sym (refusal-prefix (toldTables b (seen .kept) rs ps) (own seen) (λ z. omega arith))
+          ∙ same
+          ∙ refusal-prefix (tableCauses b (tables l rs ps)) (own (find l s p)) (λ z. let w = sym same ∙ e in omega arith)
+
+-- and of a transfer
+pub told-frame : (b : Board) (l : MappingList) (rs ps : List ℕ) (frame : ℕ) {kept : Bool} → length (l .items) ≡ capacity → kept ≡ list-of.keepsRules b l
+    → firstRefusal (toldTables b kept rs ps ++ frameCause b frame ∷ []) ≡ firstRefusal (transferCauses b (tables l rs ps) frame)
+unfolding firstRefusal toldTables transferCauses lengthsRight rulesKept
+told-frame b l rs ps frame long e = rw (eq-eqb _ _ long, e)
+
 -- ---- an accepted step: the record that it is made of keeps the rules
 
 module _ (b : Board) (t : Tables) (space page : ℕ) where
@@ -185,3 +212,18 @@ unfolding transferCauses
 transfer-rules b t f e =
     let n = none-applies (transferCauses b t f) refl e in
     record-rules b t (not-false _ (n .1 .0)) f (leb-false (b .frames) f (n .1 .1 .0))
+
+-- ---- a call that is not refused: the list keeps its rules
+
+pub call-list-keeps : (b : Board) (t : Tables) (own : List Cause) → numbered own ≡ true → firstRefusal (tableCauses b t ++ own) ≡ 0 → list-of.keepsRules b (t .list) ≡ true
+unfolding tableCauses
+call-list-keeps b t own n e = list-keeps b t (not-false _ (none-applies (tableCauses b t ++ own) n e .1 .0))
+
+-- the place of a page that is mapped is where a mapping of it would go
+pub page-place : (b : Board) (t : Tables) (space page : ℕ) → firstRefusal (pageCauses b t space page) ≡ 0
+    → placeFor (t .list) space page ≡ placeOf (lookup (t .list) space page)
+unfolding pageCauses
+page-place b t space page e =
+    let n = none-applies (pageCauses b t space page) refl e in
+    let kept = not-false _ (n .1 .0) in
+    found-place b (t .list) (list-rules b t kept) space page _ (mapped-found b t kept space page (not-false _ (n .1 .1 .1 .0)))

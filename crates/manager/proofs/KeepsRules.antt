@@ -9,13 +9,12 @@ use Rattle.page_model.specs.Table as step
 use Rattle.page_model.proofs.Theorems.{step-keeps-rules}
 use Rattle.mapping.specs.declared.Found.the-variants.{Nothing}
 use Rattle.mapping.specs.declared.Mapping.{Mapping}
-use Rattle.mapping.specs.Change.{append, remove}
+use Rattle.mapping.specs.Change.{insert, remove}
 use Rattle.mapping.specs.Entry.{capacity}
 use Rattle.mapping.specs.Facts.{InRange, Rules}
-use Rattle.mapping.specs.Lookup.{lookup}
-use Rattle.mapping.proofs.Laws.{rules-keepsRules, append-length, append-rules, remove-length, remove-rules}
+use Rattle.mapping.specs.Lookup.{lookup, isMapped, placeOf, listedMapping, placeFor}
+use Rattle.mapping.proofs.Laws.{rules-keepsRules, inserted-length, inserted-rules, remove-length, remove-rules}
 use Rattle.manager.specs.Calls.{commitMap, commitUnmap, commitChange}
-use Rattle.manager.specs.Refusals.{isMapped, placeOf, listedMapping}
 use Rattle.manager.specs.Tables.{Tables, tables, recordWords, recordAt, putRecord, recordsKeepRules, refill}
 use Rattle.manager.specs.Theorems.{WellFormed}
 use Rattle.manager.proofs.CauseLaws.{lengths-right, rules-kept, list-rules, record-rules, mapped-found, mapped-range}
@@ -45,11 +44,12 @@ module _ (b : Board) (t : Tables) (w : WellFormed b t) where
       → WellFormed b (commitChange b t (listedMapping (t .list) space page .frame) (stepped (b .colours) s (recordAt (t .records) (listedMapping (t .list) space page .frame)) .next))
   page-keeps space page s m = step-keeps _ s (mapped-range b t (w .1) space page m .frame-lt)
 
-  pub map-keeps : (m : Mapping) → InRange b m → lookup (t .list) (m .space) (m .page) ≡ Nothing → t .list .count < capacity → WellFormed b (commitMap b t m)
+  pub map-keeps : (m : Mapping) → InRange b m → lookup (t .list) (m .space) (m .page) ≡ Nothing → t .list .count < capacity → WellFormed b (commitMap b t (placeFor (t .list) (m .space) (m .page)) m)
   map-keeps m range fresh room =
       let n = lengths-known b t (w .0) in
-      refill-keeps b (tables (append (t .list) m) (t .records) (t .protections)) (append-length (t .list) m ∙ n .0) (n .1) (n .2)
-      (append-rules (t .list) m (n .0) room b (list-rules b t (w .1)) range fresh) (records-rules b t (w .1))
+      let rules = list-rules b t (w .1) in
+      refill-keeps b (tables (insert (t .list) m) (t .records) (t .protections)) (inserted-length (t .list) m (n .0) room b rules ∙ n .0) (n .1) (n .2)
+      (inserted-rules (t .list) m (n .0) room b rules range fresh) (records-rules b t (w .1))
 
   pub unmap-keeps : (space page : ℕ) → isMapped (t .list) space page ≡ true → WellFormed b (commitUnmap b t (placeOf (lookup (t .list) space page)))
   unmap-keeps space page mapped =

@@ -1,11 +1,12 @@
 -- Laws of the lent tables: a table of f's values, and what a protection is by three tests.
 use mathlib.Core.Path.{_≡_, refl, sym, ap, ap₂, subst, _∙_}
-use mathlib.Core.Bool.{Bool, true, false, cond, _&&_, and-false, false≢true}
+use mathlib.Core.Bool.{Bool, true, false, cond, _&&_}
 use mathlib.Core.List.{List}
 use Prim.Native.Nat.{ℕ, zero, suc, _+_, _<_}
 use native.Mathlib.Omega.{arith}
 use borrow.Author.Count.{below-more}
 use native.Mathlib.Nat.{lt-irrefl}
+use mir.Val.{boolByte}
 use lib.Dec.{eqb}
 use lib.ListN.{length, getD, set}
 use lib.Seq.{ext-getD, getD-set-same, getD-set-other}
@@ -51,26 +52,17 @@ set-more l i v f li h e =
 
 -- ---- protections
 
--- a colour that is not held lets nothing pass
-pub protection-none : (s : ColourState) (rights : ℕ) → isHeld s ≡ false → 0 ≡ protection s rights
+-- a read passes if the colour is held, and a write too if it is dirty and the rights allow it
+pub protection-sum : (s : ColourState) (rights : ℕ) → boolByte (isHeld s) + boolByte (isDirty s && eqb rights readWrite) ≡ protection s rights
 unfolding protection
-protection-none empty rights e = refl
-protection-none present rights e = absurd (false≢true (sym e))
-protection-none dirty rights e = absurd (false≢true (sym e))
-protection-none stale rights e = refl
-
--- a held one lets a read pass, and a write too if it is dirty and the rights allow it
-pub protection-rights : (s : ColourState) (rights : ℕ) → isHeld s ≡ true → eqb rights readWrite ≡ false → 1 ≡ protection s rights
-unfolding protection
-protection-rights s rights h w = sym (ap₂ (λ (t u : Bool). cond (isDirty s && t) 2 (digit u)) w h ∙ ap (λ (t : Bool). cond t 2 1) (and-false (isDirty s)))
-
-pub protection-clean : (s : ColourState) (rights : ℕ) → isHeld s ≡ true → isDirty s ≡ false → 1 ≡ protection s rights
-unfolding protection
-protection-clean s rights h d = sym (ap₂ (λ (t u : Bool). cond (t && eqb rights readWrite) 2 (digit u)) d h)
-
-pub protection-write : (s : ColourState) (rights : ℕ) → isDirty s ≡ true → eqb rights readWrite ≡ true → 2 ≡ protection s rights
-unfolding protection
-protection-write s rights d w = sym (ap₂ (λ (t u : Bool). cond (t && u) 2 (digit (isHeld s))) d w)
+protection-sum s rights = go s (eqb rights readWrite)
+  where
+    go : (s : ColourState) (t : Bool) → boolByte (isHeld s) + boolByte (isDirty s && t) ≡ cond (isDirty s && t) 2 (digit (isHeld s))
+    go empty t = refl
+    go present t = refl
+    go dirty true = refl
+    go dirty false = refl
+    go stale t = refl
 
 -- the state of the colour through which a mapping goes, from its record and its colour
 pub state-at : (b : Board) (rs : List ℕ) (m : Mapping) {r : FrameRecord} {k : ℕ} → r ≡ recordAt rs (m .frame) → k ≡ colourOf b (m .page)

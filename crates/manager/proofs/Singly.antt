@@ -10,18 +10,19 @@ use lib.ListN.{length}
 use Rattle.board.specs.declared.Board.{Board}
 use Rattle.mapping.specs.declared.Mapping.{Mapping}
 use Rattle.mapping.specs.declared.MappingList.{MappingList}
-use Rattle.mapping.specs.Change.{append}
-use Rattle.mapping.proofs.Laws.{append-count}
+use Rattle.mapping.specs.Change.{insert}
+use Rattle.mapping.specs.Lookup.{placeFor}
+use Rattle.mapping.proofs.Laws.{inserted-count}
 use Rattle.manager.specs.Answers.{accepted, numberOf}
-use Rattle.manager.specs.Appended.{mappingRefusal, listedBy, listAfter, refusalAt, relisted, listedAll, batchMade}
+use Rattle.manager.specs.Inserted.{mappingRefusal, listedBy, listAfter, refusalAt, relisted, listedAll, batchMade}
 use Rattle.manager.specs.Batch.{itemAt, BatchResult, batchResult, wholeResult, tablesAfter, answerAt, mapAllCall}
 use Rattle.manager.specs.Calls.{noOps, commitMap, placed, listResult}
 use Rattle.manager.specs.Refusals.{Cause, _if_, firstRefusal, tableCauses, mapCauses, mappingCauses, batchCause}
 use Rattle.manager.specs.Tables.{Tables, tables, lengthsRight, rulesKept, protectionAt, tabulate, refill}
 use Rattle.manager.specs.Theorems.{WellFormed}
-use Rattle.manager.proofs.AcceptedLaws.{map-accepted}
+use Rattle.manager.proofs.AcceptedLaws.{lengths-known, map-accepted}
 use Rattle.manager.proofs.BatchLaws.{relisted-same, relisted-more}
-use Rattle.manager.proofs.CauseLaws.{tables-clear, numbered, refusal-prefix, refusal-rest}
+use Rattle.manager.proofs.CauseLaws.{list-rules, tables-clear, numbered, refusal-prefix, refusal-rest}
 use Rattle.manager.proofs.KeepsRules.{map-keeps}
 use Rattle.manager.proofs.Laws.{length-tabulate}
 
@@ -32,7 +33,7 @@ refusalBy (suc lent) n = suc lent
 
 -- the tables with an item, unless that is refused
 abbrev pub takenBy : Board → ℕ → Tables → Mapping → Tables
-takenBy b zero t m = commitMap b t m
+takenBy b zero t m = commitMap b t (placeFor (t .list) (m .space) (m .page)) m
 takenBy b (suc n) t m = t
 
 -- ---- the tables with another list
@@ -69,11 +70,13 @@ module _ (b : Board) (t : Tables) (w : WellFormed b t) (m : Mapping) (e : mappin
   unfolding mapCauses mappingRefusal firstRefusal
   unrefused = rw (w .0, w .1) e
 
-  pub one-keeps : WellFormed b (commitMap b t m)
+  pub one-keeps : WellFormed b (commitMap b t (placeFor (t .list) (m .space) (m .page)) m)
   one-keeps = let a = map-accepted b t m unrefused in map-keeps b t w m (a .1) (a .2) (a .3)
 
-  pub one-count : append (t .list) m .count ≡ suc (t .list .count)
-  one-count = let n = append-count (t .list) m (map-accepted b t m unrefused .3) in omega arith
+  pub one-count : insert (t .list) m .count ≡ suc (t .list .count)
+  one-count =
+      let n = inserted-count (t .list) m (lengths-known b t (w .0) .0) (map-accepted b t m unrefused .3) b (list-rules b t (w .1)) in
+      omega arith
 
 -- ---- the sequence
 
@@ -133,14 +136,14 @@ module _ (b : Board) (lent : Tables → ℕ) (items : List Mapping) (after : ℕ
             let taken = next k ∙ ap (λ (x : ℕ). takenBy b x (after k) item) e in
             let w = kept (after k) (h .still-clear) in
             let free = sym refusal-is ∙ e in
-            let list-next : append list item ≡ listAfter b (after 0 .list) items (suc k) = ap (λ (x : ℕ). listedBy x list item) (sym e ∙ answer-is) in
-            let count = subst (λ (l : MappingList). append l item .count ≡ suc (l .count)) list-is (one-count b (after k) w item free) in
+            let list-next : insert list item ≡ listAfter b (after 0 .list) items (suc k) = ap (λ (x : ℕ). listedBy x list item) (sym e ∙ answer-is) in
+            let count = subst (λ (l : MappingList). insert l item .count ≡ suc (l .count)) list-is (one-count b (after k) w item free) in
             let most = h .no-fewer in
             record {
               tables-are =
                   taken
-                  ∙ (λ i. tables (append (list-is i) item) (records-are i) (tabulate (protections-long i) (protectionAt b (append (list-is i) item) (records-are i))))
-                  ∙ relisted-more b (after 0) (append list item) (λ z. omega arith) refl
+                  ∙ (λ i. tables (insert (list-is i) item) (records-are i) (tabulate (protections-long i) (protectionAt b (insert (list-is i) item) (records-are i))))
+                  ∙ relisted-more b (after 0) (insert list item) (λ z. omega arith) refl
                   ∙ ap (relisted b (after 0)) list-next;
               still-clear = again (after k) (after (suc k)) (h .still-clear) (subst⁻¹ (WellFormed b) taken (one-keeps b (after k) w item free));
               no-fewer = subst (λ (l : MappingList). after 0 .list .count ≤ l .count) list-next (omega arith);
@@ -201,10 +204,10 @@ mapped-number : (t : Tables) (made : ℕ → Tables) (n place : ℕ) → numberO
 mapped-number t made zero place = refl
 mapped-number t made (suc n) place = refl
 
-mapped-after : (b : Board) (t : Tables) (m : Mapping) (n place : ℕ)
-    → listResult t (λ i. commitMap b t m) (placed n place) .after ≡ takenBy b (numberOf (listResult t (λ i. commitMap b t m) (placed n place) .answer)) t m
-mapped-after b t m zero place = refl
-mapped-after b t m (suc n) place = refl
+mapped-after : (b : Board) (t : Tables) (m : Mapping) (n : ℕ) → let made = listResult t (λ i. commitMap b t i m) (placed n (placeFor (t .list) (m .space) (m .page))) in
+    made .after ≡ takenBy b (numberOf (made .answer)) t m
+mapped-after b t m zero = refl
+mapped-after b t m (suc n) = refl
 
 module _ (b : Board) (t : Tables) (items : List Mapping) where
   answered-singly : (k : ℕ) → answerAt b t items k
@@ -212,14 +215,14 @@ module _ (b : Board) (t : Tables) (items : List Mapping) where
   unfolding answerAt mapCauses
   answered-singly k =
       let u = tablesAfter b t items k in
-      mapped-number u _ _ (u .list .count) ∙ refusal-by (tableCauses b u) b (u .list) (itemAt items k) refl
+      mapped-number u _ _ _ ∙ refusal-by (tableCauses b u) b (u .list) (itemAt items k) refl
 
   next-singly : (k : ℕ) → tablesAfter b t items (suc k) ≡ takenBy b (answerAt b t items k) (tablesAfter b t items k) (itemAt items k)
   unfolding answerAt tablesAfter
   next-singly k =
       let u = tablesAfter b t items k in
       let m = itemAt items k in
-      mapped-after b u m (firstRefusal (mapCauses b u (m .space) (m .page) (m .frame) (m .rights))) (u .list .count)
+      mapped-after b u m (firstRefusal (mapCauses b u (m .space) (m .page) (m .frame) (m .rights)))
 
   -- the call, made at once, is the items mapped singly
   pub map-all-made : (answers : List ℕ) → batchMade b (firstRefusal (tableCauses b t)) t items answers ≡ mapAllCall b t items answers

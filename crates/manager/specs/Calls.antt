@@ -8,15 +8,15 @@ use Rattle.page_model.specs.declared.Ops.{Ops}
 use Rattle.page_model.specs.Step.{stepped}
 use Rattle.page_model.specs.Table.{Step, read, write, deviceRead, deviceWrite}
 use Rattle.mapping.specs.declared.Mapping.{Mapping}
-use Rattle.mapping.specs.Change.{append, remove}
-use Rattle.mapping.specs.Lookup.{lookup}
+use Rattle.mapping.specs.Change.{insertAt, remove}
+use Rattle.mapping.specs.Lookup.{lookup, placeOf, listedMapping, placeFor}
 use Rattle.manager.specs.declared.Change.{Change}
 use Rattle.manager.specs.declared.Plan.{Plan}
 use Rattle.manager.specs.declared.Plan.the-variants as step-plan
 use Rattle.manager.specs.declared.ListPlan.{ListPlan}
 use Rattle.manager.specs.declared.ListPlan.the-variants as list-plan
 use Rattle.manager.specs.Answers.{Outcome, refused, accepted}
-use Rattle.manager.specs.Refusals.{firstRefusal, placeOf, listedMapping, mapCauses, pageCauses, writeCauses, transferCauses}
+use Rattle.manager.specs.Refusals.{firstRefusal, mapCauses, pageCauses, writeCauses, transferCauses}
 use Rattle.manager.specs.Tables.{Tables, tables, recordAt, putRecord, refill}
 
 -- ---- steps of a frame's record
@@ -57,14 +57,14 @@ placed (suc n) place = list-plan.Refused (suc n)
 
 -- the place where the mapping goes
 abbrev pub planMap : Board → Tables → ℕ → ℕ → ℕ → ℕ → ListPlan
-planMap b t space page frame rights = placed (firstRefusal (mapCauses b t space page frame rights)) (t .list .count)
+planMap b t space page frame rights = placed (firstRefusal (mapCauses b t space page frame rights)) (placeFor (t .list) space page)
 
 -- the place of the mapping that goes
 abbrev pub planUnmap : Board → Tables → ℕ → ℕ → ListPlan
 planUnmap b t space page = placed (firstRefusal (pageCauses b t space page)) (placeOf (lookup (t .list) space page))
 
-abbrev pub commitMap : Board → Tables → Mapping → Tables
-commitMap b t m = refill b (tables (append (t .list) m) (t .records) (t .protections))
+abbrev pub commitMap : Board → Tables → ℕ → Mapping → Tables
+commitMap b t place m = refill b (tables (insertAt (t .list) place m) (t .records) (t .protections))
 
 abbrev pub commitUnmap : Board → Tables → ℕ → Tables
 commitUnmap b t place = refill b (tables (remove (t .list) place) (t .records) (t .protections))
@@ -105,7 +105,7 @@ deviceWriteCall b t frame = stepResult b t (planDeviceWrite b t frame)
 
 abbrev pub mapCall : Board → Tables → ℕ → ℕ → ℕ → ℕ → Result
 mapCall b t space page frame rights =
-    listResult t (λ place. commitMap b t (record { space = space; page = page; frame = frame; rights = rights })) (planMap b t space page frame rights)
+    listResult t (λ place. commitMap b t place (record { space = space; page = page; frame = frame; rights = rights })) (planMap b t space page frame rights)
 
 abbrev pub unmapCall : Board → Tables → ℕ → ℕ → Result
 unmapCall b t space page = listResult t (commitUnmap b t) (planUnmap b t space page)

@@ -4,5 +4,5 @@ pub mod Refusals
 pub mod Answers
 pub mod Calls
 pub mod Batch
-pub mod Appended
+pub mod Inserted
 pub mod Theorems

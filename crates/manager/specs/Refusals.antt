@@ -1,19 +1,17 @@
 -- Document 01, "Answers": for each call the causes of refusal, in the order of the table. The first that applies is given.
-use mathlib.Core.Bool.{Bool, true, false, not, cond, _&&_, _||_}
+use mathlib.Core.Bool.{Bool, true, not, cond, _&&_, _||_}
 use mathlib.Core.List.{List, [], _∷_, _++_}
-use Prim.Native.Nat.{ℕ, suc}
+use Prim.Native.Nat.{ℕ, suc, _*_}
 use lib.Dec.{eqb, leb, ltb}
 use lib.ListN.{length}
 use Rattle.board.specs.declared.Board.{Board}
 use Rattle.board.specs.Board.{spaces, pages}
-use Rattle.mapping.specs.declared.Found.{Found}
-use Rattle.mapping.specs.declared.Found.the-variants.{At, Nothing}
-use Rattle.mapping.specs.declared.Mapping.{Mapping}
 use Rattle.mapping.specs.declared.MappingList.{MappingList}
+use Rattle.mapping.specs.declared.Seen.{Seen}
 use Rattle.mapping.specs.Batch.{batchSize}
-use Rattle.mapping.specs.Entry.{capacity, readOnly, readWrite, mappingAt}
-use Rattle.mapping.specs.Lookup.{lookup}
-use Rattle.manager.specs.Tables.{Tables, lengthsRight, rulesKept}
+use Rattle.mapping.specs.Entry.{capacity, readOnly, readWrite}
+use Rattle.mapping.specs.Lookup.{isMapped, listedMapping}
+use Rattle.manager.specs.Tables.{Tables, recordWords, recordsKeepRules, lengthsRight, rulesKept}
 
 -- a refusal's number, and whether its condition holds
 pub record Cause : Type 0 where
@@ -58,22 +56,6 @@ outOfSpace space page = leb spaces space || leb pages page
 
 abbrev pub isRight : ℕ → Bool
 isRight rights = eqb rights readOnly || eqb rights readWrite
-
-abbrev pub found : Found → Bool
-found (At i) = true
-found Nothing = false
-
-abbrev pub isMapped : MappingList → ℕ → ℕ → Bool
-isMapped l space page = found (lookup l space page)
-
--- the place found, past the list where there is none
-abbrev pub placeOf : Found → ℕ
-placeOf (At i) = i
-placeOf Nothing = capacity
-
--- the listed mapping of this space and page, all 0 where there is none
-abbrev pub listedMapping : MappingList → ℕ → ℕ → Mapping
-listedMapping l space page = mappingAt l (placeOf (lookup l space page))
 
 -- ---- the causes that lie in a call's numbers, each with its place in document 01's table, with what the requests add to that
 
@@ -135,3 +117,28 @@ writeCauses b t space page = pageCauses b t space page ++ readOnlyCause (t .list
 unfoldable pub transferCauses : Board → Tables → ℕ → List Cause
 unfolding tableCauses
 transferCauses b t frame = tableCauses b t ++ frameCause b frame ∷ []
+
+-- ---- the causes of each call by what one look at the list told, which are those above where it told them of the list (`told-rest`)
+
+-- in the lent records and protections, where kept says whether the list keeps its rules
+unfoldable pub toldTables : Board → Bool → List ℕ → List ℕ → List Cause
+toldTables b kept records protections =
+    (1 if not (eqb (length records) (b .frames * recordWords) && eqb (length protections) capacity))
+    ∷ (2 if not (kept && recordsKeepRules b records))
+    ∷ []
+
+-- in a mapping, in a page, and of a write
+abbrev pub toldMapping : Board → ℕ → ℕ → ℕ → ℕ → Seen → List Cause
+toldMapping b space page frame rights seen =
+    spaceCause space page
+    ∷ frameCause b frame
+    ∷ rightsCause rights
+    ∷ (7 if seen .mapped)
+    ∷ (9 if eqb (seen .count) capacity)
+    ∷ []
+
+abbrev pub toldPage : ℕ → ℕ → Seen → List Cause
+toldPage space page seen = spaceCause space page ∷ (8 if not (seen .mapped)) ∷ []
+
+abbrev pub toldWrite : ℕ → ℕ → Seen → List Cause
+toldWrite space page seen = toldPage space page seen ++ (10 if eqb (seen .mapping .rights) readOnly) ∷ []

@@ -1,10 +1,10 @@
 -- Document 01, "Frame records and mapping list": what the manager is lent, and the protections that agree with it.
 use mathlib.Core.Bool.{Bool, cond, _&&_}
 use mathlib.Core.List.{List, [], _∷_}
-use Prim.Native.Nat.{ℕ, zero, suc, _+_, _*_}
+use Prim.Native.Nat.{ℕ, zero, suc, _+_, _*_, _≤_, _<_}
 use lib.Dec.{eqb, ltb}
 use lib.ListN.{length, getD, set}
-use Rattle.bits.specs.Mask.{digit, all}
+use Rattle.bits.specs.Mask.{width, digit, all}
 use Rattle.board.specs.declared.Board.{Board}
 use Rattle.board.specs.Board.{colourOf}
 use Rattle.page_model.specs.declared.FrameRecord.{FrameRecord}
@@ -62,6 +62,10 @@ mappingState b rs m = record-of.stateOf (recordAt rs (m .frame)) (colourOf b (m 
 -- the protection at place i, 0 past the count
 unfoldable pub protectionAt : Board → MappingList → List ℕ → ℕ → ℕ
 protectionAt b l rs i = cond (ltb i (l .count)) (protection (mappingState b rs (mappingAt l i)) (mappingAt l i .rights)) 0
+
+-- a number of colours that a board may have: the colour of a page is its number modulo this one, and a mask has a bit for each
+abbrev pub Colours : ℕ → Type 0
+Colours n = (0 < n) × (n ≤ width)
 
 -- f at each place below n
 unfoldable pub tabulate : ℕ → (ℕ → ℕ) → List ℕ

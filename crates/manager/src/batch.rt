@@ -1,11 +1,13 @@
 // A list of mappings in one call: what is lent is tested once, and the protections are filled once.
 ghost use mathlib.Core.Path.{_≡_};
+ghost use mathlib.Core.Bool.{true};
 ghost use Prim.Native.Nat.{_≤_};
 ghost use lib.ListN.{length};
 ghost use Rattle.board.specs.Board.{Regular};
 ghost use Rattle.mapping.specs.Batch.{batchSize, itemsOf};
+ghost use Rattle.mapping.specs.Rules.{keepsRules};
 ghost use Rattle.manager.specs.Answers.{outcome};
-ghost use Rattle.manager.specs.Appended.{listAfter, refusalAt, wholeRefusal, batchMade};
+ghost use Rattle.manager.specs.Inserted.{listAfter, refusalAt, wholeRefusal, batchMade};
 ghost use Rattle.manager.specs.Batch.{batchResult};
 ghost use Rattle.manager.specs.Tables.{tables, tabulate};
 use super::Listed;
@@ -25,7 +27,7 @@ pub fn map_batch(
     answers: &mut [u8],
     lent: u8,
 ) -> Listed
-    requires { ⌜ Regular board ⌝ }
+    requires { ⌜ Regular board × (lent ≡ 0 → keepsRules board list ≡ true) ⌝ }
     ensures { λ r. ⌜ batchResult (outcome (r .answer)) (now (answers .exit)) (tables (r .list) (now (records .entry)) (now (protections .exit)))
         ≡ batchMade board lent (tables list (now (records .entry)) (now (protections .entry))) (itemsOf batch) (now (answers .entry)) ⌝ }
 {
@@ -37,9 +39,9 @@ pub fn map_batch(
         answer_each(answers, lent);
         return super::listed_as(list);
     }
-    let next = append_all(board, list, batch, answers);
+    let next = insert_all(board, list, batch, answers);
     if next.count != list.count {
-        refill(board, next, records, protections);
+        refill(board.colours, next, records, protections);
     }
     super::listed_as(next)
 }
@@ -71,18 +73,19 @@ fn answer_each(answers: &mut [u8], number: u8)
     }
 }
 
-// Appends each item that is not refused, and answers each.
-fn append_all(board: Board, list: MappingList, batch: Batch, answers: &mut [u8]) -> MappingList
-    requires { ⌜ (length (now answers) ≡ batch .count) × (batch .count ≤ batchSize) ⌝ }
+// Inserts each item that is not refused, and answers each.
+fn insert_all(board: Board, list: MappingList, batch: Batch, answers: &mut [u8]) -> MappingList
+    requires { ⌜ (length (now answers) ≡ batch .count) × (batch .count ≤ batchSize) × (keepsRules board list ≡ true) ⌝ }
     ensures { λ r. ⌜ (r ≡ listAfter board list (itemsOf batch) (batch .count)) × (now (answers .exit) ≡ tabulate (batch .count) (refusalAt board list (itemsOf batch))) ⌝ }
 {
     let mut next = list;
     let mut i = 0;
     while i < answers.len() {
         let m = batch.items[i];
-        let refusal = mapping_refusal(board, next, m);
+        let seen = mapping::find(next, m.space, m.page);
+        let refusal = mapping_refusal(board, seen, m);
         if refusal == 0 {
-            next = mapping::append(next, m);
+            next = mapping::insert_at(next, seen.place, m);
         }
         answers[i] = refusal;
         i += 1;

@@ -4,11 +4,12 @@ pub mod records;
 pub mod refusals;
 
 ghost use mathlib.Core.Path.{_≡_};
+ghost use Rattle.board.specs.declared.Board as any;
 ghost use Rattle.board.specs.Board.{Regular, board01};
 ghost use Rattle.mapping.specs.Batch.{itemsOf};
 ghost use Rattle.manager.specs.Answers.{outcome, refused, accepted};
 ghost use Rattle.manager.specs.Batch.{batchResult, mapAllCall};
-ghost use Rattle.manager.specs.Tables.{tables};
+ghost use Rattle.manager.specs.Tables.{tables, Colours};
 ghost use Rattle.manager.specs.Calls.{result, noOps, stepResult, planMap, planUnmap, planRead, planWrite, planDeviceRead, planDeviceWrite, commitMap, commitUnmap, commitChange, mapCall, unmapCall, readCall, writeCall, deviceReadCall, deviceWriteCall};
 use batch::map_batch;
 use board::BOARD01;
@@ -23,13 +24,14 @@ use page_model::Stepped;
 use records::put_record;
 use records::record_at;
 use records::refill;
-use refusals::listed_mapping;
 use refusals::map_refusal;
 use refusals::page_refusal;
-use refusals::place_of;
 use refusals::tables_refusal;
 use refusals::transfer_refusal;
 use refusals::write_refusal;
+
+// The colours of the board. As a number by itself the compiler knows it where it is handed on.
+const COLOURS: usize = BOARD01.colours;
 
 // The operations of a call, on one frame.
 pub struct FrameOps {
@@ -78,7 +80,14 @@ pub fn map(list: MappingList, records: &[u32], protections: &mut [u8], m: Mappin
     let plan = plan_map(BOARD01, list, records, protections, m);
     match plan {
         ListPlan::Refused(number) => refused_as(list, number),
-        ListPlan::Place(_) => listed_as(commit_map(BOARD01, list, records, protections, m)),
+        ListPlan::Place(place) => listed_as(commit_map(
+            COLOURS,
+            list,
+            records,
+            protections,
+            place,
+            m,
+        )),
     }
 }
 
@@ -93,7 +102,8 @@ pub fn map_all(
     ensures { λ r. ⌜ batchResult (outcome (r .answer)) (now (answers .exit)) (tables (r .list) (now (records .entry)) (now (protections .exit)))
         ≡ mapAllCall board01 (tables list (now (records .entry)) (now (protections .entry))) (itemsOf batch) (now (answers .entry)) ⌝ }
 {
-    let lent = tables_refusal(BOARD01, list, records, protections);
+    let kept = mapping::keeps_rules(BOARD01, list);
+    let lent = tables_refusal(BOARD01, kept, records, protections);
     map_batch(BOARD01, list, records, protections, batch, answers, lent)
 }
 
@@ -112,7 +122,7 @@ pub fn unmap(
     match plan {
         ListPlan::Refused(number) => refused_as(list, number),
         ListPlan::Place(place) => listed_as(commit_unmap(
-            BOARD01,
+            COLOURS,
             list,
             records,
             protections,
@@ -133,7 +143,7 @@ pub fn read(
         ≡ readCall board01 (tables list (now (records .entry)) (now (protections .entry))) space page ⌝ }
 {
     let plan = plan_read(BOARD01, list, records, protections, space, page);
-    carry_out(BOARD01, list, records, protections, plan)
+    carry_out(COLOURS, list, records, protections, plan)
 }
 
 // The processor writes a page of a space.
@@ -148,7 +158,7 @@ pub fn write(
         ≡ writeCall board01 (tables list (now (records .entry)) (now (protections .entry))) space page ⌝ }
 {
     let plan = plan_write(BOARD01, list, records, protections, space, page);
-    carry_out(BOARD01, list, records, protections, plan)
+    carry_out(COLOURS, list, records, protections, plan)
 }
 
 // A device reads a frame from memory.
@@ -162,7 +172,7 @@ pub fn device_read(
         ≡ deviceReadCall board01 (tables list (now (records .entry)) (now (protections .entry))) frame ⌝ }
 {
     let plan = plan_device_read(BOARD01, list, records, protections, frame);
-    carry_out(BOARD01, list, records, protections, plan)
+    carry_out(COLOURS, list, records, protections, plan)
 }
 
 // A device writes a frame in memory.
@@ -176,7 +186,7 @@ pub fn device_write(
         ≡ deviceWriteCall board01 (tables list (now (records .entry)) (now (protections .entry))) frame ⌝ }
 {
     let plan = plan_device_write(BOARD01, list, records, protections, frame);
-    carry_out(BOARD01, list, records, protections, plan)
+    carry_out(COLOURS, list, records, protections, plan)
 }
 
 // ---- plans
@@ -192,11 +202,12 @@ pub fn plan_map(
     requires { ⌜ Regular board ⌝ }
     ensures { λ r. ⌜ r ≡ planMap board (tables list (now (records .entry)) (now (protections .entry))) (m .space) (m .page) (m .frame) (m .rights) ⌝ }
 {
-    let refusal = map_refusal(board, list, records, protections, m);
+    let seen = mapping::look(board, list, m.space, m.page);
+    let refusal = map_refusal(board, seen, records, protections, m);
     if refusal != 0 {
         return ListPlan::Refused(refusal);
     }
-    ListPlan::Place(list.count)
+    ListPlan::Place(seen.place)
 }
 
 // Whether a page of a space is mapped, and at which place.
@@ -211,11 +222,12 @@ pub fn plan_unmap(
     requires { ⌜ Regular board ⌝ }
     ensures { λ r. ⌜ r ≡ planUnmap board (tables list (now (records .entry)) (now (protections .entry))) space page ⌝ }
 {
-    let refusal = page_refusal(board, list, records, protections, space, page);
+    let seen = mapping::look(board, list, space, page);
+    let refusal = page_refusal(board, seen, records, protections, space, page);
     if refusal != 0 {
         return ListPlan::Refused(refusal);
     }
-    ListPlan::Place(place_of(list, space, page))
+    ListPlan::Place(seen.place)
 }
 
 // What a read makes of the page's frame.
@@ -230,13 +242,14 @@ pub fn plan_read(
     requires { ⌜ Regular board ⌝ }
     ensures { λ r. ⌜ r ≡ planRead board (tables list (now (records .entry)) (now (protections .entry))) space page ⌝ }
 {
-    let refusal = page_refusal(board, list, records, protections, space, page);
+    let seen = mapping::look(board, list, space, page);
+    let refusal = page_refusal(board, seen, records, protections, space, page);
     if refusal != 0 {
         return Plan::Refused(refusal);
     }
-    let m = listed_mapping(list, space, page);
+    let frame = seen.mapping.frame;
     let colour = board::colour_of(board, page as usize);
-    step_of(m.frame, record_at(records, m.frame).read(colour))
+    step_of(frame, record_at(records, frame).read(colour))
 }
 
 // What a write makes of the page's frame.
@@ -251,13 +264,14 @@ pub fn plan_write(
     requires { ⌜ Regular board ⌝ }
     ensures { λ r. ⌜ r ≡ planWrite board (tables list (now (records .entry)) (now (protections .entry))) space page ⌝ }
 {
-    let refusal = write_refusal(board, list, records, protections, space, page);
+    let seen = mapping::look(board, list, space, page);
+    let refusal = write_refusal(board, seen, records, protections, space, page);
     if refusal != 0 {
         return Plan::Refused(refusal);
     }
-    let m = listed_mapping(list, space, page);
+    let frame = seen.mapping.frame;
     let colour = board::colour_of(board, page as usize);
-    step_of(m.frame, record_at(records, m.frame).write(colour))
+    step_of(frame, record_at(records, frame).write(colour))
 }
 
 // What a device read makes of a frame.
@@ -271,7 +285,8 @@ pub fn plan_device_read(
     requires { ⌜ Regular board ⌝ }
     ensures { λ r. ⌜ r ≡ planDeviceRead board (tables list (now (records .entry)) (now (protections .entry))) frame ⌝ }
 {
-    let refusal = transfer_refusal(board, list, records, protections, frame);
+    let kept = mapping::keeps_rules(board, list);
+    let refusal = transfer_refusal(board, kept, records, protections, frame);
     if refusal != 0 {
         return Plan::Refused(refusal);
     }
@@ -289,81 +304,87 @@ pub fn plan_device_write(
     requires { ⌜ Regular board ⌝ }
     ensures { λ r. ⌜ r ≡ planDeviceWrite board (tables list (now (records .entry)) (now (protections .entry))) frame ⌝ }
 {
-    let refusal = transfer_refusal(board, list, records, protections, frame);
+    let kept = mapping::keeps_rules(board, list);
+    let refusal = transfer_refusal(board, kept, records, protections, frame);
     if refusal != 0 {
         return Plan::Refused(refusal);
     }
     step_of(frame, record_at(records, frame).device_write())
 }
 
-// ---- commits
+// ---- commits. Of the board they ask only how many colours it has.
 
-// Lists a mapping, and hands back the list.
+// Lists a mapping at a place, and hands back the list.
 pub fn commit_map(
-    board: Board,
+    colours: usize,
     list: MappingList,
     records: &[u32],
     protections: &mut [u8],
+    place: usize,
     m: Mapping,
 ) -> MappingList
-    requires { ⌜ Regular board ⌝ }
-    ensures { λ r. ⌜ tables r (now (records .entry)) (now (protections .exit)) ≡ commitMap board (tables list (now (records .entry)) (now (protections .entry))) m ⌝ }
+    requires { ⌜ Colours colours ⌝ }
+    ensures { λ r. ⌜ ((b : any.Board) → b .colours ≡ colours
+        → tables r (now (records .entry)) (now (protections .exit)) ≡ commitMap b (tables list (now (records .entry)) (now (protections .entry))) place m) ⌝ }
 {
-    let next = mapping::append(list, m);
-    refill(board, next, records, protections);
+    let next = mapping::insert_at(list, place, m);
+    refill(colours, next, records, protections);
     next
 }
 
 // Takes the mapping at a place off the list, and hands back the list.
 pub fn commit_unmap(
-    board: Board,
+    colours: usize,
     list: MappingList,
     records: &[u32],
     protections: &mut [u8],
     place: usize,
 ) -> MappingList
-    requires { ⌜ Regular board ⌝ }
-    ensures { λ r. ⌜ tables r (now (records .entry)) (now (protections .exit)) ≡ commitUnmap board (tables list (now (records .entry)) (now (protections .entry))) place ⌝ }
+    requires { ⌜ Colours colours ⌝ }
+    ensures { λ r. ⌜ ((b : any.Board) → b .colours ≡ colours
+        → tables r (now (records .entry)) (now (protections .exit)) ≡ commitUnmap b (tables list (now (records .entry)) (now (protections .entry))) place) ⌝ }
 {
     let next = mapping::remove(list, place);
-    refill(board, next, records, protections);
+    refill(colours, next, records, protections);
     next
 }
 
 // Stores a frame's next record, and brings the protections up to it.
 pub fn commit_change(
-    board: Board,
+    colours: usize,
     list: MappingList,
     records: &mut [u32],
     protections: &mut [u8],
     frame: u8,
     next: FrameRecord,
 )
-    requires { ⌜ Regular board ⌝ }
-    ensures { λ _. ⌜ tables list (now (records .exit)) (now (protections .exit)) ≡ commitChange board (tables list (now (records .entry)) (now (protections .entry))) frame next ⌝ }
+    requires { ⌜ Colours colours ⌝ }
+    ensures { λ _. ⌜ ((b : any.Board) → b .colours ≡ colours
+        → tables list (now (records .exit)) (now (protections .exit)) ≡ commitChange b (tables list (now (records .entry)) (now (protections .entry))) frame next) ⌝ }
 {
     put_record(records, frame, next);
-    refill(board, list, records, protections);
+    refill(colours, list, records, protections);
 }
 
 // Answers a plan, and commits it if it is no refusal.
 fn carry_out(
-    board: Board,
+    colours: usize,
     list: MappingList,
     records: &mut [u32],
     protections: &mut [u8],
     plan: Plan,
 ) -> Answer
-    requires { ⌜ Regular board ⌝ }
-    ensures { λ r. ⌜ result (outcome r) (tables list (now (records .exit)) (now (protections .exit)))
-        ≡ stepResult board (tables list (now (records .entry)) (now (protections .entry))) plan ⌝ }
+    requires { ⌜ Colours colours ⌝ }
+    ensures { λ r. ⌜ ((b : any.Board) → b .colours ≡ colours
+        → result (outcome r) (tables list (now (records .exit)) (now (protections .exit)))
+        ≡ stepResult b (tables list (now (records .entry)) (now (protections .entry))) plan) ⌝ }
 {
     match plan {
         Plan::Refused(number) => Answer::Refused(number),
         Plan::Step(change) => {
             let next = change.next;
             let ops = change.ops;
-            commit_change(board, list, records, protections, change.frame, next);
+            commit_change(colours, list, records, protections, change.frame, next);
             Answer::Accepted(FrameOps {
                 frame: change.frame,
                 ops,

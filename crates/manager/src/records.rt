@@ -1,8 +1,9 @@
 // The frame records, one after the other in lent words, and the protections.
 ghost use mathlib.Core.Path.{_≡_};
 ghost use lib.ListN.{length, getD, set};
+ghost use Rattle.board.specs.declared.Board as any;
 ghost use Rattle.board.specs.Board.{Regular};
-ghost use Rattle.manager.specs.Tables.{recordAt, putRecord, recordsKeepRules, mappingState, protection, protectionAt, tabulate};
+ghost use Rattle.manager.specs.Tables.{recordAt, putRecord, recordsKeepRules, mappingState, protection, protectionAt, tabulate, Colours};
 use board::Board;
 use mapping::Mapping;
 use mapping::MappingList;
@@ -32,10 +33,18 @@ pub fn record_at(records: &[u32], frame: u8) -> FrameRecord
     ensures { λ r. ⌜ r ≡ recordAt (now (records .entry)) frame ⌝ }
 {
     let at = frame as usize * RECORD_WORDS;
-    let held = word_at(records, at);
-    let stale = word_at(records, at + 1);
-    let dirty = word_at(records, at + 2);
-    FrameRecord { held, stale, dirty }
+    if at + 2 < records.len() {
+        return FrameRecord {
+            held: records[at],
+            stale: records[at + 1],
+            dirty: records[at + 2],
+        };
+    }
+    FrameRecord {
+        held: word_at(records, at),
+        stale: word_at(records, at + 1),
+        dirty: word_at(records, at + 2),
+    }
 }
 
 // Stores the record of a frame.
@@ -63,40 +72,37 @@ pub fn records_keep_rules(board: Board, records: &[u32]) -> bool
     true
 }
 
-// What a mapping lets its program do without a stop: 0 nothing, 1 read, 2 read and write.
-fn protection_of(board: Board, records: &[u32], m: Mapping) -> u8
-    requires { ⌜ Regular board ⌝ }
-    ensures { λ r. ⌜ r ≡ protection (mappingState board (now (records .entry)) m) (m .rights) ⌝ }
+// What a mapping lets its program do without a stop: 0 nothing, 1 read, 2 read and write. No branch hangs on the record.
+fn protection_of(colours: usize, records: &[u32], m: Mapping) -> u8
+    requires { ⌜ Colours colours ⌝ }
+    ensures { λ r. ⌜ ((b : any.Board) → b .colours ≡ colours → r ≡ protection (mappingState b (now (records .entry)) m) (m .rights)) ⌝ }
 {
     let r = record_at(records, m.frame);
-    let colour = board::colour_of(board, m.page as usize);
-    if !r.holds(colour) {
-        return 0;
-    }
-    if m.rights != mapping::READ_WRITE {
-        return 1;
-    }
-    if r.holds_dirty(colour) { 2 } else { 1 }
+    let colour = m.page as usize % colours;
+    let written = r.holds_dirty(colour) & (m.rights == mapping::READ_WRITE);
+    r.holds(colour) as u8 + written as u8
 }
 
-// Fills the whole buffer of protections as the list and the records say. The list is read in place: handing it on copies it.
-pub fn refill(board: Board, list: MappingList, records: &[u32], protections: &mut [u8])
-    requires { ⌜ Regular board ⌝ }
-    ensures { λ _. ⌜ now (protections .exit) ≡ tabulate (length (now (protections .entry))) (protectionAt board list (now (records .entry))) ⌝ }
+// Fills the whole buffer of protections as the list and the records say, where a page's colour is its number modulo colours. The list is read
+// in place: handing it on copies it.
+pub fn refill(colours: usize, list: MappingList, records: &[u32], protections: &mut [u8])
+    requires { ⌜ Colours colours ⌝ }
+    ensures { λ _. ⌜ ((b : any.Board) → b .colours ≡ colours
+        → now (protections .exit) ≡ tabulate (length (now (protections .entry))) (protectionAt b list (now (records .entry)))) ⌝ }
 {
     let count = list.count;
     let mut i = 0;
+    while i < protections.len() && i < count {
+        let m = if i < mapping::CAPACITY {
+            list.items[i]
+        } else {
+            Mapping::zero()
+        };
+        protections[i] = protection_of(colours, records, m);
+        i += 1;
+    }
     while i < protections.len() {
-        let mut protection = 0;
-        if i < count {
-            let m = if i < mapping::CAPACITY {
-                list.items[i]
-            } else {
-                Mapping::zero()
-            };
-            protection = protection_of(board, records, m);
-        }
-        protections[i] = protection;
+        protections[i] = 0;
         i += 1;
     }
 }

@@ -1,16 +1,13 @@
 // The causes of refusal of each call: the first that applies, or 0.
+ghost use mathlib.Core.List.{[], _∷_, _++_};
 ghost use mathlib.Core.Path.{_≡_};
 ghost use Rattle.board.specs.Board.{Regular};
-ghost use Rattle.manager.specs.Tables.{tables};
-ghost use Rattle.manager.specs.Refusals.{firstRefusal, refusalPlace, tableCauses, mapCauses, pageCauses, writeCauses, transferCauses, outOfSpace, isRight, isMapped, placeOf, listedMapping};
-ghost use Rattle.manager.specs.Appended.{mappingRefusal};
-ghost use Rattle.mapping.specs.Lookup.{lookup};
+ghost use Rattle.manager.specs.Refusals.{firstRefusal, refusalPlace, toldTables, toldMapping, toldPage, toldWrite, frameCause, outOfSpace, isRight};
 use super::records::RECORD_WORDS;
 use super::records::records_keep_rules;
 use board::Board;
-use mapping::Found;
 use mapping::Mapping;
-use mapping::MappingList;
+use mapping::Seen;
 
 // How many refusals there are, and their numbers in the order in which they are tested.
 const REFUSALS: usize = 11;
@@ -31,10 +28,10 @@ pub fn place(number: u8) -> usize
     i
 }
 
-// Of what every call is lent.
-pub fn tables_refusal(board: Board, list: MappingList, records: &[u32], protections: &[u8]) -> u8
+// Of what every call is lent, where kept says whether the list keeps its rules.
+pub fn tables_refusal(board: Board, kept: bool, records: &[u32], protections: &[u8]) -> u8
     requires { ⌜ Regular board ⌝ }
-    ensures { λ r. ⌜ r ≡ firstRefusal (tableCauses board (tables list (now (records .entry)) (now (protections .entry)))) ⌝ }
+    ensures { λ r. ⌜ r ≡ firstRefusal (toldTables board kept (now (records .entry)) (now (protections .entry))) ⌝ }
 {
     if records.len() != board.frames * RECORD_WORDS {
         return 1;
@@ -42,7 +39,7 @@ pub fn tables_refusal(board: Board, list: MappingList, records: &[u32], protecti
     if protections.len() != mapping::CAPACITY {
         return 1;
     }
-    if !mapping::keeps_rules(board, list) {
+    if !kept {
         return 2;
     }
     if !records_keep_rules(board, records) {
@@ -51,27 +48,21 @@ pub fn tables_refusal(board: Board, list: MappingList, records: &[u32], protecti
     0
 }
 
-// Of `map`.
-pub fn map_refusal(
-    board: Board,
-    list: MappingList,
-    records: &[u32],
-    protections: &[u8],
-    m: Mapping,
-) -> u8
+// Of `map`, where seen is what a look at the list told of the mapping's page.
+pub fn map_refusal(board: Board, seen: Seen, records: &[u32], protections: &[u8], m: Mapping) -> u8
     requires { ⌜ Regular board ⌝ }
-    ensures { λ r. ⌜ r ≡ firstRefusal (mapCauses board (tables list (now (records .entry)) (now (protections .entry))) (m .space) (m .page) (m .frame) (m .rights)) ⌝ }
+    ensures { λ r. ⌜ r ≡ firstRefusal (toldTables board (seen .kept) (now (records .entry)) (now (protections .entry)) ++ toldMapping board (m .space) (m .page) (m .frame) (m .rights) seen) ⌝ }
 {
-    let refusal = tables_refusal(board, list, records, protections);
+    let refusal = tables_refusal(board, seen.kept, records, protections);
     if refusal != 0 {
         return refusal;
     }
-    mapping_refusal(board, list, m)
+    mapping_refusal(board, seen, m)
 }
 
-// Of a mapping, in its numbers and the list.
-pub fn mapping_refusal(board: Board, list: MappingList, m: Mapping) -> u8
-    ensures { λ r. ⌜ r ≡ mappingRefusal board list m ⌝ }
+// Of a mapping, in its numbers and what a look at the list told of its page.
+pub fn mapping_refusal(board: Board, seen: Seen, m: Mapping) -> u8
+    ensures { λ r. ⌜ r ≡ firstRefusal (toldMapping board (m .space) (m .page) (m .frame) (m .rights) seen) ⌝ }
 {
     if out_of_space(m.space, m.page) {
         return 3;
@@ -82,75 +73,74 @@ pub fn mapping_refusal(board: Board, list: MappingList, m: Mapping) -> u8
     if !is_right(m.rights) {
         return 5;
     }
-    if is_mapped(list, m.space, m.page) {
+    if seen.mapped {
         return 7;
     }
-    if list.count == mapping::CAPACITY {
+    if seen.count == mapping::CAPACITY {
         return 9;
     }
     0
 }
 
-// Of `unmap` and `read`.
+// Of `unmap` and `read`, where seen is what a look at the list told of the page.
 pub fn page_refusal(
     board: Board,
-    list: MappingList,
+    seen: Seen,
     records: &[u32],
     protections: &[u8],
     space: u8,
     page: u16,
 ) -> u8
     requires { ⌜ Regular board ⌝ }
-    ensures { λ r. ⌜ r ≡ firstRefusal (pageCauses board (tables list (now (records .entry)) (now (protections .entry))) space page) ⌝ }
+    ensures { λ r. ⌜ r ≡ firstRefusal (toldTables board (seen .kept) (now (records .entry)) (now (protections .entry)) ++ toldPage space page seen) ⌝ }
 {
-    let refusal = tables_refusal(board, list, records, protections);
+    let refusal = tables_refusal(board, seen.kept, records, protections);
     if refusal != 0 {
         return refusal;
     }
     if out_of_space(space, page) {
         return 3;
     }
-    if !is_mapped(list, space, page) {
+    if !seen.mapped {
         return 8;
     }
     0
 }
 
-// Of `write`.
+// Of `write`, likewise.
 pub fn write_refusal(
     board: Board,
-    list: MappingList,
+    seen: Seen,
     records: &[u32],
     protections: &[u8],
     space: u8,
     page: u16,
 ) -> u8
     requires { ⌜ Regular board ⌝ }
-    ensures { λ r. ⌜ r ≡ firstRefusal (writeCauses board (tables list (now (records .entry)) (now (protections .entry))) space page) ⌝ }
+    ensures { λ r. ⌜ r ≡ firstRefusal (toldTables board (seen .kept) (now (records .entry)) (now (protections .entry)) ++ toldWrite space page seen) ⌝ }
 {
-    let refusal = page_refusal(board, list, records, protections, space, page);
+    let refusal = page_refusal(board, seen, records, protections, space, page);
     if refusal != 0 {
         return refusal;
     }
-    let m = listed_mapping(list, space, page);
-    if m.rights == mapping::READ_ONLY {
+    if seen.mapping.rights == mapping::READ_ONLY {
         return 10;
     }
     0
 }
 
-// Of both transfers.
+// Of both transfers, where kept says whether the list keeps its rules.
 pub fn transfer_refusal(
     board: Board,
-    list: MappingList,
+    kept: bool,
     records: &[u32],
     protections: &[u8],
     frame: u8,
 ) -> u8
     requires { ⌜ Regular board ⌝ }
-    ensures { λ r. ⌜ r ≡ firstRefusal (transferCauses board (tables list (now (records .entry)) (now (protections .entry))) frame) ⌝ }
+    ensures { λ r. ⌜ r ≡ firstRefusal (toldTables board kept (now (records .entry)) (now (protections .entry)) ++ frameCause board frame ∷ []) ⌝ }
 {
-    let refusal = tables_refusal(board, list, records, protections);
+    let refusal = tables_refusal(board, kept, records, protections);
     if refusal != 0 {
         return refusal;
     }
@@ -158,35 +148,6 @@ pub fn transfer_refusal(
         return 4;
     }
     0
-}
-
-// The listed mapping of a page of a space, all 0 where there is none.
-pub fn listed_mapping(list: MappingList, space: u8, page: u16) -> Mapping
-    ensures { λ r. ⌜ r ≡ listedMapping list space page ⌝ }
-{
-    mapping::at(list, place_of(list, space, page))
-}
-
-// The place of a page of a space in the list, past the list where there is none.
-pub fn place_of(list: MappingList, space: u8, page: u16) -> usize
-    ensures { λ r. ⌜ r ≡ placeOf (lookup list space page) ⌝ }
-{
-    let found = mapping::lookup(list, space, page);
-    match found {
-        Found::At(i) => i,
-        Found::Nothing => mapping::CAPACITY,
-    }
-}
-
-// Whether a page of a space is mapped.
-fn is_mapped(list: MappingList, space: u8, page: u16) -> bool
-    ensures { λ r. ⌜ r ≡ isMapped list space page ⌝ }
-{
-    let place = mapping::lookup(list, space, page);
-    match place {
-        Found::At(_) => true,
-        Found::Nothing => false,
-    }
 }
 
 // Whether rights are to read, or to read and write.

@@ -1,4 +1,4 @@
--- What append, remove and empty make of the list: the records, their number, the count, and the mapping at each place.
+-- What insert, remove and empty make of the list: the records, their number, the count, and the mapping at each place.
 use mathlib.Core.Path.{_≡_, refl, ap, _∙_}
 use mathlib.Core.Bool.{_&&_, and-false}
 use mathlib.Core.Logic.{⊎-elim}
@@ -6,13 +6,13 @@ use Prim.Native.Nat.{ℕ, suc, _+_, _-_, _≤_, _<_}
 use native.Mathlib.Omega.{arith}
 use borrow.Author.Tests.{lt-ltb, le-ltb, le-leb, lt-leb}
 use lib.Dec.{leb, ltb}
-use lib.ListN.{length, set, replicate, length-set, length-replicate, getD-replicate, List·getD-eq-default}
-use lib.Seq.{getD-set-same, getD-set-other}
+use lib.ListN.{length, replicate, length-replicate, getD-replicate, List·getD-eq-default}
 use Rattle.mapping.specs.declared.Mapping.{Mapping}
 use Rattle.mapping.specs.declared.MappingList.{MappingList}
 use Rattle.mapping.specs.Entry.{capacity, zeroMapping, mappingAt}
-use Rattle.mapping.specs.Change.{empty, append, without, remove}
+use Rattle.mapping.specs.Change.{empty, including, insertAt, without, remove}
 use Rattle.mapping.proofs.Tests.{cond-true, cond-false, lt-or-le}
+use Rattle.mapping.proofs.Including.{including-length, including-earlier, including-same, including-later}
 use Rattle.mapping.proofs.Without.{without-length, without-earlier, without-later}
 
 -- ---- empty
@@ -32,34 +32,36 @@ empty-at i =
     (λ h. List·getD-eq-default (replicate capacity zeroMapping) zeroMapping {n = i} (let n = empty-length in omega arith))
     (lt-or-le i capacity)
 
--- ---- append
+-- ---- insert
 
-module _ (l : MappingList) (m : Mapping) where
-  pub append-full : capacity ≤ l .count → append l m ≡ l
-  unfolding append
-  append-full h = cond-false _ _ _ (le-ltb _ _ h)
+module _ (l : MappingList) (i : ℕ) (m : Mapping) where
+  pub insertAt-full : capacity ≤ l .count → insertAt l i m ≡ l
+  unfolding insertAt
+  insertAt-full h = cond-false (ltb (l .count) capacity && leb i (l .count)) _ _ (simp (le-ltb _ _ h))
 
-  pub append-room : l .count < capacity → append l m ≡ record { items = set (l .items) (l .count) m; count = l .count + 1 }
-  unfolding append
-  append-room h = cond-true _ _ _ (lt-ltb _ _ h)
+  pub insertAt-past : l .count < i → insertAt l i m ≡ l
+  unfolding insertAt
+  insertAt-past h = cond-false (ltb (l .count) capacity && leb i (l .count)) _ _ (simp (lt-leb _ _ h, and-false))
 
-  pub append-count : l .count < capacity → append l m .count ≡ l .count + 1
-  append-count h = ap (λ (x : MappingList). x .count) (append-room h)
+  pub insertAt-room : l .count < capacity → i ≤ l .count → insertAt l i m ≡ record { items = including (l .items) i m; count = l .count + 1 }
+  unfolding insertAt
+  insertAt-room h k = cond-true (ltb (l .count) capacity && leb i (l .count)) _ _ (simp (lt-ltb _ _ h, le-leb _ _ k))
 
-  pub append-length : length (append l m .items) ≡ length (l .items)
-  append-length =
-      ⊎-elim (λ h. ap (λ (x : MappingList). length (x .items)) (append-room h) ∙ length-set (l .items) (l .count) m)
-      (λ h. ap (λ (x : MappingList). length (x .items)) (append-full h))
-      (lt-or-le (l .count) capacity)
+module _ (l : MappingList) (i : ℕ) (m : Mapping) (room : l .count < capacity) (within : i ≤ l .count) where
+  pub insertAt-count : insertAt l i m .count ≡ l .count + 1
+  insertAt-count = ap (λ (x : MappingList). x .count) (insertAt-room l i m room within)
 
-  pub append-at-same : l .count < capacity → l .count < length (l .items) → mappingAt (append l m) (l .count) ≡ m
-  append-at-same h k = ap (λ (x : MappingList). mappingAt x (l .count)) (append-room h) ∙ getD-set-same (l .items) (l .count) m zeroMapping k
+  pub insertAt-length : i < length (l .items) → length (insertAt l i m .items) ≡ length (l .items)
+  insertAt-length h = ap (λ (x : MappingList). length (x .items)) (insertAt-room l i m room within) ∙ including-length (l .items) i m h
 
-  pub append-at-other : (j : ℕ) → (j ≡ l .count → ⊥) → mappingAt (append l m) j ≡ mappingAt l j
-  append-at-other j e =
-      ⊎-elim (λ h. ap (λ (x : MappingList). mappingAt x j) (append-room h) ∙ getD-set-other (l .items) (l .count) j m zeroMapping e)
-      (λ h. ap (λ (x : MappingList). mappingAt x j) (append-full h))
-      (lt-or-le (l .count) capacity)
+  pub insertAt-at-earlier : i < length (l .items) → (j : ℕ) → j < i → mappingAt (insertAt l i m) j ≡ mappingAt l j
+  insertAt-at-earlier h j k = ap (λ (x : MappingList). mappingAt x j) (insertAt-room l i m room within) ∙ including-earlier (l .items) i m h j k
+
+  pub insertAt-at-same : i < length (l .items) → mappingAt (insertAt l i m) i ≡ m
+  insertAt-at-same h = ap (λ (x : MappingList). mappingAt x i) (insertAt-room l i m room within) ∙ including-same (l .items) i m h
+
+  pub insertAt-at-later : i < length (l .items) → (j : ℕ) → i ≤ j → suc j < length (l .items) → mappingAt (insertAt l i m) (suc j) ≡ mappingAt l j
+  insertAt-at-later h j k o = ap (λ (x : MappingList). mappingAt x (suc j)) (insertAt-room l i m room within) ∙ including-later (l .items) i m h j k o
 
 -- ---- remove
 

@@ -1,10 +1,12 @@
 -- What the tests of one mapping say.
 use mathlib.Core.Path.{_≡_, refl, sym, ap, ap₂, subst, _∙_}
-use mathlib.Core.Bool.{Bool, true, false, _&&_, _||_, or-true, false≢true}
+use mathlib.Core.Bool.{Bool, true, false, _&&_, _||_, and-true, and-false, or-true, false≢true}
 use mathlib.Core.Logic.{inl, inr, ⊎-elim}
-use Prim.Native.Nat.{ℕ}
+use Prim.Native.Nat.{ℕ, zero, suc, _+_}
+use native.Mathlib.Numerals.{unary-clauses}
+use native.Mathlib.Omega.{arith}
 use lib.Dec.{eqb}
-use borrow.Author.Tests.{ltb-true, lt-ltb, eqb-true, eq-eqb}
+use borrow.Author.Tests.{ltb-true, lt-ltb, eqb-true, eq-eqb, ne-eqb}
 use Rattle.board.specs.declared.Board.{Board}
 use Rattle.mapping.specs.declared.Mapping.{Mapping}
 use Rattle.mapping.specs.Entry.{readOnly, readWrite, zeroMapping, inRange, isZero, isAt}
@@ -76,5 +78,7 @@ module _ (m : Mapping) (s p : ℕ) where
 pub maps-cong : {m n : Mapping} {s p : ℕ} → m ≡ n → MapsTo m s p → MapsTo n s p
 maps-cong {s = s} {p = p} e = subst (λ (x : Mapping). MapsTo x s p) e
 
-pub maps-cong₂ : {m m′ n n′ : Mapping} → m ≡ m′ → n ≡ n′ → MapsTo m (n .space) (n .page) → MapsTo m′ (n′ .space) (n′ .page)
-maps-cong₂ p q e = (cc, cc)
+-- a sum is 0 if both parts are
+pub sum-zero : (a b : ℕ) → eqb (a + b) 0 ≡ (eqb a 0 && eqb b 0)
+sum-zero a zero = simp (unary-clauses, and-true)
+sum-zero a (suc b) = rw (ne-eqb (a + suc b) 0 (λ e. absurd (omega arith)), ne-eqb (suc b) 0 (λ e. absurd (omega arith)), and-false (eqb a 0))

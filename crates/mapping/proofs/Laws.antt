@@ -2,12 +2,13 @@
 pub use Rattle.mapping.proofs.Records.{items-length}
 pub use Rattle.mapping.proofs.Entry.{inRange-true, range-inRange, isZero-true, isZero-zero, isAt-true, maps-isAt, isAt-false, not-isAt}
 pub use Rattle.mapping.proofs.Rules.{keepsRules-true, rules-keepsRules, count-length}
+pub use Rattle.mapping.proofs.Place.{found-place}
+pub use Rattle.mapping.proofs.Looks.{look-kept, look-broken}
 pub use Rattle.mapping.proofs.Lookups.{lookup-at, at-lookup, lookup-nothing, nothing-lookup, lookup-cases, listed-found}
 pub use Rattle.mapping.proofs.Lookups.{mappingOf-at, mappingOf-nothing, mappingOf-listed, mappingOf-unlisted}
 pub use Rattle.mapping.proofs.Change.{empty-count, empty-length, empty-at}
-pub use Rattle.mapping.proofs.Change.{append-full, append-room, append-count, append-length, append-at-same, append-at-other}
 pub use Rattle.mapping.proofs.Change.{remove-unlisted, remove-over, remove-listed, remove-count, remove-length, remove-at-earlier, remove-at-later}
 pub use Rattle.mapping.proofs.Start.{empty-rules, mappingOf-empty}
-pub use Rattle.mapping.proofs.Appended.{append-rules, lookup-append-same, lookup-append-other, mappingOf-append-same, mappingOf-append-other}
+pub use Rattle.mapping.proofs.Inserted.{inserted-count, inserted-length, inserted-rules, mappingOf-inserted-same, mappingOf-inserted-other}
 pub use Rattle.mapping.proofs.Removed.{remove-rules, lookup-remove-same, mappingOf-remove-same, mappingOf-remove-other}
 pub use Rattle.mapping.proofs.Batches.{items-of-length, items-of-at, batch-of-items, batch-of-length}

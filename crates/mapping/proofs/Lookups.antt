@@ -6,13 +6,13 @@ use Prim.Native.Nat.{ℕ, min, _<_}
 use native.Mathlib.Omega.{arith}
 use lib.ListN.{length}
 use Rattle.board.specs.declared.Board.{Board}
-use Rattle.mapping.specs.declared.Mapping.{Mapping}
 use Rattle.mapping.specs.declared.MappingList.{MappingList}
 use Rattle.mapping.specs.declared.Found.the-variants.{At, Nothing}
 use Rattle.mapping.specs.Entry.{isAt, mappingAt}
 use Rattle.mapping.specs.Lookup.{lookup, mappingFound, mappingOf}
 use Rattle.mapping.specs.Facts.{MapsTo, Rules, FoundAt, Unlisted}
 use Rattle.mapping.proofs.Entry.{isAt-true, maps-isAt, isAt-false, not-isAt}
+use Rattle.mapping.proofs.Order.{ordered-distinct}
 use Rattle.mapping.proofs.Rules.{count-length}
 use Rattle.mapping.proofs.First.{First, at-firstOf, nothing-firstOf, firstOf-cases, firstOf-at, firstOf-nothing}
 
@@ -64,7 +64,7 @@ module _ (b : Board) (l : MappingList) (rules : Rules b l) where
         listed = h;
         inside = omega arith;
         maps = m;
-        first = λ k j e. let f = rules .distinct k i (omega arith) h (e .0 ∙ sym (m .0), e .1 ∙ sym (m .1)) in omega arith;
+        first = λ k j e. let f = ordered-distinct l (rules .ordered) k i (omega arith) h (e .0 ∙ sym (m .0), e .1 ∙ sym (m .1)) in omega arith;
       }
 
   pub mappingOf-listed : (i s p : ℕ) → i < l .count → MapsTo (mappingAt l i) s p → mappingOf l s p ≡ some (mappingAt l i)

@@ -17,7 +17,8 @@ use Rattle.mapping.specs.Lookup.{lookup, mappingOf}
 use Rattle.mapping.specs.Change.{remove}
 use Rattle.mapping.specs.Facts.{InRange, MapsTo, Rules, FoundAt, Unlisted}
 use Rattle.mapping.proofs.Tests.{cond-true, cond-false, lt-or-le}
-use Rattle.mapping.proofs.Entry.{maps-cong, maps-cong₂}
+use Rattle.mapping.proofs.Entry.{maps-cong}
+use Rattle.mapping.proofs.Order.{ordered-distinct, before-cong₂}
 use Rattle.mapping.proofs.Rules.{count-length}
 use Rattle.mapping.proofs.Lookups.{at-lookup, nothing-lookup, lookup-cases, mappingOf-at, mappingOf-nothing, mappingOf-listed, mappingOf-unlisted}
 use Rattle.mapping.proofs.Change.{remove-count, remove-at-earlier, remove-at-later}
@@ -37,8 +38,8 @@ source-to i k h =
     (λ o. ⊎-elim (λ e. absurd (h (sym e))) (λ q. (k - 1, ⊎-elim (λ p. absurd (omega arith)) (λ p. omega arith) (source-of i (k - 1)))) (eq-or-lt-of-le o))
     (lt-or-le k i)
 
-source-one : (i j k : ℕ) → source i j ≡ source i k → j ≡ k
-source-one i j k e =
+source-rises : (i j k : ℕ) → j < k → source i j < source i k
+source-rises i j k h =
     ⊎-elim (λ p. ⊎-elim (λ q. omega arith) (λ q. omega arith) (source-of i k))
     (λ p. ⊎-elim (λ q. omega arith) (λ q. omega arith) (source-of i k))
     (source-of i j)
@@ -69,7 +70,7 @@ module _ (b : Board) (l : MappingList) (i : ℕ) (rules : Rules b l) (listed : i
   remove-rules = record {
     count-le = let n = counted in omega arith;
     in-range = λ j h. subst (InRange b) (sym (moved j)) (rules .in-range (source i j) (source-listed j h));
-    distinct = λ j k h o e. source-one i j k (rules .distinct (source i j) (source i k) (source-listed j h) (source-listed k o) (maps-cong₂ (moved j) (moved k) e));
+    ordered = λ j k h o. before-cong₂ (sym (moved j)) (sym (moved k)) (rules .ordered (source i j) (source i k) (source-rises i j k h) (source-listed k o));
     rest-zero = λ j h. moved j ∙ rules .rest-zero (source i j) (rest j h);
   }
     where
@@ -79,7 +80,7 @@ module _ (b : Board) (l : MappingList) (i : ℕ) (rules : Rules b l) (listed : i
   -- the removed pair is no longer found
   pub lookup-remove-same : lookup (remove l i) (mappingAt l i .space) (mappingAt l i .page) ≡ Nothing
   lookup-remove-same =
-      nothing-lookup (remove l i) _ _ (λ j h k e. source-not i j (rules .distinct (source i j) i (source-listed j h) listed (maps-cong (moved j) e)))
+      nothing-lookup (remove l i) _ _ (λ j h k e. source-not i j (ordered-distinct l (rules .ordered) (source i j) i (source-listed j h) listed (maps-cong (moved j) e)))
 
   pub mappingOf-remove-same : mappingOf (remove l i) (mappingAt l i .space) (mappingAt l i .page) ≡ none
   mappingOf-remove-same = mappingOf-nothing (remove l i) _ _ lookup-remove-same

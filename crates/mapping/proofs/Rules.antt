@@ -1,30 +1,26 @@
 -- The test of the list's rules and the facts that it says, for any board and any list.
-use mathlib.Core.Path.{_≡_, sym, ap, _∙_}
-use mathlib.Core.Bool.{Bool, true, not, _||_, or-true}
+use mathlib.Core.Path.{_≡_, refl, sym, ap, _∙_}
+use mathlib.Core.Bool.{Bool, true, false, _||_, or-true, and-false}
 use mathlib.Core.Logic.{⊎-elim}
 use Prim.Native.Nat.{ℕ, _≤_, _<_}
 use native.Mathlib.Omega.{arith}
-use native.Mathlib.Nat.{eq-or-lt-of-le, le-refl}
+use native.Mathlib.Nat.{le-refl}
 use lib.Dec.{ltb}
 use lib.ListN.{length, List·getD-eq-default}
-use borrow.Author.Tests.{not-true, leb-true, le-leb, lt-ltb, le-ltb}
+use borrow.Author.Tests.{leb-true, le-leb, lt-leb, lt-ltb, le-ltb}
 use Rattle.bits.proofs.Mask.{all-at, all-of}
 use Rattle.board.specs.declared.Board.{Board}
 use Rattle.mapping.specs.declared.Mapping.{Mapping}
 use Rattle.mapping.specs.declared.MappingList.{MappingList}
-use Rattle.mapping.specs.Entry.{zeroMapping, isZero, mappingAt}
-use Rattle.mapping.specs.Rules.{allInRange, fresh, noDoubles, restZero, keepsRules}
-use Rattle.mapping.specs.Facts.{MapsTo, Rules}
+use Rattle.mapping.specs.Entry.{capacity, zeroMapping, isZero, mappingAt}
+use Rattle.mapping.specs.Rules.{allInRange, rising, restZero, keepsRules}
+use Rattle.mapping.specs.Facts.{Rules}
 use Rattle.mapping.proofs.Tests.{chain-last, and-both, lt-or-le}
-use Rattle.mapping.proofs.Entry.{inRange-true, range-inRange, isZero-true, isZero-zero, isAt-false, not-isAt}
+use Rattle.mapping.proofs.Entry.{inRange-true, range-inRange, isZero-true, isZero-zero}
+use Rattle.mapping.proofs.Order.{neighbours-order}
 
 module _ (b : Board) (l : MappingList) where
   -- ---- from the test to the facts
-
-  -- an earlier place has not the space and page of a listed one
-  apart : noDoubles l ≡ true → (i j : ℕ) → i < j → j < l .count → MapsTo (mappingAt l i) (mappingAt l j .space) (mappingAt l j .page) → ⊥
-  unfolding noDoubles fresh
-  apart e i j h k = isAt-false _ _ _ (not-true _ (all-at j _ (all-at _ _ e j k) i h))
 
   zero-past : restZero l ≡ true → (i : ℕ) → l .count ≤ i → mappingAt l i ≡ zeroMapping
   unfolding restZero
@@ -43,18 +39,29 @@ module _ (b : Board) (l : MappingList) where
       record {
         count-le = leb-true _ _ (u .0);
         in-range = λ i h. inRange-true b _ (all-at _ _ (u .1) i h);
-        distinct = λ i j h k m.
-            ⊎-elim (λ o. absurd (apart (t .1) i j o k m))
-            (λ o. ⊎-elim sym (λ o. absurd (apart (t .1) j i o h (sym (m .0), sym (m .1)))) (eq-or-lt-of-le o))
-            (lt-or-le i j);
+        ordered = neighbours-order l .0 (t .1);
         rest-zero = zero-past (s .1);
       }
 
-  -- ---- from the facts to the test
+  -- ---- the test, part by part
 
-  all-fresh : Rules b l → noDoubles l ≡ true
-  unfolding noDoubles fresh
-  all-fresh r = all-of _ _ (λ j k. all-of _ _ (λ i h. ap not (not-isAt _ _ _ (λ m. let e = r .distinct i j (omega arith) k m in omega arith))))
+  pub keeps-over : capacity < l .count → keepsRules b l ≡ false
+  unfolding keepsRules
+  keeps-over h = rw (lt-leb _ _ h)
+
+  pub keeps-unranged : allInRange b l ≡ false → keepsRules b l ≡ false
+  unfolding keepsRules
+  keeps-unranged e = rw (e, and-false)
+
+  pub keeps-unordered : rising l ≡ false → keepsRules b l ≡ false
+  unfolding keepsRules
+  keeps-unordered e = rw (e, and-false)
+
+  pub keeps-rest : l .count ≤ capacity → allInRange b l ≡ true → rising l ≡ true → restZero l ≡ keepsRules b l
+  unfolding keepsRules
+  keeps-rest h r o = chain-last _ _ _ _ _ (le-leb _ _ h) r o refl
+
+  -- ---- from the facts to the test
 
   all-zero : Rules b l → restZero l ≡ true
   unfolding restZero
@@ -70,8 +77,8 @@ module _ (b : Board) (l : MappingList) where
       rest {i} k = ap (λ (t : Bool). ltb i (l .count) || t) (ap isZero (r .rest-zero i k) ∙ isZero-zero) ∙ or-true (ltb i (l .count))
 
   pub rules-keepsRules : Rules b l → keepsRules b l ≡ true
-  unfolding keepsRules allInRange
-  rules-keepsRules r = sym (chain-last _ _ _ _ true (le-leb _ _ (r .count-le)) (all-of _ _ (λ i h. range-inRange b _ (r .in-range i h))) (all-fresh r) (sym (all-zero r)))
+  unfolding allInRange
+  rules-keepsRules r = sym (keeps-rest (r .count-le) (all-of _ _ (λ i h. range-inRange b _ (r .in-range i h))) (neighbours-order l .1 (r .ordered))) ∙ all-zero r
 
   -- ---- the count and the number of records
 

@@ -13,7 +13,7 @@ use Rattle.mapping.proofs.Change.{empty-count, empty-at}
 pub empty-rules : (b : Board) → Rules b empty
 empty-rules b =
     let n = empty-count in
-    record { count-le = omega arith; in-range = λ i h. absurd (omega arith); distinct = λ i j h k m. absurd (omega arith); rest-zero = λ i h. empty-at i }
+    record { count-le = omega arith; in-range = λ i h. absurd (omega arith); ordered = λ i j h k. absurd (omega arith); rest-zero = λ i h. empty-at i }
 
 pub mappingOf-empty : (s p : ℕ) → mappingOf empty s p ≡ none
 mappingOf-empty s p = mappingOf-nothing empty s p (nothing-lookup empty s p (λ i h k m. let n = empty-count in omega arith))

@@ -1,8 +1,9 @@
 -- Tests: a chain of them, the case that one picks, how a branch came out, the test of every place, and the order of two numbers.
-use mathlib.Core.Path.{_≡_, refl, sym, _∙_}
-use mathlib.Core.Bool.{Bool, true, false, not, cond, _&&_, _||_, false≢true}
+use mathlib.Core.Path.{_≡_, refl, sym, ap, _∙_}
+use mathlib.Core.Bool.{Bool, true, false, not, cond, _&&_, _||_, and-true, and-assoc, false≢true}
 use mathlib.Core.Logic.{_⊎_, inl, inr}
-use Prim.Native.Nat.{ℕ, _≤_, _<_}
+use Prim.Native.Nat.{ℕ, zero, suc, _+_, _≤_, _<_}
+use native.Mathlib.Numerals.{add-one}
 use lib.Dec.{T as Holds, ltb}
 use borrow.Author.Tests.{ltb-true, ltb-false}
 use Rattle.bits.specs.Mask.{all}
@@ -48,6 +49,15 @@ all-not n p k l e = go (all n p) refl
     go : (t : Bool) → all n p ≡ t → t ≡ false
     go true z = sym (all-at n p z k l) ∙ e
     go false z = refl
+
+-- one place more
+all-suc : (n : ℕ) (p : ℕ → Bool) → all (suc n) p ≡ (all n p && p n)
+unfolding all
+all-suc zero p = and-true (p 0)
+all-suc (suc n) p = ap (λ (t : Bool). p 0 && t) (all-suc n (λ k. p (suc k))) ∙ sym (and-assoc (p 0) (all n (λ k. p (suc k))) (p (suc n)))
+
+pub all-more : (n : ℕ) (p : ℕ → Bool) → all (n + 1) p ≡ (all n p && p n)
+all-more n p = ap (λ (m : ℕ). all m p) (add-one n) ∙ all-suc n p
 
 -- two numbers, by their order
 pub lt-or-le : (i j : ℕ) → (i < j) ⊎ (j ≤ i)

@@ -1,6 +1,6 @@
--- Document 01, "Frame records and mapping list": one mapping, and the mapping at a place of the list.
+-- Document 01, "Frame records and mapping list": one mapping, request N2's order of space, then page, and the mapping at a place of the list.
 use mathlib.Core.Bool.{Bool, _&&_, _||_}
-use Prim.Native.Nat.{ℕ}
+use Prim.Native.Nat.{ℕ, _+_, _*_}
 use lib.Dec.{eqb, ltb}
 use lib.ListN.{getD}
 use Rattle.board.specs.declared.Board.{Board}
@@ -35,6 +35,18 @@ isZero m = eqb (m .space) 0 && eqb (m .page) 0 && eqb (m .frame) 0 && eqb (m .ri
 -- whether m maps this page of this space
 unfoldable pub isAt : Mapping → ℕ → ℕ → Bool
 isAt m space page = eqb (m .space) space && eqb (m .page) page
+
+-- how many numbers a page's field can hold: the field has 16 bits
+abbrev pub pageNumbers : ℕ
+pageNumbers = 65536
+
+-- a number that rises with the space, and in a space with the page
+abbrev pub keyOf : ℕ → ℕ → ℕ
+keyOf space page = space * pageNumbers + page
+
+-- whether m stands before this page of this space: in a smaller space, or in the same one at a smaller page
+unfoldable pub isBefore : Mapping → ℕ → ℕ → Bool
+isBefore m space page = ltb (m .space) space || (eqb (m .space) space && ltb (m .page) page)
 
 -- the record at place i, all 0 past the last
 abbrev pub mappingAt : MappingList → ℕ → Mapping

@@ -20,11 +20,23 @@ pub record InRange (b : Board) (m : Mapping) : Type 0 where
 abbrev pub MapsTo : Mapping → ℕ → ℕ → Type 0
 MapsTo m s p = (m .space ≡ s) × (m .page ≡ p)
 
+-- m stands before this page of this space
+abbrev pub Before : Mapping → ℕ → ℕ → Type 0
+Before m s p = (m .space < s) ⊎ ((m .space ≡ s) × (m .page < p))
+
+-- every earlier listed mapping stands before every later one
+abbrev pub Ordered : MappingList → Type 0
+Ordered l = (i j : ℕ) → i < j → j < l .count → Before (mappingAt l i) (mappingAt l j .space) (mappingAt l j .page)
+
+-- no two listed mappings share space and page
+abbrev pub Distinct : MappingList → Type 0
+Distinct l = (i j : ℕ) → i < l .count → j < l .count → MapsTo (mappingAt l i) (mappingAt l j .space) (mappingAt l j .page) → i ≡ j
+
 -- the list keeps its rules
 pub record Rules (b : Board) (l : MappingList) : Type 0 where
   pub count-le : l .count ≤ capacity
   pub in-range : (i : ℕ) → i < l .count → InRange b (mappingAt l i)
-  pub distinct : (i j : ℕ) → i < l .count → j < l .count → MapsTo (mappingAt l i) (mappingAt l j .space) (mappingAt l j .page) → i ≡ j
+  pub ordered : Ordered l
   pub rest-zero : (i : ℕ) → l .count ≤ i → mappingAt l i ≡ zeroMapping
 
 -- place i is the first listed one of this page of this space
@@ -37,3 +49,9 @@ pub record FoundAt (l : MappingList) (s p i : ℕ) : Type 0 where
 -- no listed place is of this page of this space
 abbrev pub Unlisted : MappingList → ℕ → ℕ → Type 0
 Unlisted l s p = (i : ℕ) → i < l .count → i < length (l .items) → MapsTo (mappingAt l i) s p → ⊥
+
+-- a mapping of this page of this space goes to place i: those below it stand before the page, those from there on do not
+pub record GoesTo (l : MappingList) (s p i : ℕ) : Type 0 where
+  pub within : i ≤ l .count
+  pub earlier : (k : ℕ) → k < i → Before (mappingAt l k) s p
+  pub later : (k : ℕ) → i ≤ k → k < l .count → Before (mappingAt l k) s p → ⊥

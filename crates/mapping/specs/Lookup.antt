@@ -1,13 +1,14 @@
--- The place and the mapping of a page of a space.
-use mathlib.Core.Bool.{Bool, cond}
+-- The place and the mapping of a page of a space, and the place at which a new one goes.
+use mathlib.Core.Bool.{Bool, true, false, cond}
 use mathlib.Core.Option.{Option, none, some}
 use Prim.Native.Nat.{ℕ, zero, suc, min}
 use lib.ListN.{length}
+use Rattle.bits.specs.Mask.{countOf}
 use Rattle.mapping.specs.declared.Mapping.{Mapping}
 use Rattle.mapping.specs.declared.MappingList.{MappingList}
 use Rattle.mapping.specs.declared.Found.{Found}
 use Rattle.mapping.specs.declared.Found.the-variants.{At, Nothing}
-use Rattle.mapping.specs.Entry.{isAt, mappingAt}
+use Rattle.mapping.specs.Entry.{capacity, isAt, isBefore, mappingAt}
 
 -- what was found, else what else is
 abbrev pub orElse : Found → Found → Found
@@ -31,3 +32,25 @@ mappingFound l Nothing = none
 -- the listed mapping of this space and page, or none
 unfoldable pub mappingOf : MappingList → ℕ → ℕ → Option Mapping
 mappingOf l space page = mappingFound l (lookup l space page)
+
+-- whether something was found
+abbrev pub found : Found → Bool
+found (At i) = true
+found Nothing = false
+
+-- whether this page of this space is mapped
+abbrev pub isMapped : MappingList → ℕ → ℕ → Bool
+isMapped l space page = found (lookup l space page)
+
+-- the place found, past the list where there is none
+abbrev pub placeOf : Found → ℕ
+placeOf (At i) = i
+placeOf Nothing = capacity
+
+-- the listed mapping of this space and page, all 0 where there is none
+abbrev pub listedMapping : MappingList → ℕ → ℕ → Mapping
+listedMapping l space page = mappingAt l (placeOf (lookup l space page))
+
+-- where a mapping of this space and page goes: behind the listed ones that stand before it
+unfoldable pub placeFor : MappingList → ℕ → ℕ → ℕ
+placeFor l space page = countOf (l .count) (λ i. isBefore (mappingAt l i) space page)

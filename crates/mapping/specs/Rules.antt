@@ -1,24 +1,25 @@
--- Document 01, "Frame records and mapping list": the rules of the list, as a test of any content. The first `count` places are listed.
-use mathlib.Core.Bool.{Bool, not, _&&_, _||_}
-use Prim.Native.Nat.{ℕ}
+-- Document 01, "Frame records and mapping list", with request N2: the rules of the list, as a test of any content. The first `count` places are
+-- listed.
+use mathlib.Core.Bool.{Bool, _&&_, _||_}
+use Prim.Native.Nat.{ℕ, suc, _-_}
 use lib.Dec.{leb, ltb}
 use lib.ListN.{length}
 use Rattle.bits.specs.Mask.{all}
 use Rattle.board.specs.declared.Board.{Board}
 use Rattle.mapping.specs.declared.MappingList.{MappingList}
-use Rattle.mapping.specs.Entry.{capacity, inRange, isZero, isAt, mappingAt}
+use Rattle.mapping.specs.Entry.{capacity, inRange, isZero, isBefore, mappingAt}
 
 -- every listed mapping is in range
 unfoldable pub allInRange : Board → MappingList → Bool
 allInRange b l = all (l .count) (λ i. inRange b (mappingAt l i))
 
--- no place before i has the space and page of place i
-unfoldable pub fresh : MappingList → ℕ → Bool
-fresh l i = all i (λ j. not (isAt (mappingAt l j) (mappingAt l i .space) (mappingAt l i .page)))
+-- the mapping at place i stands before the next
+unfoldable pub risesAt : MappingList → ℕ → Bool
+risesAt l i = isBefore (mappingAt l i) (mappingAt l (suc i) .space) (mappingAt l (suc i) .page)
 
--- no two listed mappings share space and page
-unfoldable pub noDoubles : MappingList → Bool
-noDoubles l = all (l .count) (fresh l)
+-- each listed mapping stands before the next: request N2's "rising order of space, then page"
+unfoldable pub rising : MappingList → Bool
+rising l = all (l .count - 1) (risesAt l)
 
 -- past the count all fields are 0
 unfoldable pub restZero : MappingList → Bool
@@ -26,4 +27,4 @@ restZero l = all (length (l .items)) (λ i. ltb i (l .count) || isZero (mappingA
 
 -- whether the list keeps its rules
 unfoldable pub keepsRules : Board → MappingList → Bool
-keepsRules b l = leb (l .count) capacity && allInRange b l && noDoubles l && restZero l
+keepsRules b l = leb (l .count) capacity && allInRange b l && rising l && restZero l

@@ -2,11 +2,14 @@
 pub mod lent;
 
 ghost use mathlib.Core.Path.{_≡_};
-ghost use Prim.Native.Nat.{_≤_, _<_};
-ghost use Rattle.mapping.specs.Entry.{capacity, zeroMapping, inRange, isZero, isAt, mappingAt};
-ghost use Rattle.mapping.specs.Rules.{allInRange, noDoubles, restZero, keepsRules};
-ghost use Rattle.mapping.specs.Lookup.{lookup};
-ghost use Rattle.mapping.specs.Change.{empty, append, remove};
+ghost use mathlib.Core.Bool.{true};
+ghost use Prim.Native.Nat.{_^_, _≤_, _<_};
+ghost use lib.Dec.{eqb};
+ghost use Rattle.board.specs.declared.Board as any;
+ghost use Rattle.mapping.specs.Entry.{zeroMapping, pageNumbers, keyOf, inRange, isZero, isAt};
+ghost use Rattle.mapping.specs.Rules.{keepsRules};
+ghost use Rattle.mapping.specs.Change.{empty, insertAt, remove};
+ghost use Rattle.mapping.specs.Look.{find, look};
 ghost use Rattle.mapping.specs.Batch.{batchSize, zeroBatch, put};
 use board::Board;
 
@@ -15,6 +18,11 @@ pub const CAPACITY: usize = 256;
 
 // How many records a batch has.
 pub const BATCH: usize = 64;
+
+// How many numbers a page's field can hold, and a page's and a frame's together.
+const PAGE_NUMBERS: u32 = 65536;
+
+const FRAME_NUMBERS: u32 = 16777216;
 
 // The rights of a mapping: read; read and write.
 pub const READ_ONLY: u8 = 1;
@@ -28,7 +36,7 @@ pub struct Mapping {
     pub rights: u8,
 }
 
-// The first count records are listed, in order of mapping; the others are zero.
+// The first count records are listed, in rising order of space, then page; the others are zero.
 pub struct MappingList {
     pub items: [Mapping; CAPACITY],
     pub count: usize,
@@ -38,6 +46,18 @@ pub struct MappingList {
 pub struct Batch {
     pub items: [Mapping; BATCH],
     pub count: usize,
+}
+
+// What one look at the list tells of a page of a space.
+pub struct Seen {
+    // Whether the list keeps its rules; where it does not, nothing else is told.
+    pub kept: bool,
+    pub count: usize,
+    // The place of the page's mapping, or the one where it would go.
+    pub place: usize,
+    pub mapped: bool,
+    // The page's mapping, all 0 where there is none.
+    pub mapping: Mapping,
 }
 
 // The place of a mapping in the list.
@@ -57,13 +77,6 @@ impl Mapping {
             frame: 0,
             rights: 0,
         }
-    }
-
-    // Whether all fields are 0.
-    pub fn is_zero(self) -> bool
-        ensures { λ r. ⌜ r ≡ isZero self ⌝ }
-    {
-        self.space as u32 + self.page as u32 + self.frame as u32 + self.rights as u32 == 0
     }
 
     // Whether space, page, frame and rights lie in their ranges.
@@ -87,6 +100,23 @@ impl Mapping {
         ensures { λ r. ⌜ r ≡ isAt self space page ⌝ }
     {
         self.space == space && self.page == page
+    }
+
+    // A number that is smaller for mappings that stand earlier: rising order of space, then page.
+    fn key(self) -> u32
+        ensures { λ r. ⌜ (r ≡ keyOf (self .space) (self .page)) × (self .page < pageNumbers) ⌝ }
+    {
+        key_of(self.space, self.page)
+    }
+
+    // A number that is 0 exactly if all fields are. Three of them make up a word, so that they are read at once.
+    fn content(self) -> u64
+        ensures { λ r. ⌜ (eqb r 0 ≡ isZero self) × (r ≤ 2 ^ 33) ⌝ }
+    {
+        let word = self.page as u32
+            + self.frame as u32 * PAGE_NUMBERS
+            + self.rights as u32 * FRAME_NUMBERS;
+        self.space as u64 + word as u64
     }
 }
 
@@ -112,50 +142,91 @@ impl Batch {
     }
 }
 
-// Whether the list keeps its rules, whatever it holds.
+// What one look at the list tells a call of a page of a space.
+pub fn look(board: Board, list: MappingList, space: u8, page: u16) -> Seen
+    ensures { λ r. ⌜ r ≡ look board list space page ⌝ }
+{
+    if keeps_rules(board, list) {
+        return find(list, space, page);
+    }
+    Seen {
+        kept: false,
+        count: 0,
+        place: 0,
+        mapped: false,
+        mapping: Mapping::zero(),
+    }
+}
+
+// Whether the list keeps its rules, whatever it holds: one pass over its records.
 pub fn keeps_rules(board: Board, list: MappingList) -> bool
     ensures { λ r. ⌜ r ≡ keepsRules board list ⌝ }
 {
-    if list.count > CAPACITY {
+    let count = list.count;
+    if count > CAPACITY {
         return false;
     }
-    if !all_in_range(board, list) {
-        return false;
-    }
-    if !no_doubles(list) {
-        return false;
-    }
-    rest_zero(list)
-}
-
-// The first listed place with this space and page.
-pub fn lookup(list: MappingList, space: u8, page: u16) -> Found
-    ensures { λ r. ⌜ r ≡ lookup list space page ⌝ }
-{
-    let n = if list.count < CAPACITY {
-        list.count
-    } else {
-        CAPACITY
-    };
+    // The least key that the next mapping may have.
+    let mut least: u32 = 0;
     let mut i = 0;
-    while i < n {
+    while i < count {
         let m = list.items[i];
-        if m.is_at(space, page) {
-            return Found::At(i);
+        if !m.in_range(board) {
+            return false;
         }
+        let key = m.key();
+        if key < least {
+            return false;
+        }
+        least = key + 1;
         i += 1;
     }
-    Found::Nothing
+    let mut rest: u64 = 0;
+    while i < CAPACITY {
+        let m = list.items[i];
+        rest += m.content();
+        i += 1;
+    }
+    rest == 0
 }
 
-// The record at place i, all 0 past the last.
-pub fn at(list: MappingList, i: usize) -> Mapping
-    ensures { λ r. ⌜ r ≡ mappingAt list i ⌝ }
+// What a list that keeps its rules tells of a page of a space, found by halving. Of another list only the count is told; the rest is free.
+pub fn find(list: MappingList, space: u8, page: u16) -> Seen
+    ensures told { λ r. ⌜ ((b : any.Board) → keepsRules b list ≡ true → r ≡ find list space page) ⌝ }
+    ensures always { λ r. ⌜ (r .kept ≡ true) × (r .count ≡ list .count) ⌝ }
 {
-    if i < CAPACITY {
-        list.items[i]
-    } else {
-        Mapping::zero()
+    let count = list.count;
+    let end = if count < CAPACITY { count } else { CAPACITY };
+    let wanted = key_of(space, page);
+    let mut place = 0;
+    let mut past = end;
+    while place < past {
+        let middle = (place + past) / 2;
+        let m = list.items[middle];
+        if m.key() < wanted {
+            place = middle + 1;
+        } else {
+            past = middle;
+        }
+    }
+    if place < end {
+        let m = list.items[place];
+        if m.is_at(space, page) {
+            return Seen {
+                kept: true,
+                count,
+                place,
+                mapped: true,
+                mapping: m,
+            };
+        }
+    }
+    Seen {
+        kept: true,
+        count,
+        place,
+        mapped: false,
+        mapping: Mapping::zero(),
     }
 }
 
@@ -169,16 +240,25 @@ pub fn empty() -> MappingList
     }
 }
 
-// The list with m last; unchanged where it is full.
-pub fn append(list: MappingList, m: Mapping) -> MappingList
-    ensures { λ r. ⌜ r ≡ append list m ⌝ }
+// The list with m at place i: the later ones move up by one. Unchanged where it is full, or where i is past the count.
+pub fn insert_at(list: MappingList, i: usize, m: Mapping) -> MappingList
+    ensures { λ r. ⌜ r ≡ insertAt list i m ⌝ }
 {
     let n = list.count;
     if n >= CAPACITY {
         return list;
     }
+    if n < i {
+        return list;
+    }
     let mut next = list;
-    next.items[n] = m;
+    let mut j = i;
+    while j < CAPACITY - 1 {
+        let moved = list.items[j];
+        next.items[j + 1] = moved;
+        j += 1;
+    }
+    next.items[i] = m;
     next.count = n + 1;
     next
 }
@@ -206,54 +286,9 @@ pub fn remove(list: MappingList, i: usize) -> MappingList
     next
 }
 
-// Whether every listed mapping is in range.
-fn all_in_range(board: Board, list: MappingList) -> bool
-    requires { ⌜ list .count ≤ capacity ⌝ }
-    ensures { λ r. ⌜ r ≡ allInRange board list ⌝ }
+// The key of a page of a space.
+fn key_of(space: u8, page: u16) -> u32
+    ensures { λ r. ⌜ (r ≡ keyOf space page) × (page < pageNumbers) ⌝ }
 {
-    let mut i = 0;
-    while i < list.count {
-        let m = list.items[i];
-        if !m.in_range(board) {
-            return false;
-        }
-        i += 1;
-    }
-    true
-}
-
-// Whether no two listed mappings share space and page.
-fn no_doubles(list: MappingList) -> bool
-    requires { ⌜ list .count ≤ capacity ⌝ }
-    ensures { λ r. ⌜ r ≡ noDoubles list ⌝ }
-{
-    let mut i = 0;
-    while i < list.count {
-        let m = list.items[i];
-        let mut j = 0;
-        while j < i {
-            let earlier = list.items[j];
-            if earlier.is_at(m.space, m.page) {
-                return false;
-            }
-            j += 1;
-        }
-        i += 1;
-    }
-    true
-}
-
-// Whether all fields past the count are 0.
-fn rest_zero(list: MappingList) -> bool
-    ensures { λ r. ⌜ r ≡ restZero list ⌝ }
-{
-    let mut i = list.count;
-    while i < CAPACITY {
-        let m = list.items[i];
-        if !m.is_zero() {
-            return false;
-        }
-        i += 1;
-    }
-    true
+    space as u32 * PAGE_NUMBERS + page as u32
 }

@@ -43,10 +43,10 @@ returns-2 c =
     let plan = at .before .before in
     stepped-made board01 _ _ _ (sym (plan .plan-device-read .ensures) ∙ at .plan .given .1)
     (λ f x. none) (hardware.deviceRead board01) (λ f x. x) refl
-    refl (send .send .ensures .1) (commit .commit-change .ensures) (send .send .ensures .0)
+    refl (send .send .ensures .1) (commit .commit-change .ensures board01 refl) (send .send .ensures .0)
 
 pub device-read-spec : {M : Type 1} → statement M
 device-read-spec =
     tie.close
     (tie.spec (λ c κs. board01-regular) (λ c. search needs) (λ c. search needs) (λ c κs. search needs) (λ c. search needs) (λ c. search needs) (λ c. search needs) (λ c. search needs) (λ c. search needs) returns
-    (λ c κs. board01-regular) (λ c. search needs) send-requires (λ c. search needs) (λ c. search needs) (λ c. search needs) (λ c. search needs) (λ c. search needs) returns-2)
+    (λ c κs. search needs) (λ c. search needs) send-requires (λ c. search needs) (λ c. search needs) (λ c. search needs) (λ c. search needs) (λ c. search needs) returns-2)

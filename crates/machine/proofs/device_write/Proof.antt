@@ -44,10 +44,10 @@ returns-2 c =
     let a = start-of plan .args in
     stepped-made board01 _ _ _ (sym (plan .plan-device-write .ensures) ∙ at .plan .given .1)
     (λ f x. none) (λ f x. []) (λ f. hardware.deviceWrite board01 f (a .buffer .now)) refl
-    refl refl (commit .commit-change .ensures) (receive .receive .ensures)
+    refl refl (commit .commit-change .ensures board01 refl) (receive .receive .ensures)
 
 pub device-write-spec : {M : Type 1} → statement M
 device-write-spec =
     tie.close
     (tie.spec (λ c κs. board01-regular) (λ c. search needs) (λ c. search needs) (λ c κs. search needs) (λ c. search needs) (λ c. search needs) (λ c. search needs) (λ c. search needs) returns
-    (λ c κs. board01-regular) (λ c. search needs) receive-requires (λ c. search needs) (λ c. search needs) (λ c. search needs) (λ c. search needs) returns-2)
+    (λ c κs. search needs) (λ c. search needs) receive-requires (λ c. search needs) (λ c. search needs) (λ c. search needs) (λ c. search needs) returns-2)

@@ -33,10 +33,10 @@ returns-2 c =
     let at = refilled .before .before in
     let a = start-of (at .before) .args in
     listed-made _ _ _ (sym (at .before .evict-refusal .ensures) ∙ at .if1 .left) _ _ refl (c .no-operations .ensures)
-    (ap (tables (a .list) (a .records .now)) (refilled .refill .ensures)) (evicted .evict .ensures)
+    (ap (tables (a .list) (a .records .now)) (refilled .refill .ensures board01 refl)) (evicted .evict .ensures)
 
 pub evict-spec : {M : Type 1} → statement M
 evict-spec =
     tie.close
-    (tie.spec (λ c κs. board01-regular) (λ c. search needs) (λ c. search needs) (λ c. search needs) returns (λ c κs. board01-regular) evict-requires
+    (tie.spec (λ c κs. board01-regular) (λ c. search needs) (λ c. search needs) (λ c. search needs) returns (λ c κs. search needs) evict-requires
     (λ c κs. search needs) (λ c. search needs) (λ c. search needs) (λ c. search needs) returns-2)

@@ -14,22 +14,22 @@ returns : tie.Need-returns
 returns c =
     let told = c .before .before in
     let plan = told .before .before in
-    placed-refused _ _ _ _ (plan .plan-map .ensures) (told .enum-told2 .given .1) (c .before .place-refusal .ensures)
+    placed-refused _ _ _ _ (plan .plan-map .ensures) (told .enum-told .given .1) (c .before .place-refusal .ensures)
     (c .refused-as .ensures .0) (c .refused-as .ensures .1)
 
 returns-2 : tie.Need-returns-2
 unfolding accept
 returns-2 c =
     let commit = c .before .before .before in
-    let told = commit .before .before in
+    let told = commit .before .before .before in
     let plan = told .before .before in
     let a = plan .before .before .before .before .before .before .before .args in
-    placed-made _ _ _ _ (sym (plan .plan-map .ensures) ∙ told .enum-told .given .1)
-    (λ at. commitMap board01 (tables (a .list) (a .records .now) (a .protections .now)) (a .m)) refl
-    (c .listed-as .ensures .0) (c .listed-as .ensures .1) (commit .commit-map .ensures)
+    placed-made _ _ _ _ (sym (plan .plan-map .ensures) ∙ told .plan .given .1)
+    (λ at. commitMap board01 (tables (a .list) (a .records .now) (a .protections .now)) at (a .m)) refl
+    (c .listed-as .ensures .0) (c .listed-as .ensures .1) (commit .commit-map .ensures board01 refl)
 
 pub map-spec : {M : Type 1} → statement M
 map-spec =
     tie.close
     (tie.spec (λ c κs. board01-regular) (λ c. search needs) (λ c. search needs) (λ c κs. search needs) (λ c κs. search needs) (λ c. search needs) returns
-    (λ c κs. board01-regular) (λ c κs. search needs) (λ c. search needs) returns-2)
+    (λ c κs. search needs) (λ c κs. search needs) (λ c. search needs) returns-2)

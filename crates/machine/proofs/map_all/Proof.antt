@@ -6,15 +6,23 @@ use Rattle.board.specs.Board.{board01}
 use Rattle.board.proofs.Geometry.{board01-regular}
 use Rattle.mapping.specs.Batch.{itemsOf}
 use Rattle.mapping.specs.Entry.{zeroMapping}
-use Rattle.manager.specs.Appended.{batchMade}
+use Rattle.manager.specs.Inserted.{batchMade}
 use Rattle.manager.specs.Tables.{tables}
+use Rattle.manager.proofs.CauseLaws.{list-keeps, tables-clear}
 use Rattle.cache.specs.Store.{store}
 use Rattle.machine.specs.Call.{mapOf}
 use Rattle.machine.specs.State.{machineOf}
 use Rattle.machine.proofs.ItemLaws.{beside, map-all-performed}
-use Rattle.machine.proofs.MergeLaws.{lent-merged}
+use Rattle.machine.proofs.MergeLaws.{earlier-neither, lent-merged}
 use Rattle.machine.proofs.map_all.Statement.{statement}
 use Rattle.machine.proofs.map_all.Tie as tie
+
+map-batch-requires : tie.Need-map-batch-requires
+map-batch-requires c κs =
+    let tested = c .before .before in
+    let a = tested .before .before .before .before .before .before .before .before .args in
+    let t = tables (a .list) (a .records .now) (a .protections .now) in
+    (board01-regular, λ z. list-keeps board01 t (tables-clear board01 t (earlier-neither _ _ (sym (tested .lent-refusal .ensures) ∙ z)) .1))
 
 returns : tie.Need-returns
 returns c =
@@ -28,4 +36,4 @@ returns c =
     ∙ map-all-performed board01 st items (a .answers .now)
 
 pub map-all-spec : {M : Type 1} → statement M
-map-all-spec = tie.close (tie.spec (λ c κs. board01-regular) (λ c κs. board01-regular) (λ c. search needs) (λ c. search needs) returns)
+map-all-spec = tie.close (tie.spec (λ c κs. board01-regular) map-batch-requires (λ c. search needs) (λ c. search needs) returns)

@@ -46,10 +46,10 @@ returns-2 c =
     let a = start-of plan .args in
     access-made board01 _ _ _ (sym (plan .plan-read .ensures) ∙ at .plan .given .1) (colourOf board01 (a .page))
     (λ f k x. some (hardware.readWord board01 f k (a .offset) x)) (λ f k. hardware.access board01 f k (a .offset)) refl
-    (colour .colour-of .ensures .0) (ap some (load .load .ensures .0)) (commit .commit-change .ensures) (load .load .ensures .1)
+    (colour .colour-of .ensures .0) (ap some (load .load .ensures .0)) (commit .commit-change .ensures board01 refl) (load .load .ensures .1)
 
 pub read-spec : {M : Type 1} → statement M
 read-spec =
     tie.close
     (tie.spec (λ c κs. board01-regular) (λ c. search needs) (λ c. search needs) (λ c κs. search needs) (λ c. search needs) (λ c. search needs) (λ c. search needs) (λ c. search needs) (λ c. search needs) returns
-    (λ c κs. board01-regular) (λ c κs. board01-regular) (λ c. search needs) load-requires (λ c. search needs) (λ c. search needs) (λ c. search needs) (λ c. search needs) (λ c. search needs) returns-2)
+    (λ c κs. search needs) (λ c κs. board01-regular) (λ c. search needs) load-requires (λ c. search needs) (λ c. search needs) (λ c. search needs) (λ c. search needs) (λ c. search needs) returns-2)

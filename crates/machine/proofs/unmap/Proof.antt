@@ -23,10 +23,10 @@ returns-2 c =
     let told = commit .before .before .before in
     let plan = told .before .before in
     placed-made _ _ _ _ (sym (plan .plan-unmap .ensures) ∙ told .plan .given .1) (commitUnmap board01 _) refl
-    (c .listed-as .ensures .0) (c .listed-as .ensures .1) (commit .commit-unmap .ensures)
+    (c .listed-as .ensures .0) (c .listed-as .ensures .1) (commit .commit-unmap .ensures board01 refl)
 
 pub unmap-spec : {M : Type 1} → statement M
 unmap-spec =
     tie.close
     (tie.spec (λ c κs. board01-regular) (λ c. search needs) (λ c. search needs) (λ c κs. search needs) (λ c κs. search needs) (λ c. search needs) returns
-    (λ c κs. board01-regular) (λ c κs. search needs) (λ c. search needs) returns-2)
+    (λ c κs. search needs) (λ c κs. search needs) (λ c. search needs) returns-2)

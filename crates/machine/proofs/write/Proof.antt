@@ -47,10 +47,10 @@ returns-2 c =
     let a = start-of plan .args in
     access-made board01 _ (write (a .space) (a .page) (a .offset) (a .word)) _ (sym (plan .plan-write .ensures) ∙ at .plan .given .1)
     (colourOf board01 (a .page)) (λ f k x. none) (λ f k. hardware.writeWord board01 f k (a .offset) (a .word)) refl
-    (colour .colour-of .ensures .0) refl (commit .commit-change .ensures) (put .put .ensures)
+    (colour .colour-of .ensures .0) refl (commit .commit-change .ensures board01 refl) (put .put .ensures)
 
 pub write-spec : {M : Type 1} → statement M
 write-spec =
     tie.close
     (tie.spec (λ c κs. board01-regular) (λ c. search needs) (λ c. search needs) (λ c κs. search needs) (λ c. search needs) (λ c. search needs) (λ c. search needs) (λ c. search needs) (λ c. search needs) returns
-    (λ c κs. board01-regular) (λ c κs. board01-regular) (λ c. search needs) put-requires (λ c. search needs) (λ c. search needs) (λ c. search needs) (λ c. search needs) (λ c. search needs) returns-2)
+    (λ c κs. search needs) (λ c κs. board01-regular) (λ c. search needs) put-requires (λ c. search needs) (λ c. search needs) (λ c. search needs) (λ c. search needs) (λ c. search needs) returns-2)

@@ -1,5 +1,5 @@
 -- `manager::device_write` meets its contract.
-use mathlib.Core.Path.{ap, _∙_}
+use mathlib.Core.Path.{refl, ap, _∙_}
 use Rattle.board.specs.Board.{board01}
 use Rattle.manager.specs.Calls.{stepResult}
 use borrow.Author.Needs.{needs}
@@ -11,7 +11,7 @@ plan-device-write-requires : tie.Need-plan-device-write-requires
 plan-device-write-requires c κs = board01-regular
 
 carry-out-requires : tie.Need-carry-out-requires
-carry-out-requires c κs = board01-regular
+carry-out-requires c κs = search needs
 
 same-length : tie.Need-same-length
 same-length c = search needs
@@ -22,7 +22,7 @@ same-length-2 c = search needs
 returns : tie.Need-returns
 returns c =
     let after-plan-device-write = c .before .before .before .before .before .before .before in
-    c .before .before .before .before .carry-out .ensures ∙ ap (stepResult board01 _) (after-plan-device-write .plan-device-write .ensures)
+    c .before .before .before .before .carry-out .ensures board01 refl ∙ ap (stepResult board01 _) (after-plan-device-write .plan-device-write .ensures)
 
 pub device-write-spec : {M : Type 1} → statement M
 device-write-spec =

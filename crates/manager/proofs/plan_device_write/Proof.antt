@@ -1,48 +1,34 @@
 -- `manager::plan_device_write` meets its contract.
 use mathlib.Core.Path.{sym, ap, _∙_}
-use Rattle.page_model.specs.Record.{keepsRules}
-use Rattle.manager.specs.declared.Plan.the-variants as step-plan
-use Rattle.manager.specs.Tables.{Tables, tables}
-use Rattle.manager.proofs.CauseLaws.{transfer-rules}
-use Rattle.manager.proofs.Laws.{planned-refused}
 use borrow.Author.Needs.{needs}
+use Rattle.page_model.specs.Record.{keepsRules}
+use Rattle.mapping.proofs.Laws.{items-length}
+use Rattle.manager.specs.declared.Plan.the-variants as step-plan
+use Rattle.manager.specs.Tables.{tables}
+use Rattle.manager.proofs.CauseLaws.{told-frame, transfer-rules}
+use Rattle.manager.proofs.Laws.{planned-refused}
 use Rattle.manager.proofs.plan_device_write.Statement.{statement}
 use Rattle.manager.proofs.plan_device_write.Tie as tie
 
--- what the function is lent
-abbrev T : tie.Start → Tables
-T s = tables (s .args .list) (s .args .records .now) (s .args .protections .now)
-
-transfer-refusal-requires : tie.Need-transfer-refusal-requires
-transfer-refusal-requires c κs = search needs
-
 returns : tie.Need-returns
-returns c = ap step-plan.Refused (c .before .transfer-refusal .ensures) ∙ planned-refused _ _ (λ z. c .if1 .taken (c .before .transfer-refusal .ensures ∙ z))
-
-record-at-requires : tie.Need-record-at-requires
-record-at-requires c κs = search needs
-
-device-write-requires : tie.Need-device-write-requires
-device-write-requires c κs = search needs
-
-step-of-requires : tie.Need-step-of-requires
-step-of-requires c κs = search needs
+returns c =
+    let tested = c .before .before in
+    let s = tested .before .before .before in
+    let refusal = c .before .transfer-refusal .ensures ∙ told-frame _ (s .args .list) _ _ _ (items-length (s .args .list) _ (s .good .1 .0)) (tested .keeps-rules .ensures) in
+    ap step-plan.Refused refusal ∙ planned-refused _ _ (λ z. c .if1 .taken (refusal ∙ z))
 
 returns-2 : tie.Need-returns-2
 returns-2 c =
     let at-record = c .before .before in
-    let s = at-record .before .before .before .before .before in
-    let accepted = sym (at-record .before .before .transfer-refusal .ensures) ∙ at-record .before .if1 .left in
-    let rules = ap (keepsRules _) (at-record .record-at .ensures) ∙ transfer-rules _ (T s) _ accepted in
-    c .step-of .ensures ∙ simp (c .before .device-write .ensures _ (s .pre .few-colours) rules, at-record .record-at .ensures, accepted)
+    let refused = at-record .before .before in
+    let s = refused .before .before .before .before in
+    let a = s .args in
+    let t = tables (a .list) (a .records .now) (a .protections .now) in
+    let none = sym (refused .transfer-refusal .ensures ∙ told-frame _ (a .list) _ _ _ (items-length (a .list) _ (s .good .1 .0)) (refused .before .keeps-rules .ensures)) ∙ at-record .before .if1 .left in
+    let kept = ap (keepsRules _) (at-record .record-at .ensures) ∙ transfer-rules _ t _ none in
+    c .step-of .ensures ∙ simp (c .before .device-write .ensures _ (s .pre .few-colours) kept, at-record .record-at .ensures, none)
 
 pub plan-device-write-spec : {M : Type 1} → statement M
 plan-device-write-spec =
     tie.close
-    (tie.spec
-    transfer-refusal-requires
-    returns
-    record-at-requires
-    device-write-requires
-    step-of-requires
-    returns-2)
+    (tie.spec (λ c κs. search needs) (λ c κs. search needs) returns (λ c κs. search needs) (λ c κs. search needs) (λ c κs. search needs) returns-2)

@@ -1,63 +1,46 @@
 -- `manager::plan_read` meets its contract.
-use mathlib.Core.Path.{sym, ap, _∙_}
-use Rattle.page_model.specs.Record.{keepsRules}
-use Rattle.mapping.specs.declared.Mapping.{Mapping}
-use Rattle.manager.specs.declared.Plan.the-variants as step-plan
-use Rattle.manager.specs.Tables.{Tables, tables, recordAt}
-use Rattle.manager.proofs.CauseLaws.{page-rules}
-use Rattle.manager.proofs.Laws.{planned-refused}
+use mathlib.Core.Path.{refl, sym, ap, _∙_}
+use Prim.Native.Nat.{ℕ}
 use borrow.Author.Needs.{needs}
+use Rattle.page_model.specs.Record.{keepsRules}
+use Rattle.mapping.specs.declared.Seen.{Seen}
+use Rattle.mapping.proofs.Laws.{items-length}
+use Rattle.manager.specs.declared.Plan.the-variants as step-plan
+use Rattle.mapping.specs.Look.{find}
+use Rattle.manager.specs.Refusals.{pageCauses, toldPage}
+use Rattle.manager.specs.Tables.{tables, recordAt}
+use Rattle.manager.proofs.CauseLaws.{told-found, call-list-keeps, told-rest, page-rules}
+use Rattle.manager.proofs.Laws.{planned-refused}
 use Rattle.manager.proofs.plan_read.Statement.{statement}
 use Rattle.manager.proofs.plan_read.Tie as tie
 
--- what the function is lent
-abbrev T : tie.Start → Tables
-T s = tables (s .args .list) (s .args .records .now) (s .args .protections .now)
-
-page-refusal-requires : tie.Need-page-refusal-requires
-page-refusal-requires c κs = search needs
-
 returns : tie.Need-returns
-returns c = ap step-plan.Refused (c .before .page-refusal .ensures) ∙ planned-refused _ _ (λ z. c .if1 .taken (c .before .page-refusal .ensures ∙ z))
-
-listed-mapping-requires : tie.Need-listed-mapping-requires
-listed-mapping-requires c κs = search needs
-
-colour-of-requires : tie.Need-colour-of-requires
-colour-of-requires c κs = search needs
-
-record-at-requires : tie.Need-record-at-requires
-record-at-requires c κs = search needs
-
-read-requires : tie.Need-read-requires
-read-requires c κs = search needs
-
-step-of-requires : tie.Need-step-of-requires
-step-of-requires c κs = search needs
+unfolding pageCauses
+returns c =
+    let looked = c .before .before in
+    let s = looked .before .before .before in
+    let a = s .args in
+    let refusal = c .before .page-refusal .ensures ∙ told-rest (a .board) (a .list) _ _ (looked .look .ensures) _ _ (toldPage (a .space) (a .page)) (items-length (a .list) _ (s .good .1 .0)) in
+    ap step-plan.Refused refusal ∙ planned-refused _ _ (λ z. c .if1 .taken (refusal ∙ z))
 
 returns-2 : tie.Need-returns-2
+unfolding pageCauses
 returns-2 c =
     let at-record = c .before .before in
     let at-colour = at-record .before in
-    let at-mapping = at-colour .before in
-    let s = at-mapping .before .before .before .before .before in
-    let accepted = sym (at-mapping .before .before .page-refusal .ensures) ∙ at-mapping .before .if1 .left in
-    let rules =
-    ap (keepsRules _) (at-record .record-at .ensures ∙ ap (λ (m : Mapping). recordAt (s .args .records .now) (m .frame)) (at-mapping .listed-mapping .ensures))
-    ∙ page-rules _ (T s) (s .args .space) (s .args .page) accepted in
+    let tested = at-colour .before in
+    let looked = tested .before .before in
+    let s = looked .before .before .before in
+    let a = s .args in
+    let t = tables (a .list) (a .records .now) (a .protections .now) in
+    let refusal = tested .before .page-refusal .ensures ∙ told-rest (a .board) (a .list) _ _ (looked .look .ensures) _ _ (toldPage (a .space) (a .page)) (items-length (a .list) _ (s .good .1 .0)) in
+    let none = sym refusal ∙ tested .if1 .left in
+    let frame = ap (λ (x : Seen). x .mapping .frame) (told-found _ (a .list) _ _ (looked .look .ensures) (call-list-keeps (a .board) t (toldPage (a .space) (a .page) (find (a .list) (a .space) (a .page))) refl none)) in
+    let kept = ap (keepsRules _) (at-record .record-at .ensures ∙ ap (λ (f : ℕ). recordAt (a .records .now) f) frame) ∙ page-rules _ t (a .space) (a .page) none in
     c .step-of .ensures
-    ∙ simp
-    (c .before .read .ensures _ (s .pre .few-colours) (at-colour .colour-of .ensures .1) rules, at-record .record-at .ensures, at-colour .colour-of .ensures .0, at-mapping .listed-mapping .ensures, accepted)
+    ∙ simp (c .before .read .ensures _ (s .pre .few-colours) (at-colour .colour-of .ensures .1) kept, at-record .record-at .ensures, at-colour .colour-of .ensures .0, frame, none)
 
 pub plan-read-spec : {M : Type 1} → statement M
 plan-read-spec =
     tie.close
-    (tie.spec
-    page-refusal-requires
-    returns
-    listed-mapping-requires
-    colour-of-requires
-    record-at-requires
-    read-requires
-    step-of-requires
-    returns-2)
+    (tie.spec (λ c κs. search needs) (λ c κs. search needs) returns (λ c κs. search needs) (λ c κs. search needs) (λ c κs. search needs) (λ c κs. search needs) returns-2)

@@ -1,8 +1,9 @@
 -- `manager::unmap` meets its contract.
-use mathlib.Core.Path.{sym, ap, _∙_}
+use mathlib.Core.Path.{refl, sym, ap, _∙_}
 use Rattle.manager.specs.Answers.{accepted}
 use Rattle.manager.specs.Calls.{noOps, result}
 use borrow.Author.Needs.{needs}
+use Rattle.board.specs.Board.{board01}
 use Rattle.board.proofs.Geometry.{board01-regular}
 use Rattle.manager.proofs.unmap.Statement.{statement}
 use Rattle.manager.proofs.unmap.Tie as tie
@@ -20,7 +21,7 @@ enum-known-plan-2 : tie.Need-enum-known-plan-2
 enum-known-plan-2 c = search needs
 
 commit-unmap-requires : tie.Need-commit-unmap-requires
-commit-unmap-requires c κs = board01-regular
+commit-unmap-requires c κs = search needs
 
 listed-as-requires : tie.Need-listed-as-requires
 listed-as-requires c κs = search needs
@@ -38,7 +39,7 @@ returns-2 : tie.Need-returns-2
 returns-2 c =
     let after-plan2 = c .before .before .before .before .before .before in
     let after-plan-unmap = after-plan2 .before .before in
-    rw (c .listed-as .ensures .0, c .listed-as .ensures .1, sym (after-plan-unmap .plan-unmap .ensures) ∙ after-plan2 .plan2 .given .1) (ap (result (accepted 0 noOps)) (c .before .before .before .commit-unmap .ensures))
+    rw (c .listed-as .ensures .0, c .listed-as .ensures .1, sym (after-plan-unmap .plan-unmap .ensures) ∙ after-plan2 .plan2 .given .1) (ap (result (accepted 0 noOps)) (c .before .before .before .commit-unmap .ensures board01 refl))
 
 pub unmap-spec : {M : Type 1} → statement M
 unmap-spec =

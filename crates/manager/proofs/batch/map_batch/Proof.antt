@@ -1,5 +1,5 @@
 -- `manager::map_batch` meets its contract.
-use mathlib.Core.Path.{_≡_, sym, ap, ap₂, _∙_}
+use mathlib.Core.Path.{_≡_, refl, sym, ap, ap₂, _∙_}
 use mathlib.Core.Logic.{⊎-elim}
 use mathlib.Core.List.{List}
 use native.Mathlib.Omega.{arith}
@@ -9,7 +9,7 @@ use lib.ListN.{length}
 use Rattle.mapping.specs.declared.MappingList.{MappingList}
 use Rattle.mapping.specs.Batch.{itemsOf}
 use Rattle.mapping.proofs.Laws.{items-of-length}
-use Rattle.manager.specs.Appended.{listAfter, refusalAt, relisted, wholeRefusal}
+use Rattle.manager.specs.Inserted.{listAfter, refusalAt, relisted, wholeRefusal}
 use Rattle.manager.specs.Tables.{tables, tabulate}
 use Rattle.manager.proofs.BatchLaws.{whole-clear, relisted-same, relisted-more, made-refused, made-lent, made-listed}
 use Rattle.manager.proofs.Laws.{length-tabulate}
@@ -38,16 +38,16 @@ returns-2 c =
     made-lent _ _ _ _ _ (accepted-whole (lent .before)) (lent .if2 .taken) (c .listed-as .ensures .0)
     (answered .answer-each .ensures ∙ ap (λ (n : ℕ). tabulate n (λ k. a .lent)) (fits .2)) (c .listed-as .ensures .1)
 
-append-all-requires : tie.Need-append-all-requires
-append-all-requires c κs =
+insert-all-requires : tie.Need-insert-all-requires
+insert-all-requires c κs =
     let clear = c .before .before in
     let a = clear .before .before .before .before .before .args in
     let fits = whole-clear _ _ _ (accepted-whole clear) in
     let count = items-of-length (a .batch) in
-    (fits .2 ∙ count, omega arith)
+    (fits .2 ∙ count, omega arith, clear .before .before .before .before .before .pre .1 (c .before .if2 .left))
 
 same-length-2 : tie.Need-same-length-2
-same-length-2 c = ⊎-elim (λ w. ap length (w .5) ∙ ap length (w .2 .ensures) ∙ length-tabulate _ _) (λ w. ap length (w .1)) (c .before .if3 .came)
+same-length-2 c = ⊎-elim (λ w. ap length (w .5) ∙ ap length (w .2 .ensures (c .before .before .before .before .before .before .before .before .before .before .before .before .before .before .args .board) refl) ∙ length-tabulate _ _) (λ w. ap length (w .1)) (c .before .if3 .came)
 
 returns-3 : tie.Need-returns-3
 returns-3 c =
@@ -56,13 +56,13 @@ returns-3 c =
     let clear = listed .before .before .before in
     let a = clear .before .before .before .before .before .args in
     let count = items-of-length (a .batch) in
-    let list = listed .append-all .ensures .0 ∙ ap (listAfter (a .board) (a .list) (itemsOf (a .batch))) (sym count) in
-    let given = listed .append-all .ensures .1 ∙ ap (λ (n : ℕ). tabulate n (refusalAt (a .board) (a .list) (itemsOf (a .batch)))) (sym count) in
+    let list = listed .insert-all .ensures .0 ∙ ap (listAfter (a .board) (a .list) (itemsOf (a .batch))) (sym count) in
+    let given = listed .insert-all .ensures .1 ∙ ap (λ (n : ℕ). tabulate n (refusalAt (a .board) (a .list) (itemsOf (a .batch)))) (sym count) in
     let t = tables (a .list) (a .records .now) (a .protections .now) in
-    let next = listed .append-all .result in
+    let next = listed .insert-all .result in
     made-listed _ _ _ _ _ (accepted-whole clear) (listed .before .before .if2 .left) (c .listed-as2 .ensures .0) given
     (⊎-elim
-    (λ w. ap₂ (λ (l : MappingList) (ps : List ℕ). tables l (a .records .now) ps) (c .listed-as2 .ensures .1) (w .5) ∙ relisted-more (a .board) t next (w .0 .taken) (w .2 .ensures))
+    (λ w. ap₂ (λ (l : MappingList) (ps : List ℕ). tables l (a .records .now) ps) (c .listed-as2 .ensures .1) (w .5) ∙ relisted-more (a .board) t next (w .0 .taken) (w .2 .ensures (a .board) refl))
     (λ w. ap₂ (λ (l : MappingList) (ps : List ℕ). tables l (a .records .now) ps) (c .listed-as2 .ensures .1) (w .1) ∙ relisted-same (a .board) t next (w .0 .left))
     (joined .if3 .came)
     ∙ ap (relisted (a .board) t) list)
@@ -71,4 +71,4 @@ pub map-batch-spec : {M : Type 1} → statement M
 map-batch-spec =
     tie.close
     (tie.spec (λ c κs. search needs) (λ c κs. search needs) returns (λ c κs. search needs) (λ c κs. search needs) (λ c. search needs) returns-2
-    append-all-requires (λ c κs. search needs) (λ c κs. search needs) same-length-2 (λ c. search needs) returns-3)
+    insert-all-requires (λ c κs. search needs) (λ c κs. search needs) same-length-2 (λ c. search needs) returns-3)

@@ -1,64 +1,51 @@
 -- `manager::protection_of` meets its contract.
-use mathlib.Core.Path.{_≡_, sym, ap, _∙_}
-use borrow.Author.Tests.{eq-eqb, ne-eqb, not-true, not-false}
-use Rattle.page_model.specs.Record.{stateOf, isHeld, isDirty}
-use Rattle.page_model.specs.Table.{ColourState}
-use Rattle.manager.specs.Tables.{mappingState}
-use Rattle.manager.proofs.Laws.{state-at, protection-none, protection-rights, protection-clean, protection-write}
+use mathlib.Core.Path.{sym, ap, ap₂, _∙_}
+use mathlib.Core.Bool.{Bool, true, false, _&&_}
+use Prim.Native.Nat.{ℕ, _+_, _%_, _≤_, _<_}
+use native.Mathlib.Nat.{mod-lt}
+use native.Mathlib.Omega.{arith}
+use mir.Val.{boolByte}
+use lib.Dec.{eqb}
 use borrow.Author.Needs.{needs}
+use Rattle.bits.specs.Mask.{width}
+use Rattle.board.specs.Board.{colourOf}
+use Rattle.page_model.specs.Record.{isHeld, isDirty}
+use Rattle.mapping.specs.Entry.{readWrite}
+use Rattle.manager.specs.Tables.{Colours}
+use Rattle.manager.proofs.Laws.{state-at, protection-sum}
 use Rattle.manager.proofs.records.protection_of.Statement.{statement}
 use Rattle.manager.proofs.records.protection_of.Tie as tie
 
--- the state of the mapping's colour
-abbrev seen : tie.Start → ColourState
-seen s = mappingState (s .args .board) (s .args .records .now) (s .args .m)
+-- a colour has its bit in a mask
+colour-fits : (page colours : ℕ) → Colours colours → page % colours < width
+colour-fits page colours h = let n = mod-lt page (h .0) in omega arith
 
-state : (c : tie.After-colour-of) → stateOf (c .before .before .record-at .result) (c .colour-of .result) ≡ seen (c .before .before .before .before)
-state c = state-at _ _ _ (c .before .before .record-at .ensures) (c .colour-of .ensures .0)
+bit-le : (t : Bool) → boolByte t ≤ 1
+bit-le true = omega arith
+bit-le false = omega arith
 
-held : (c : tie.After-holds) → isHeld (seen (c .before .before .before .before .before)) ≡ c .holds .result
-held c = sym (c .holds .ensures ∙ ap isHeld (state (c .before)))
-
-dirty : (c : tie.After-holds-dirty) → let colour = c .before .before .before .before .before in isDirty (seen (colour .before .before .before .before)) ≡ c .holds-dirty .result
-dirty c = sym (c .holds-dirty .ensures ∙ ap isDirty (state (c .before .before .before .before .before)))
-
-record-at-requires : tie.Need-record-at-requires
-record-at-requires c κs = search needs
-
-cast-colour-of : tie.Need-cast-colour-of
-cast-colour-of c = search needs
-
-colour-of-requires : tie.Need-colour-of-requires
-colour-of-requires c κs = search needs
-
-holds-requires : tie.Need-holds-requires
-holds-requires c κs = search needs
+add-result : tie.Need-add-result
+add-result c = record { fits = omega (arith, bit-le (c .holds .result), bit-le (c .before .before .holds-dirty .result && eqb (c .before .before .before .before .before .before .args .m .rights) readWrite)) }
 
 returns : tie.Need-returns
-returns c = protection-none _ _ (held (c .before) ∙ not-true _ (c .if1 .taken))
-
-returns-2 : tie.Need-returns-2
-returns-2 c = protection-rights _ _ (held (c .before .before .before) ∙ not-false _ (c .before .before .if1 .left)) (ne-eqb _ _ (c .if2 .taken))
-
-holds-dirty-requires : tie.Need-holds-dirty-requires
-holds-dirty-requires c κs = search needs
-
-returns-3 : tie.Need-returns-3
-returns-3 c = protection-write _ _ (dirty (c .before) ∙ c .if3 .taken) (eq-eqb _ _ (c .before .before .if2 .left))
-
-returns-4 : tie.Need-returns-4
-returns-4 c = protection-clean _ _ (held (c .before .before .before .before .before) ∙ not-false _ (c .before .before .before .before .if1 .left)) (dirty (c .before) ∙ c .if3 .left)
+unfolding colourOf
+returns c b e =
+    let start = c .before .before .before .before .before .before in
+    let m = start .args .m in
+    let state = state-at b _ m (c .before .before .before .before .record-at .ensures) (sym (ap (λ (n : ℕ). m .page % n) e)) in
+    ap₂ (λ (x y : Bool). boolByte x + boolByte (y && eqb (m .rights) readWrite)) (c .holds .ensures ∙ ap isHeld state) (c .before .before .holds-dirty .ensures ∙ ap isDirty state)
+    ∙ protection-sum _ (m .rights)
 
 pub protection-of-spec : {M : Type 1} → statement M
 protection-of-spec =
     tie.close
     (tie.spec
-    record-at-requires
-    cast-colour-of
-    colour-of-requires
-    holds-requires
-    returns
-    returns-2
-    holds-dirty-requires
-    returns-3
-    returns-4)
+    (λ c κs. search needs)
+    (λ c. search needs)
+    (λ c. search needs)
+    (λ c κs. colour-fits _ _ (c .before .before .before .pre))
+    (λ c κs. colour-fits _ _ (c .before .before .before .before .before .pre))
+    (λ c. search needs)
+    (λ c. search needs)
+    add-result
+    returns)

@@ -1,4 +1,4 @@
--- How the code lists a list of mappings at once: what is lent is tested once, the items are appended one after the other, and the protections
+-- How the code lists a list of mappings at once: what is lent is tested once, the items are inserted one after the other, and the protections
 -- are filled once, if a mapping was listed. It is proved to be `mapAllCall` (`map-all-made`).
 use mathlib.Core.Bool.{cond}
 use mathlib.Core.List.{List, [], _∷_}
@@ -8,7 +8,7 @@ use lib.ListN.{length}
 use Rattle.board.specs.declared.Board.{Board}
 use Rattle.mapping.specs.declared.Mapping.{Mapping}
 use Rattle.mapping.specs.declared.MappingList.{MappingList}
-use Rattle.mapping.specs.Change.{append}
+use Rattle.mapping.specs.Change.{insert}
 use Rattle.manager.specs.Answers.{accepted}
 use Rattle.manager.specs.Batch.{itemAt, BatchResult, batchResult, wholeResult}
 use Rattle.manager.specs.Calls.{noOps}
@@ -23,7 +23,7 @@ mappingRefusal b l m = firstRefusal (mappingCauses b l (m .space) (m .page) (m .
 
 -- the list with the mapping, unless that is refused
 abbrev pub listedBy : ℕ → MappingList → Mapping → MappingList
-listedBy zero l m = append l m
+listedBy zero l m = insert l m
 listedBy (suc n) l m = l
 
 -- the list after the first k items
