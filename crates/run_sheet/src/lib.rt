@@ -47,9 +47,8 @@ pub fn run_sheet(sheet: &[u8], text: &mut [u8]) -> usize
     run::run_unbroken(sheet, text)
 }
 
-// What a step made: the list after it, its answer, and the word that it shows.
-pub struct Made {
-    pub list: MappingList,
+// What a step tells: its answer, and the word that it shows.
+pub struct Told {
     pub answer: Answer,
     pub shown: Shown,
 }

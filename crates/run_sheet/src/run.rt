@@ -1,9 +1,11 @@
 // The run of a sheet: its calls in their order, each with its line of text.
 use crate::Progress;
+use crate::Told;
 use crate::steps;
 use board::BOARD01;
 use manager::records::RECORD_WORDS;
 use mapping::MappingList;
+use sheet_codec::Shown;
 use sheet_codec::answers;
 use sheet_codec::format;
 use sheet_codec::text;
@@ -13,8 +15,8 @@ ghost use Prim.Native.Nat.{_+_, _*_, _^_, _<_, _≤_};
 ghost use lib.ListN.{length};
 ghost use Rattle.board.specs.Board.{board01};
 ghost use Rattle.machine.specs.State.{machineOf};
-ghost use Rattle.sheet_codec.specs.Format.{mostMappings, mostSteps, stepBytes, mappingCount, stepPlace, isBroken, mappingCall, stepCall};
-ghost use Rattle.sheet_codec.specs.Text.{lineBytes, mappingLineOf, stepLineOf};
+ghost use Rattle.sheet_codec.specs.Format.{mostMappings, mostSteps, stepBytes, mappingCount, stepPlace, isBroken, mappingCall};
+ghost use Rattle.sheet_codec.specs.Text.{lineBytes, mappingLineOf};
 ghost use Rattle.run_sheet.specs.Run.{runFrom, advance, afterMappings, afterSteps, runSteps, closed, textBytes};
 ghost use Rattle.sheet_codec.specs.Put.{Put};
 ghost use Rattle.run_sheet.specs.Ran.{Ran};
@@ -233,64 +235,27 @@ fn run_steps(
     let mut purges = 0;
     let mut i = 0;
     while i < count {
-        let made = step_one(
-            list,
-            records,
-            protections,
-            memory,
-            words,
-            tags,
-            sheet,
-            first,
-            i,
-            text,
-            at,
-        );
-        list = made.list;
-        at = made.at;
-        flushes += made.flushes;
-        purges += made.purges;
+        let f = format::fields_at(sheet, first + format::STEP_BYTES * i);
+        let kind = format::kind_of(f.kind);
+        // Only an unmap hands a list back.
+        let told = if steps::is_unmap(kind) {
+            let got = machine::unmap(list, records, protections, memory, words, tags, f.s, f.p);
+            list = got.list;
+            let answer = got.answer;
+            Told {
+                answer,
+                shown: Shown::Absent,
+            }
+        } else {
+            steps::step(list, records, protections, memory, words, tags, kind, f)
+        };
+        let answer = told.answer;
+        let shown = told.shown;
+        at = text::step_line(text, at, i, answer, shown);
+        flushes += answers::flushes_of(answer);
+        purges += answers::purges_of(answer);
         i += 1;
     }
-    Progress {
-        list,
-        at,
-        flushes,
-        purges,
-    }
-}
-
-// Step k of the sheet, where the steps start at first.
-fn step_one(
-    list: MappingList,
-    records: &mut [u32],
-    protections: &mut [u8],
-    memory: &mut [u32],
-    words: &mut [u32],
-    tags: &mut [u8],
-    sheet: &[u8],
-    first: usize,
-    k: usize,
-    text: &mut [u8],
-    at: usize,
-) -> Progress
-    requires { ⌜ (first ≡ stepPlace (now sheet) 0) × (first + stepBytes * (k + 1) < 2 ^ 64)
-        × (at + lineBytes ≤ length (now text)) ⌝ }
-    ensures { λ r. ⌜ Ran
-        (advance board01 (stepLineOf k) (stepCall board01 (now (sheet .entry)) k) (runFrom
-        (machineOf list (now (records .entry)) (now (protections .entry)) (now (memory .entry)) (now (words .entry)) (now (tags .entry)))))
-        1 (now (text .entry)) at
-        (machineOf (r .list) (now (records .exit)) (now (protections .exit)) (now (memory .exit)) (now (words .exit)) (now (tags .exit)))
-        (now (text .exit)) (r .at) (r .flushes) (r .purges) ⌝ }
-{
-    let f = format::fields_at(sheet, first + format::STEP_BYTES * k);
-    let made = steps::step(list, records, protections, memory, words, tags, f);
-    let list = made.list;
-    let answer = made.answer;
-    let shown = made.shown;
-    let at = text::step_line(text, at, k, answer, shown);
-    let flushes = answers::flushes_of(answer);
-    let purges = answers::purges_of(answer);
     Progress {
         list,
         at,

@@ -1,5 +1,5 @@
-// One step of a sheet, made on the machine.
-use crate::Made;
+// One step of a sheet, made on the machine: each kind but the unmap, which the run makes itself.
+use crate::Told;
 use board::BOARD01;
 use machine::Loaded;
 use manager::Answer;
@@ -7,7 +7,7 @@ use mapping::MappingList;
 use sheet_codec::Fields;
 use sheet_codec::Kind;
 use sheet_codec::Shown;
-use sheet_codec::format;
+ghost use mathlib.Core.Bool.{false};
 ghost use mathlib.Core.List.{[], _∷_};
 ghost use mathlib.Core.Path.{_≡_};
 ghost use lib.ListN.{length, replicate};
@@ -18,10 +18,26 @@ ghost use Rattle.machine.specs.Plans.{loaded};
 ghost use Rattle.machine.specs.State as call;
 ghost use Rattle.machine.specs.State.{machineOf};
 ghost use Rattle.run_sheet.specs.Did.{Did};
-ghost use Rattle.sheet_codec.specs.Format.{sentWord, kindOf, callOf};
+ghost use Rattle.run_sheet.specs.Kinds.{isUnmap};
+ghost use Rattle.sheet_codec.specs.Format.{sentWord, callOf};
 ghost use Rattle.sheet_codec.specs.Text.{shownWord, firstWord};
 
-// The step of these fields.
+// Whether a step of this kind is an unmap. A kind that breaks the sheet stands for one.
+pub fn is_unmap(kind: Kind) -> bool
+    ensures { λ r. ⌜ r ≡ isUnmap kind ⌝ }
+{
+    match kind {
+        Kind::Read => false,
+        Kind::Write => false,
+        Kind::DeviceRead => false,
+        Kind::DeviceWrite => false,
+        Kind::Evict => false,
+        Kind::Unmap => true,
+        Kind::Other => true,
+    }
+}
+
+// A step that is no unmap, and leaves the list as it is: past the first four kinds, an evict.
 pub fn step(
     list: MappingList,
     records: &mut [u32],
@@ -29,23 +45,22 @@ pub fn step(
     memory: &mut [u32],
     words: &mut [u32],
     tags: &mut [u8],
+    kind: Kind,
     f: Fields,
-) -> Made
+) -> Told
+    requires { ⌜ isUnmap kind ≡ false ⌝ }
     ensures { λ r. ⌜ Did
         (machineOf list (now (records .entry)) (now (protections .entry)) (now (memory .entry)) (now (words .entry)) (now (tags .entry)))
-        (callOf board01 (kindOf (f .kind)) f)
-        (machineOf (r .list) (now (records .exit)) (now (protections .exit)) (now (memory .exit)) (now (words .exit)) (now (tags .exit)))
+        (callOf board01 kind f)
+        (machineOf list (now (records .exit)) (now (protections .exit)) (now (memory .exit)) (now (words .exit)) (now (tags .exit)))
         (outcome (r .answer)) (shownWord (r .shown)) ⌝ }
 {
-    let kind = format::kind_of(f.kind);
     match kind {
         Kind::Read => read(list, records, protections, memory, words, tags, f),
         Kind::Write => write(list, records, protections, memory, words, tags, f),
         Kind::DeviceRead => device_read(list, records, protections, memory, words, tags, f),
         Kind::DeviceWrite => device_write(list, records, protections, memory, words, tags, f),
-        Kind::Evict => evict(list, records, protections, memory, words, tags, f),
-        Kind::Unmap => unmap(list, records, protections, memory, words, tags, f),
-        Kind::Other => unmap(list, records, protections, memory, words, tags, f),
+        _ => evict(list, records, protections, memory, words, tags, f),
     }
 }
 
@@ -58,11 +73,11 @@ fn read(
     words: &mut [u32],
     tags: &mut [u8],
     f: Fields,
-) -> Made
+) -> Told
     ensures { λ r. ⌜ Did
         (machineOf list (now (records .entry)) (now (protections .entry)) (now (memory .entry)) (now (words .entry)) (now (tags .entry)))
         (call.read (f .s) (f .p) (f .o))
-        (machineOf (r .list) (now (records .exit)) (now (protections .exit)) (now (memory .exit)) (now (words .exit)) (now (tags .exit)))
+        (machineOf list (now (records .exit)) (now (protections .exit)) (now (memory .exit)) (now (words .exit)) (now (tags .exit)))
         (outcome (r .answer)) (shownWord (r .shown)) ⌝ }
 {
     let got = machine::read(
@@ -76,7 +91,7 @@ fn read(
         f.p,
         f.o as usize,
     );
-    made_of(list, got)
+    told_of(got)
 }
 
 // The processor writes.
@@ -88,11 +103,11 @@ fn write(
     words: &mut [u32],
     tags: &mut [u8],
     f: Fields,
-) -> Made
+) -> Told
     ensures { λ r. ⌜ Did
         (machineOf list (now (records .entry)) (now (protections .entry)) (now (memory .entry)) (now (words .entry)) (now (tags .entry)))
         (call.write (f .s) (f .p) (f .o) (f .w))
-        (machineOf (r .list) (now (records .exit)) (now (protections .exit)) (now (memory .exit)) (now (words .exit)) (now (tags .exit)))
+        (machineOf list (now (records .exit)) (now (protections .exit)) (now (memory .exit)) (now (words .exit)) (now (tags .exit)))
         (outcome (r .answer)) (shownWord (r .shown)) ⌝ }
 {
     let answer = machine::write(
@@ -107,8 +122,7 @@ fn write(
         f.o as usize,
         f.w,
     );
-    Made {
-        list,
+    Told {
         answer,
         shown: Shown::Absent,
     }
@@ -123,11 +137,11 @@ fn device_read(
     words: &[u32],
     tags: &mut [u8],
     f: Fields,
-) -> Made
+) -> Told
     ensures { λ r. ⌜ Did
         (machineOf list (now (records .entry)) (now (protections .entry)) (now (memory .entry)) (now (words .entry)) (now (tags .entry)))
         (call.deviceRead (f .s) (replicate (board01 .page) 0))
-        (machineOf (r .list) (now (records .exit)) (now (protections .exit)) (now (memory .exit)) (now (words .entry)) (now (tags .exit)))
+        (machineOf list (now (records .exit)) (now (protections .exit)) (now (memory .exit)) (now (words .entry)) (now (tags .exit)))
         (outcome (r .answer)) (shownWord (r .shown)) ⌝ }
 {
     let mut buffer = [0u32; BOARD01.page];
@@ -142,11 +156,7 @@ fn device_read(
         f.s,
     );
     let shown = first_word(answer, buffer[0]);
-    Made {
-        list,
-        answer,
-        shown,
-    }
+    Told { answer, shown }
 }
 
 // A device writes a frame: w, w + 1 and so on.
@@ -158,11 +168,11 @@ fn device_write(
     words: &[u32],
     tags: &mut [u8],
     f: Fields,
-) -> Made
+) -> Told
     ensures { λ r. ⌜ Did
         (machineOf list (now (records .entry)) (now (protections .entry)) (now (memory .entry)) (now (words .entry)) (now (tags .entry)))
         (call.deviceWrite (f .s) (tabulate (board01 .page) (sentWord (f .w))))
-        (machineOf (r .list) (now (records .exit)) (now (protections .exit)) (now (memory .exit)) (now (words .entry)) (now (tags .exit)))
+        (machineOf list (now (records .exit)) (now (protections .exit)) (now (memory .exit)) (now (words .entry)) (now (tags .exit)))
         (outcome (r .answer)) (shownWord (r .shown)) ⌝ }
 {
     let mut buffer = [0u32; BOARD01.page];
@@ -177,8 +187,7 @@ fn device_write(
         &buffer,
         f.s,
     );
-    Made {
-        list,
+    Told {
         answer,
         shown: Shown::Absent,
     }
@@ -193,11 +202,11 @@ fn evict(
     words: &[u32],
     tags: &mut [u8],
     f: Fields,
-) -> Made
+) -> Told
     ensures { λ r. ⌜ Did
         (machineOf list (now (records .entry)) (now (protections .entry)) (now (memory .entry)) (now (words .entry)) (now (tags .entry)))
         (call.evict (f .s))
-        (machineOf (r .list) (now (records .entry)) (now (protections .exit)) (now (memory .exit)) (now (words .entry)) (now (tags .exit)))
+        (machineOf list (now (records .entry)) (now (protections .exit)) (now (memory .exit)) (now (words .entry)) (now (tags .exit)))
         (outcome (r .answer)) (shownWord (r .shown)) ⌝ }
 {
     let answer = machine::evict(
@@ -209,51 +218,22 @@ fn evict(
         tags,
         f.s as usize,
     );
-    Made {
-        list,
+    Told {
         answer,
         shown: Shown::Absent,
     }
 }
 
-// A page loses its frame.
-fn unmap(
-    list: MappingList,
-    records: &[u32],
-    protections: &mut [u8],
-    memory: &[u32],
-    words: &[u32],
-    tags: &[u8],
-    f: Fields,
-) -> Made
-    ensures { λ r. ⌜ Did
-        (machineOf list (now (records .entry)) (now (protections .entry)) (now (memory .entry)) (now (words .entry)) (now (tags .entry)))
-        (call.unmap (f .s) (f .p))
-        (machineOf (r .list) (now (records .entry)) (now (protections .exit)) (now (memory .entry)) (now (words .entry)) (now (tags .entry)))
-        (outcome (r .answer)) (shownWord (r .shown)) ⌝ }
-{
-    let got = machine::unmap(list, records, protections, memory, words, tags, f.s, f.p);
-    let answer = got.answer;
-    let list = got.list;
-    Made {
-        list,
-        answer,
-        shown: Shown::Absent,
-    }
-}
-
-// What is kept of a read.
-fn made_of(list: MappingList, got: Loaded) -> Made
-    ensures { λ r. ⌜ (r .list ≡ list) × (outcome (r .answer) ≡ loaded got .outcome) × (shownWord (r .shown) ≡ loaded got .word) ⌝ }
+// What a read tells.
+fn told_of(got: Loaded) -> Told
+    ensures { λ r. ⌜ (outcome (r .answer) ≡ loaded got .outcome) × (shownWord (r .shown) ≡ loaded got .word) ⌝ }
 {
     match got {
-        Loaded::Refused(number) => Made {
-            list,
+        Loaded::Refused(number) => Told {
             answer: Answer::Refused(number),
             shown: Shown::Absent,
         },
-        Loaded::Word(operations, word) => Made {
-            list,
+        Loaded::Word(operations, word) => Told {
             answer: Answer::Accepted(operations),
             shown: Shown::Word(word),
         },

@@ -1,5 +1,5 @@
 -- `run_sheet::read` meets its contract.
-use Rattle.run_sheet.proofs.Making.{did, did-with}
+use Rattle.run_sheet.proofs.Making.{did}
 use borrow.Author.Needs.{needs}
 use Rattle.run_sheet.proofs.steps.read.Statement.{statement}
 use Rattle.run_sheet.proofs.steps.read.Tie as tie
@@ -10,8 +10,8 @@ cast-read c = search needs
 read-requires : tie.Need-read-requires
 read-requires c κs = search needs
 
-made-of-requires : tie.Need-made-of-requires
-made-of-requires c κs = search needs
+told-of-requires : tie.Need-told-of-requires
+told-of-requires c κs = search needs
 
 same-length : tie.Need-same-length
 same-length c = search needs
@@ -31,8 +31,8 @@ same-length-5 c = search needs
 returns : tie.Need-returns
 returns c =
     let made = c .before .before .before .before .before .before .before .before .before .before .before in
-    let kept = c .made-of .ensures in
-    did-with (kept .0) (did (made .read .ensures) (kept .1) (kept .2))
+    let told = c .told-of .ensures in
+    did (made .read .ensures) (told .0) (told .1)
 
 pub read-spec : {M : Type 1} → statement M
 read-spec =
@@ -40,7 +40,7 @@ read-spec =
     (tie.spec
     cast-read
     read-requires
-    made-of-requires
+    told-of-requires
     same-length
     same-length-2
     same-length-3
