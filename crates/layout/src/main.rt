@@ -41,7 +41,7 @@ fn listed(count: u8) -> MappingList {
     let mut list = mapping::empty();
     let mut k: u8 = 0;
     while k < count {
-        list = mapping::append(list, mapping_of(k as u16));
+        list = mapping::insert_at(list, list.count, mapping_of(k as u16));
         k += 1;
     }
     list

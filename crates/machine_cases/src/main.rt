@@ -22,8 +22,8 @@ fn main() {
 
 // Frame 3 behind pages of colours 0 and 1: page 0 of space 0, and page 9 of space 1, which is read only.
 fn two_pages() -> MappingList {
-    let one = mapping::append(mapping::empty(), entry(0, 0, 3, 2));
-    mapping::append(one, entry(1, 9, 3, 1))
+    let one = mapping::insert_at(mapping::empty(), 0, entry(0, 0, 3, 2));
+    mapping::insert_at(one, 1, entry(1, 9, 3, 1))
 }
 
 // ---- rows of the seven single calls: wrong lengths, broken rules
@@ -127,7 +127,7 @@ fn tags() {
 fn tables() {
     io::write_all(STDOUT_FILENO, b"tables\n");
     let list = two_pages();
-    let double = mapping::append(list, entry(0, 0, 5, 2));
+    let double = mapping::insert_at(list, 1, entry(0, 0, 5, 2));
     let mut over = list;
     over.count = 257;
     tried(list, 192, 256, 4096, 512, 64, 64, 0, 2);
@@ -266,7 +266,7 @@ fn pages(n: u16) -> MappingList {
     let mut list = mapping::empty();
     let mut page: u16 = 0;
     while page < n {
-        list = mapping::append(list, entry(0, page, 3, 2));
+        list = mapping::insert_at(list, list.count, entry(0, page, 3, 2));
         page += 1;
     }
     list
@@ -292,6 +292,51 @@ fn accepted() {
     unmapped(two, &mut r, &mut p, &mut m, &mut w, &mut t);
 }
 
+// A read, a write and an eviction, each with what it leaves.
+fn read(
+    list: MappingList,
+    r: &mut [u32; 192],
+    p: &mut [u8; 256],
+    m: &mut [u32; 4096],
+    w: &mut [u32; 512],
+    t: &mut [u8; 64],
+    space: u8,
+    page: u16,
+    offset: usize,
+) {
+    show::read(list, r, p, m, w, t, space, page, offset);
+    show::left(r, p, m, w, t);
+}
+
+fn write(
+    list: MappingList,
+    r: &mut [u32; 192],
+    p: &mut [u8; 256],
+    m: &mut [u32; 4096],
+    w: &mut [u32; 512],
+    t: &mut [u8; 64],
+    space: u8,
+    page: u16,
+    offset: usize,
+    word: u32,
+) {
+    show::write(list, r, p, m, w, t, space, page, offset, word);
+    show::left(r, p, m, w, t);
+}
+
+fn evict(
+    list: MappingList,
+    r: &[u32; 192],
+    p: &mut [u8; 256],
+    m: &mut [u32; 4096],
+    w: &[u32; 512],
+    t: &mut [u8; 64],
+    line: usize,
+) {
+    show::evict(list, r, p, m, w, t, line);
+    show::left(r, p, m, w, t);
+}
+
 // A miss; a hit, which does not see what memory holds meanwhile; a write; a read through the other colour; a write through rights 1.
 fn accesses(
     list: MappingList,
@@ -301,18 +346,13 @@ fn accesses(
     w: &mut [u32; 512],
     t: &mut [u8; 64],
 ) {
-    show::read(list, r, p, m, w, t, 1, 9, 0);
-    show::left(r, p, m, w, t);
+    read(list, r, p, m, w, t, 1, 9, 0);
     m[192] = 99;
-    show::read(list, r, p, m, w, t, 1, 9, 0);
-    show::left(r, p, m, w, t);
+    read(list, r, p, m, w, t, 1, 9, 0);
     m[192] = 192;
-    show::write(list, r, p, m, w, t, 0, 0, 0, 17);
-    show::left(r, p, m, w, t);
-    show::read(list, r, p, m, w, t, 1, 9, 0);
-    show::left(r, p, m, w, t);
-    show::write(list, r, p, m, w, t, 1, 9, 0, 5);
-    show::left(r, p, m, w, t);
+    write(list, r, p, m, w, t, 0, 0, 0, 17);
+    read(list, r, p, m, w, t, 1, 9, 0);
+    write(list, r, p, m, w, t, 1, 9, 0, 5);
 }
 
 // A device write over a dirty page, its neighbours in memory, and a read that no longer finds the old line.
@@ -326,16 +366,14 @@ fn writes_in(
     b: &[u32; 64],
 ) {
     io::write_all(STDOUT_FILENO, b"transfers\n");
-    show::write(list, r, p, m, w, t, 0, 0, 0, 18);
-    show::left(r, p, m, w, t);
+    write(list, r, p, m, w, t, 0, 0, 0, 18);
     show::device_write(list, r, p, m, w, t, b, 3);
     show::left(r, p, m, w, t);
     show::word(b"memory", m, 191);
     show::word(b"memory", m, 255);
     show::word(b"memory", m, 256);
     show::word(b"buffer", b, 63);
-    show::read(list, r, p, m, w, t, 1, 9, 0);
-    show::left(r, p, m, w, t);
+    read(list, r, p, m, w, t, 1, 9, 0);
 }
 
 // A device read of a dirty page.
@@ -348,8 +386,7 @@ fn reads_out(
     t: &mut [u8; 64],
 ) {
     let mut b = [90u32; 64];
-    show::write(list, r, p, m, w, t, 0, 0, 0, 19);
-    show::left(r, p, m, w, t);
+    write(list, r, p, m, w, t, 0, 0, 0, 19);
     show::device_read(list, r, p, m, w, t, &mut b, 3);
     show::left(r, p, m, w, t);
     show::word(b"buffer", &b, 1);
@@ -366,17 +403,13 @@ fn evictions(
     t: &mut [u8; 64],
 ) {
     io::write_all(STDOUT_FILENO, b"evictions\n");
-    show::write(list, r, p, m, w, t, 0, 0, 0, 20);
-    show::left(r, p, m, w, t);
+    write(list, r, p, m, w, t, 0, 0, 0, 20);
     p[0] = 9;
     p[2] = 9;
-    show::evict(list, r, p, m, w, t, 0);
-    show::left(r, p, m, w, t);
+    evict(list, r, p, m, w, t, 0);
     w[0] = 33;
-    show::evict(list, r, p, m, w, t, 0);
-    show::left(r, p, m, w, t);
-    show::evict(list, r, p, m, w, t, 8);
-    show::left(r, p, m, w, t);
+    evict(list, r, p, m, w, t, 0);
+    evict(list, r, p, m, w, t, 8);
 }
 
 // A page unmapped with a word in the cache, its frame mapped again in the other colour by a list of mappings, and a read through that.
@@ -389,15 +422,12 @@ fn unmapped(
     t: &mut [u8; 64],
 ) {
     io::write_all(STDOUT_FILENO, b"unmapped\n");
-    show::write(list, r, p, m, w, t, 0, 0, 0, 21);
-    show::left(r, p, m, w, t);
+    write(list, r, p, m, w, t, 0, 0, 0, 21);
     let one = show::unmap(list, r, p, m, w, t, 0, 0);
     show::left(r, p, m, w, t);
-    show::read(one, r, p, m, w, t, 0, 0, 0);
-    show::left(r, p, m, w, t);
+    read(one, r, p, m, w, t, 0, 0, 0);
     let mut answers = [8u8; 2];
     let two = show::map_all(one, r, p, m, w, t, pair(), &mut answers);
     show::left(r, p, m, w, t);
-    show::read(two, r, p, m, w, t, 0, 17, 0);
-    show::left(r, p, m, w, t);
+    read(two, r, p, m, w, t, 0, 17, 0);
 }

@@ -113,13 +113,7 @@ pub fn read(
         offset,
     );
     io::write_all(STDOUT_FILENO, b"read");
-    match loaded {
-        Loaded::Refused(n) => spaced(wide(n)),
-        Loaded::Word(operations, word) => {
-            both(operations);
-            spaced(long(word));
-        }
-    }
+    found(loaded);
     apart();
 }
 
@@ -267,6 +261,16 @@ pub fn count_up(to: &mut [u32], first: u32) {
     }
 }
 
+fn found(loaded: Loaded) {
+    match loaded {
+        Loaded::Refused(n) => spaced(wide(n)),
+        Loaded::Word(operations, word) => {
+            both(operations);
+            spaced(long(word));
+        }
+    }
+}
+
 fn told(answer: Answer) {
     match answer {
         Answer::Refused(n) => spaced(wide(n)),
@@ -317,18 +321,8 @@ pub fn left(
 
 // The same of other lengths.
 pub fn parts(records: &[u32], protections: &[u8], memory: &[u32], words: &[u32], tags: &[u8]) {
-    io::write_all(STDOUT_FILENO, b"p");
-    if protections.len() > 2 {
-        spaced(wide(protections[0]));
-        spaced(wide(protections[1]));
-        spaced(wide(protections[2]));
-    }
-    io::write_all(STDOUT_FILENO, b" r");
-    if records.len() > 11 {
-        spaced(long(records[9]));
-        spaced(long(records[10]));
-        spaced(long(records[11]));
-    }
+    three(protections);
+    record(records);
     io::write_all(STDOUT_FILENO, b" m");
     if memory.len() > 192 {
         spaced(long(memory[192]));
@@ -336,6 +330,26 @@ pub fn parts(records: &[u32], protections: &[u8], memory: &[u32], words: &[u32],
     line(words, tags, 0, 0);
     line(words, tags, 8, 64);
     end();
+}
+
+// The first three protections.
+fn three(protections: &[u8]) {
+    io::write_all(STDOUT_FILENO, b"p");
+    if protections.len() > 2 {
+        spaced(wide(protections[0]));
+        spaced(wide(protections[1]));
+        spaced(wide(protections[2]));
+    }
+}
+
+// The record of frame 3.
+fn record(records: &[u32]) {
+    io::write_all(STDOUT_FILENO, b" r");
+    if records.len() > 11 {
+        spaced(long(records[9]));
+        spaced(long(records[10]));
+        spaced(long(records[11]));
+    }
 }
 
 // A line's tag, and a word of the cache.

@@ -13,6 +13,7 @@ ghost use Prim.Native.Nat.{_≤_};
 fn main() {
     let two = limits();
     orders();
+    moves();
     lengths();
     lists();
     records();
@@ -27,27 +28,35 @@ fn limits() -> MappingList {
     io::write_all(STDOUT_FILENO, b"limits\n");
     let mut records = [0u32; 192];
     let mut protections = [9u8; 256];
-    let list = map_limits(&records, &mut protections);
+    let list = accepted_maps(&records, &mut protections);
+    map_limits(list, &records, &mut protections);
+    first_refusals(list, &records, &mut protections);
     page_limits(list, &mut records, &mut protections);
     frame_limits(list, &mut records, &mut protections);
     unmap_limits(list, &mut records, &mut protections);
     list
 }
 
-fn map_limits(records: &[u32; 192], protections: &mut [u8; 256]) -> MappingList {
+fn accepted_maps(records: &[u32; 192], protections: &mut [u8; 256]) -> MappingList {
     let start = mapping::empty();
     show::map(start, records, protections, entry(16, 0, 0, 1));
     let one = show::map(start, records, protections, entry(0, 0, 0, 1));
-    let two = show::map(one, records, protections, entry(15, 1023, 63, 2));
-    show::map(two, records, protections, entry(0, 1024, 0, 1));
-    show::map(two, records, protections, entry(0, 1, 64, 1));
-    show::map(two, records, protections, entry(0, 1, 0, 0));
-    show::map(two, records, protections, entry(0, 1, 0, 3));
-    show::map(two, records, protections, entry(0, 0, 5, 2));
-    show::map(two, records, protections, entry(16, 0, 64, 3));
-    show::map(two, records, protections, entry(0, 1, 64, 3));
-    show::map(two, records, protections, entry(0, 0, 0, 0));
-    two
+    show::map(one, records, protections, entry(15, 1023, 63, 2))
+}
+
+fn map_limits(list: MappingList, records: &[u32; 192], protections: &mut [u8; 256]) {
+    show::map(list, records, protections, entry(0, 1024, 0, 1));
+    show::map(list, records, protections, entry(0, 1, 64, 1));
+    show::map(list, records, protections, entry(0, 1, 0, 0));
+    show::map(list, records, protections, entry(0, 1, 0, 3));
+    show::map(list, records, protections, entry(0, 0, 5, 2));
+}
+
+// Where several apply.
+fn first_refusals(list: MappingList, records: &[u32; 192], protections: &mut [u8; 256]) {
+    show::map(list, records, protections, entry(16, 0, 64, 3));
+    show::map(list, records, protections, entry(0, 1, 64, 3));
+    show::map(list, records, protections, entry(0, 0, 0, 0));
 }
 
 fn page_limits(list: MappingList, records: &mut [u32; 192], protections: &mut [u8; 256]) {
@@ -106,17 +115,73 @@ fn transfers(list: MappingList, records: &mut [u32; 192], protections: &mut [u8;
     show::device_read(list, records, protections, 4);
 }
 
-// An unmap moves the later mappings down and leaves the record: the dirty colour is flushed by the next access.
+// An unmap moves the later mappings down and leaves the record.
 fn unmapped(list: MappingList, records: &mut [u32; 192], protections: &mut [u8; 256]) {
     let three = show::map(list, records, protections, entry(2, 8, 3, 2));
     show::write(three, records, protections, 2, 8);
     let two = show::unmap(three, records, protections, 0, 0);
     show::unmap(two, records, protections, 0, 0);
-    let again = show::map(two, records, protections, entry(0, 2, 3, 2));
+    mapped_again(two, records, protections);
+}
+
+// The frame in other colours, whose pages go first: the next access flushes the colour that is dirty.
+fn mapped_again(list: MappingList, records: &mut [u32; 192], protections: &mut [u8; 256]) {
+    let again = show::map(list, records, protections, entry(0, 2, 3, 2));
     show::write(again, records, protections, 0, 2);
     let gone = show::unmap(again, records, protections, 0, 2);
     let other = show::map(gone, records, protections, entry(0, 3, 3, 1));
     show::read(other, records, protections, 0, 3);
+}
+
+// ---- places in the list: frames 3 and 5, dirty in colour 0 before, behind the same page of two spaces
+
+fn moves() {
+    io::write_all(STDOUT_FILENO, b"moves\n");
+    let mut records = [0u32; 192];
+    let mut protections = [9u8; 256];
+    records[9] = 1;
+    records[11] = 1;
+    records[15] = 1;
+    records[17] = 1;
+    let two = before(&records, &mut protections);
+    each_page(two, &mut records, &mut protections);
+    between(two, &records, &mut protections);
+    behind(two, &records, &mut protections);
+}
+
+// A mapping by itself, and one that goes before it.
+fn before(records: &[u32; 192], protections: &mut [u8; 256]) -> MappingList {
+    let start = mapping::empty();
+    let one = show::map(start, records, protections, entry(1, 9, 3, 2));
+    show::places(one);
+    let two = show::map(one, records, protections, entry(0, 9, 5, 2));
+    show::places(two);
+    two
+}
+
+// The same page of two spaces: each has its own frame.
+fn each_page(list: MappingList, records: &mut [u32; 192], protections: &mut [u8; 256]) {
+    show::read(list, records, protections, 0, 9);
+    show::write(list, records, protections, 1, 9);
+}
+
+// One that goes between them, since its space counts before its page, and off again. The later page takes its protection, 2, along; the new one has 1,
+// from its own frame.
+fn between(list: MappingList, records: &[u32; 192], protections: &mut [u8; 256]) {
+    let three = show::map(list, records, protections, entry(0, 1001, 5, 2));
+    show::places(three);
+    let two = show::unmap(three, records, protections, 0, 1001);
+    show::places(two);
+}
+
+// One that goes behind them, and off again; then the first is taken off.
+fn behind(list: MappingList, records: &[u32; 192], protections: &mut [u8; 256]) {
+    let three = show::map(list, records, protections, entry(1, 17, 3, 1));
+    show::places(three);
+    let two = show::unmap(three, records, protections, 1, 17);
+    show::places(two);
+    let one = show::unmap(two, records, protections, 0, 9);
+    show::places(one);
 }
 
 // ---- wrong lengths
@@ -141,28 +206,49 @@ fn lengths() {
 
 // ---- lists that break their rules
 
+// A list of one, and of two in order. Then two exchanged, a double, two in order by page and not by space; and a second one with a field out of its range.
 fn lists() {
     io::write_all(STDOUT_FILENO, b"lists\n");
-    let start = mapping::empty();
-    let one = mapping::append(start, entry(1, 9, 3, 1));
+    let one = mapping::insert_at(mapping::empty(), 0, entry(1, 9, 3, 1));
     tried(one);
-    tried(mapping::append(one, entry(1, 9, 4, 2)));
-    tried(mapping::append(one, entry(1, 8, 3, 1)));
-    tried(mapping::append(one, entry(1, 8, 3, 0)));
-    tried(mapping::append(one, entry(1, 8, 3, 3)));
-    tried(mapping::append(one, entry(16, 8, 3, 1)));
-    tried(mapping::append(one, entry(1, 1024, 3, 1)));
-    tried(mapping::append(one, entry(1, 8, 64, 1)));
+    tried(mapping::insert_at(one, 0, entry(1, 8, 3, 1)));
+    exchanged(one);
+    tried(mapping::insert_at(one, 1, entry(1, 9, 4, 2)));
+    tried(mapping::insert_at(one, 1, entry(0, 17, 3, 1)));
+    tried(mapping::insert_at(one, 0, entry(1, 8, 3, 0)));
+    tried(mapping::insert_at(one, 0, entry(1, 8, 3, 3)));
+    tried(mapping::insert_at(one, 1, entry(16, 8, 3, 1)));
+    tried(mapping::insert_at(one, 1, entry(1, 1024, 3, 1)));
+    tried(mapping::insert_at(one, 0, entry(1, 8, 64, 1)));
     counted(one);
 }
 
-// The count against the listed records.
+// A mapping that stands after the list's one and belongs before it: each call is refused, and leaves the list and the protections as they were. Frame 3 is
+// dirty in colour 0 before, and still is: the last call, with the list of one, flushes it.
+fn exchanged(one: MappingList) {
+    let mut records = [0u32; 192];
+    let mut protections = [9u8; 256];
+    records[9] = 1;
+    records[11] = 1;
+    let list = mapping::insert_at(one, 1, entry(1, 8, 3, 2));
+    show::places(show::map(list, &records, &mut protections, entry(0, 0, 0, 1)));
+    show::unmap(list, &records, &mut protections, 1, 8);
+    show::read(list, &mut records, &mut protections, 1, 9);
+    show::write(list, &mut records, &mut protections, 1, 8);
+    show::device_read(list, &mut records, &mut protections, 3);
+    show::device_write(list, &mut records, &mut protections, 3);
+    show::device_read(one, &mut records, &mut protections, 3);
+}
+
+// The count against the listed records: a mapping past it, a record of zeros within it, and more than there are.
 fn counted(list: MappingList) {
     let mut other = list;
     other.count = 0;
     tried(other);
-    other.count = 2;
+    other = mapping::empty();
+    other.count = 1;
     tried(other);
+    other = list;
     other.count = 257;
     tried(other);
 }
@@ -299,7 +385,7 @@ fn pages(n: u16) -> MappingList {
     let mut list = mapping::empty();
     let mut page: u16 = 0;
     while page < n {
-        list = mapping::append(list, entry(0, page, 0, 2));
+        list = mapping::insert_at(list, list.count, entry(0, page, 0, 2));
         page += 1;
     }
     list
@@ -307,7 +393,8 @@ fn pages(n: u16) -> MappingList {
 
 // ---- the full list
 
-// The list of 256 that a list of mappings filled: a fresh page, a mapped one, and rights out of range; then with one mapping less.
+// The list of 256 that a list of mappings filled: a fresh page, a mapped one, and rights out of range. Then one mapping less, and a page that moves the
+// last two of the list up: the last is still found.
 fn full(all: MappingList) {
     io::write_all(STDOUT_FILENO, b"full\n");
     let records = [0u32; 192];
@@ -317,5 +404,6 @@ fn full(all: MappingList) {
     show::map(all, &records, &mut protections, entry(0, 256, 0, 3));
     let less = show::unmap(all, &records, &mut protections, 0, 0);
     let again = show::map(less, &records, &mut protections, entry(0, 256, 63, 1));
+    show::map(again, &records, &mut protections, entry(1, 1, 0, 1));
     show::map(again, &records, &mut protections, entry(0, 0, 0, 1));
 }

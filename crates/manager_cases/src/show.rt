@@ -89,6 +89,30 @@ pub fn device_write(list: MappingList, records: &mut [u32], protections: &mut [u
     line(answer, protections);
 }
 
+// The list: n, how many are listed, and l, the first four places by space, page, frame and rights.
+pub fn places(list: MappingList) {
+    io::write_all(STDOUT_FILENO, b"n ");
+    io::print_decimal(STDOUT_FILENO, list.count as u64);
+    io::write_all(STDOUT_FILENO, b" l");
+    place(list.items[0]);
+    place(list.items[1]);
+    place(list.items[2]);
+    place(list.items[3]);
+    io::write_all(STDOUT_FILENO, b"\n");
+}
+
+fn place(m: Mapping) {
+    byte(m.space);
+    dotted(m.page as u64);
+    dotted(wide(m.frame));
+    dotted(wide(m.rights));
+}
+
+fn dotted(n: u64) {
+    io::write_all(STDOUT_FILENO, b".");
+    io::print_decimal(STDOUT_FILENO, n);
+}
+
 fn line(answer: Answer, protections: &[u8]) {
     match answer {
         Answer::Refused(number) => refused(number),

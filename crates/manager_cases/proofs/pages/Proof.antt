@@ -20,8 +20,8 @@ loop-holds c = omega arith
 entry-requires : tie.Need-entry-requires Inv-loop μ-loop
 entry-requires c κs = search needs
 
-append-requires : tie.Need-append-requires Inv-loop μ-loop
-append-requires c κs = search needs
+insert-at-requires : tie.Need-insert-at-requires Inv-loop μ-loop
+insert-at-requires c κs = search needs
 
 add-page : tie.Need-add-page Inv-loop μ-loop
 add-page c = omega arith
@@ -44,7 +44,7 @@ pages-spec =
     empty-requires
     loop-holds
     entry-requires
-    append-requires
+    insert-at-requires
     add-page
     loop-less
     loop-again
