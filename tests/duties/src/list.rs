@@ -26,8 +26,9 @@ pub trait Order {
 }
 
 /// In order of mapping, as before request N2: each is compared with all before it. This is the plain
-/// one: it goes record by record and compares space and page. Of the plain forms, two loops and `any`
-/// among them, this is the one that the compiler makes the quickest.
+/// one: it goes record by record and compares space and page. Of the plain forms it is the one that is
+/// quick in every build: `any` executes a third more, and two loops, though they execute as little, took
+/// up to half longer where the code lay badly.
 #[derive(Clone, Debug, PartialEq, Eq)]
 pub struct AllPairs;
 
