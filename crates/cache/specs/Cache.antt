@@ -102,7 +102,7 @@ unfoldable pub deviceRead : Board → ℕ → Store → List ℕ
 unfolding part frameAt
 deviceRead b f s = part (s .memory) (frameAt b f) (b .page)
 
--- memory with the buffer's words as the frame's
-unfoldable pub deviceWrite : Board → ℕ → List ℕ → Store → Store
-unfolding overlay frameAt
-deviceWrite b f buffer s = withMemory (overlay (s .memory) (frameAt b f) buffer) s
+-- memory with the buffer's words as the frame's from offset first on: all of them where it is 0 and the buffer has a page's length
+unfoldable pub deviceWrite : Board → ℕ → ℕ → List ℕ → Store → Store
+unfolding overlay memoryAt
+deviceWrite b f first buffer s = withMemory (overlay (s .memory) (memoryAt b f first) buffer) s

@@ -1,9 +1,11 @@
 -- A frame's current words, and where the board holds them: in the dirty lines, and else in memory.
 -- The part of demand 3's argument that speaks of memory and cache alone.
-use mathlib.Core.Bool.{cond}
+use mathlib.Core.Bool.{cond, _&&_}
+use mathlib.Core.List.{List}
 use mathlib.Core.Path.{_≡_}
-use Prim.Native.Nat.{ℕ, _<_}
-use lib.Dec.{eqb}
+use Prim.Native.Nat.{ℕ, _+_, _-_, _<_}
+use lib.Dec.{eqb, leb, ltb}
+use lib.ListN.{length, getD}
 use Rattle.board.specs.declared.Board.{Board}
 use Rattle.board.specs.Board.{lineOf}
 use Rattle.cache.specs.Store.{Store, WellFormed, tagAt, wordAt, memoryWord}
@@ -21,3 +23,7 @@ LosesNone b op = (f : ℕ) (current : ℕ → ℕ) (s : Store) → WellFormed b 
 -- the current words after a write of v at offset o
 abbrev pub written : ℕ → ℕ → (ℕ → ℕ) → ℕ → ℕ
 written o v current p = cond (eqb p o) v (current p)
+
+-- the current words after a device's write of a buffer's from offset first on
+abbrev pub received : ℕ → List ℕ → (ℕ → ℕ) → ℕ → ℕ
+received first buffer current p = cond (leb first p && ltb p (first + length buffer)) (getD buffer (p - first) 0) (current p)

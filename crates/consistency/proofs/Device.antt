@@ -1,35 +1,39 @@
--- A device's accepted transfers: its read finds the cacheless memory's words, its write puts the buffer's there.
+-- A device's accepted transfers: its read finds the cacheless memory's words, its write puts the buffer's there, of a page or of a part.
 use mathlib.Core.Path.{_≡_, refl, sym, ap, _∙_, fun-ext, subst}
-use mathlib.Core.Bool.{Bool, cond}
+use mathlib.Core.Bool.{Bool, true, false, cond}
 use mathlib.Core.List.{List}
 use mathlib.Core.Logic.{_≢_}
-use Prim.Native.Nat.{ℕ, _<_}
-use lib.Dec.{eqb}
+use Prim.Native.Nat.{ℕ, _+_, _≤_, _<_}
+use native.Mathlib.Omega.{arith}
+use lib.Dec.{ltb}
 use lib.ListN.{length, getD}
-use borrow.Author.Tests.{eq-eqb, ne-eqb}
+use borrow.Author.Tests.{eq-eqb, ne-eqb, ltb-false}
 use Rattle.board.specs.declared.Board.{Board}
 use Rattle.board.specs.Board.{Regular, lineOf}
 use Rattle.page_model.specs.declared.FrameRecord.{FrameRecord}
 use Rattle.page_model.specs.Record.{stateOf, isHeld}
 use Rattle.page_model.specs.Table as table
+use Rattle.manager.specs.Calls.{changeOf, commitChange}
 use Rattle.manager.specs.Refusals.{firstRefusal}
 use Rattle.manager.specs.Tables.{recordAt, tabulate}
 use Rattle.manager.proofs.Laws.{is-tabulate}
 use Rattle.cache.specs.Cache as hardware
-use Rattle.cache.specs.Store.{Store, WellFormed, tagAt}
+use Rattle.cache.specs.Current.{received}
+use Rattle.cache.specs.Store.{Store, WellFormed, tagAt, memoryWord}
 use Rattle.cache.specs.Tag.{dirtyTag}
 use Rattle.cache.proofs.Laws.Device.{deviceRead-length, deviceRead-word, deviceWrite-kept, deviceWrite-tags, deviceWrite-words}
 use Rattle.cache.proofs.Current.Device.{device-current-other, device-current-same}
 use Rattle.machine.specs.Refusals.{causes}
-use Rattle.machine.specs.State.{State, deviceRead, deviceWrite}
+use Rattle.machine.specs.State.{State, state, deviceRead, deviceWrite, deviceWritePart, Result}
 use Rattle.machine.specs.Step.{accept}
-use Rattle.machine.proofs.StepLaws.{deviceRead-ready, deviceWrite-ready}
-use Rattle.consistency.specs.Cacheless.{Cacheless, afterAccepted}
+use Rattle.machine.proofs.StepLaws.{deviceRead-ready, deviceWritePart-ready}
+use Rattle.machine.proofs.Parts.{whole-refusal, whole-accept}
+use Rattle.consistency.specs.Cacheless.{Cacheless, cacheless, sent, afterAccepted}
 use Rattle.consistency.proofs.Agrees.{Tagged, Agrees, Untouched, emptied, untouched-tagged, untouched-agrees}
 use Rattle.consistency.proofs.Commit.{commit-invariant}
 use Rattle.consistency.proofs.Invariant.{Invariant, Taken}
 use Rattle.consistency.proofs.Operations.{ordered, statesAfter, ordered-kept, ordered-other, ordered-tagged, ordered-agrees}
-use Rattle.consistency.proofs.Table.{device-read-clean, device-write-clean}
+use Rattle.consistency.proofs.Table.{Spares, HoldsNone, holds-none, device-read-clean}
 
 module _ (b : Board) (reg : Regular b) (st : State) (m : Cacheless) (inv : Invariant b st m) (f : ℕ) (hf : f < b .frames) where
   r : FrameRecord
@@ -67,79 +71,112 @@ module _ (b : Board) (reg : Regular b) (st : State) (m : Cacheless) (inv : Invar
   unfolding accept afterAccepted cleaned r
   read-taken buffer = (read-words, commit-invariant b st m inv f hf table.deviceRead cleaned (m .word) cleaned-kept cleaned-own cleaned-other)
 
-  -- ---- device to memory
+  -- ---- device to memory, from offset first on, by a step that leaves no colour present or dirty
 
-  purged : Store
-  purged = ordered b f table.deviceWrite (recordAt (st .tables .records) f) (st .store)
+  module _ (step : table.Step) (none-held : HoldsNone step) where
+    swept : Store
+    swept = ordered b f step (recordAt (st .tables .records) f) (st .store)
 
-  purged-kept : WellFormed b purged
-  unfolding purged
-  purged-kept = ordered-kept b reg f hf (st .store) (inv .kept) table.deviceWrite (recordAt (st .tables .records) f) (inv .sound .record-rules f hf)
+    swept-kept : WellFormed b swept
+    unfolding swept
+    swept-kept = ordered-kept b reg f hf (st .store) (inv .kept) step (recordAt (st .tables .records) f) (inv .sound .record-rules f hf)
 
-  purged-tagged : Tagged b f (statesAfter table.deviceWrite r) purged
-  unfolding purged r
-  purged-tagged = ordered-tagged b reg f hf (st .store) (inv .kept) table.deviceWrite (recordAt (st .tables .records) f) (inv .sound .record-rules f hf) (inv .agrees f hf .tagged)
+    swept-tagged : Tagged b f (statesAfter step r) swept
+    unfolding swept r
+    swept-tagged = ordered-tagged b reg f hf (st .store) (inv .kept) step (recordAt (st .tables .records) f) (inv .sound .record-rules f hf) (inv .agrees f hf .tagged)
 
-  purged-other : (g : ℕ) → g < b .frames → g ≢ f → Agrees b g (stateOf (recordAt (st .tables .records) g)) (m .word g) purged
-  unfolding purged
-  purged-other g hg ne =
-      ordered-other b reg f hf (st .store) (inv .kept) table.deviceWrite (recordAt (st .tables .records) f) (inv .sound .record-rules f hf) g
-      (stateOf (recordAt (st .tables .records) g)) (m .word g) ne (inv .agrees g hg)
+    swept-other : (g : ℕ) → g < b .frames → g ≢ f → Agrees b g (stateOf (recordAt (st .tables .records) g)) (m .word g) swept
+    unfolding swept
+    swept-other g hg ne =
+        ordered-other b reg f hf (st .store) (inv .kept) step (recordAt (st .tables .records) f) (inv .sound .record-rules f hf) g
+        (stateOf (recordAt (st .tables .records) g)) (m .word g) ne (inv .agrees g hg)
 
-  purged-clean : (c o : ℕ) → c < b .colours → o < b .page → tagAt purged (lineOf b c o) ≡ dirtyTag f → ⊥
-  purged-clean c o hc ho d = device-write-clean r c (ap isHeld (purged-tagged .dirty-colour c o hc ho d))
+    swept-clean : (c o : ℕ) → c < b .colours → o < b .page → tagAt swept (lineOf b c o) ≡ dirtyTag f → ⊥
+    swept-clean c o hc ho d = holds-none step none-held r c (ap isHeld (swept-tagged .dirty-colour c o hc ho d))
 
-  module _ (buffer : List ℕ) (full : length buffer ≡ b .page) where
-    put : Store
-    put = hardware.deviceWrite b f buffer purged
+    -- a step that purges no dirty colour keeps every word
+    swept-words : Spares step → (o : ℕ) → o < b .page → memoryWord b swept f o ≡ m .word f o
+    unfolding swept
+    swept-words spares o ho =
+        ordered-agrees b reg f hf (st .store) (inv .kept) step (recordAt (st .tables .records) f) (inv .sound .record-rules f hf) (m .word f) spares (inv .agrees f hf)
+        .current .in-memory o ho (λ c hc d. swept-clean c o hc ho d)
 
-    put-untouched : (g : ℕ) → Untouched b g purged put
-    unfolding put
-    put-untouched =
-        emptied b reg purged put (λ n g l e. ap (λ (t : List ℕ). getD t n 0) (deviceWrite-tags b reg f hf purged purged-kept buffer full))
-        (deviceWrite-words b reg f hf purged purged-kept buffer full)
+    module _ (first : ℕ) (buffer : List ℕ) (inside : first + length buffer ≤ b .page)
+        (rest : (o : ℕ) → o < b .page → (first ≤ o → o < first + length buffer → ⊥) → memoryWord b swept f o ≡ m .word f o) where
+      put : Store
+      put = hardware.deviceWrite b f first buffer swept
 
-    words : ℕ → ℕ → ℕ
-    words g o = cond (eqb f g) (getD buffer o 0) (m .word g o)
+      put-untouched : (g : ℕ) → Untouched b g swept put
+      unfolding put
+      put-untouched =
+          emptied b reg swept put (λ n g l e. ap (λ (t : List ℕ). getD t n 0) (deviceWrite-tags b reg f hf swept swept-kept first buffer inside))
+          (deviceWrite-words b reg f hf swept swept-kept first buffer inside)
 
-    own-words : (λ (o : ℕ). getD buffer o 0) ≡ words f
-    unfolding words
-    own-words = fun-ext (λ o. ap (λ (t : Bool). cond t (getD buffer o 0) (m .word f o)) (sym (eq-eqb f f refl)))
+      own-words : received first buffer (m .word f) ≡ sent (m .word) f first buffer f
+      own-words = fun-ext (λ o. rw (eq-eqb f f refl))
 
-    other-words : (g : ℕ) → g ≢ f → m .word g ≡ words g
-    unfolding words
-    other-words g ne = fun-ext (λ o. ap (λ (t : Bool). cond t (getD buffer o 0) (m .word g o)) (sym (ne-eqb f g (λ e. ne (sym e)))))
+      other-words : (g : ℕ) → g ≢ f → m .word g ≡ sent (m .word) f first buffer g
+      other-words g ne = fun-ext (λ o. rw (ne-eqb f g (λ e. ne (sym e))))
 
-    put-own : Agrees b f (statesAfter table.deviceWrite r) (λ o. getD buffer o 0) put
-    unfolding put
-    put-own =
-        record {
-          tagged = untouched-tagged b f (statesAfter table.deviceWrite r) purged put (put-untouched f) purged-tagged;
-          held-words = λ c o hc ho n h. absurd (device-write-clean r c h);
-          current = device-current-same b reg f hf buffer full purged purged-kept purged-clean;
-        }
+      put-own : Agrees b f (statesAfter step r) (received first buffer (m .word f)) put
+      unfolding put
+      put-own =
+          record {
+            tagged = untouched-tagged b f (statesAfter step r) swept put (put-untouched f) swept-tagged;
+            held-words = λ c o hc ho n h. absurd (holds-none step none-held r c h);
+            current = device-current-same b reg f hf first buffer inside swept swept-kept (m .word f) swept-clean rest;
+          }
 
-    put-other : (g : ℕ) → g < b .frames → g ≢ f → Agrees b g (stateOf (recordAt (st .tables .records) g)) (m .word g) put
-    unfolding put
-    put-other g hg ne =
-        let a = purged-other g hg ne in
-        untouched-agrees b g (stateOf (recordAt (st .tables .records) g)) purged put (put-untouched g) (m .word g)
-        (device-current-other b reg f hf buffer full purged purged-kept g (m .word g) ne (a .current)) a
+      put-other : (g : ℕ) → g < b .frames → g ≢ f → Agrees b g (stateOf (recordAt (st .tables .records) g)) (m .word g) put
+      unfolding put
+      put-other g hg ne =
+          let a = swept-other g hg ne in
+          untouched-agrees b g (stateOf (recordAt (st .tables .records) g)) swept put (put-untouched g) (m .word g)
+          (device-current-other b reg f hf first buffer inside swept swept-kept g (m .word g) ne (a .current)) a
 
-    write-taken : Taken b st m (deviceWrite f buffer)
-    unfolding accept afterAccepted purged put words r
-    write-taken = (
-      tt,
-      commit-invariant b st m inv f hf table.deviceWrite put words (deviceWrite-kept b reg f hf purged purged-kept buffer full)
-          (subst (λ (x : ℕ → ℕ). Agrees b f (statesAfter table.deviceWrite r) x put) own-words put-own)
-          (λ g hg ne. subst (λ (x : ℕ → ℕ). Agrees b g (stateOf (recordAt (st .tables .records) g)) x put) (other-words g ne) (put-other g hg ne)),
-    )
+      put-invariant : Invariant b
+          (state (commitChange b (st .tables) f (changeOf b (st .tables) f step .next))
+          (hardware.deviceWrite b f first buffer (ordered b f step (recordAt (st .tables .records) f) (st .store))))
+          (cacheless (sent (m .word) f first buffer) (m .frame))
+      unfolding swept put r
+      put-invariant =
+          commit-invariant b st m inv f hf step put (sent (m .word) f first buffer) (deviceWrite-kept b reg f hf swept swept-kept first buffer inside)
+          (subst (λ (x : ℕ → ℕ). Agrees b f (statesAfter step r) x put) own-words put-own)
+          (λ g hg ne. subst (λ (x : ℕ → ℕ). Agrees b g (stateOf (recordAt (st .tables .records) g)) x put) (other-words g ne) (put-other g hg ne))
+
+  -- fewer words than a page has are put by a step that keeps the others; all of them leave no other
+  part-taken : (first number : ℕ) (buffer : List ℕ) → length buffer ≡ number → first + number ≤ b .page → Taken b st m (deviceWritePart f first number buffer)
+  unfolding accept afterAccepted
+  part-taken first number buffer long fits = (tt, go (ltb number (b .page)) refl)
+    where
+      inside : first + length buffer ≤ b .page
+      inside = omega arith
+
+      go : (fewer : Bool) → ltb number (b .page) ≡ fewer → Invariant b
+          (state (commitChange b (st .tables) f (changeOf b (st .tables) f (cond fewer table.deviceWritePart table.deviceWrite) .next))
+          (hardware.deviceWrite b f first buffer (ordered b f (cond fewer table.deviceWritePart table.deviceWrite) (recordAt (st .tables .records) f) (st .store))))
+          (cacheless (sent (m .word) f first buffer) (m .frame))
+      go true e = put-invariant table.deviceWritePart refl first buffer inside (λ o ho out. swept-words table.deviceWritePart refl refl o ho)
+      go false e =
+          let all = ltb-false number (b .page) e in
+          put-invariant table.deviceWrite refl first buffer inside (λ o ho out. absurd (out (omega arith) (omega arith)))
 
 -- ---- the calls
 
-module _ (b : Board) (reg : Regular b) (st : State) (m : Cacheless) (inv : Invariant b st m) (f : ℕ) (buffer : List ℕ) where
-  pub device-read-taken : firstRefusal (causes b st (deviceRead f buffer)) ≡ 0 → Taken b st m (deviceRead f buffer)
-  device-read-taken e = read-taken b reg st m inv f (deviceRead-ready b st f buffer e .0 .1) buffer
+module _ (b : Board) (reg : Regular b) (st : State) (m : Cacheless) (inv : Invariant b st m) (f : ℕ) where
+  pub device-read-taken : (buffer : List ℕ) → firstRefusal (causes b st (deviceRead f buffer)) ≡ 0 → Taken b st m (deviceRead f buffer)
+  device-read-taken buffer e = read-taken b reg st m inv f (deviceRead-ready b st f buffer e .0 .1) buffer
 
-  pub device-write-taken : firstRefusal (causes b st (deviceWrite f buffer)) ≡ 0 → Taken b st m (deviceWrite f buffer)
-  device-write-taken e = let h = deviceWrite-ready b st f buffer e in write-taken b reg st m inv f (h .0 .1) buffer (h .1)
+  pub device-write-part-taken : (first number : ℕ) (buffer : List ℕ) → firstRefusal (causes b st (deviceWritePart f first number buffer)) ≡ 0
+      → Taken b st m (deviceWritePart f first number buffer)
+  device-write-part-taken first number buffer e =
+      let h = deviceWritePart-ready b st f first number buffer e in
+      part-taken b reg st m inv f (h .0 .1) first number buffer (h .1) (h .3)
+
+  -- a page is all its words
+  pub device-write-taken : (buffer : List ℕ) → firstRefusal (causes b st (deviceWrite f buffer)) ≡ 0 → Taken b st m (deviceWrite f buffer)
+  unfolding afterAccepted
+  device-write-taken buffer e =
+      let some = reg .has-page-words in
+      let t = device-write-part-taken 0 (b .page) buffer (whole-refusal b some st f buffer ∙ e) in
+      (tt, subst (λ (x : Result). Invariant b (x .after) (cacheless (sent (m .word) f 0 buffer) (m .frame))) (whole-accept b some st f buffer) (t .1))

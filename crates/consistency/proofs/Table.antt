@@ -10,7 +10,7 @@ use Rattle.bits.proofs.Tautology.{and-left, and-right}
 use Rattle.page_model.specs.declared.FrameRecord.{FrameRecord}
 use Rattle.page_model.specs.Record.{stateOf, isHeld, isDirty}
 use Rattle.page_model.specs.Step.{isFlush, isPurge, cellOf}
-use Rattle.page_model.specs.Table.{ColourState, empty, present, dirty, stale, Operation, none, Cell, own, other, roleIf, Step, read, write, deviceRead, deviceWrite}
+use Rattle.page_model.specs.Table.{ColourState, empty, present, dirty, stale, Operation, none, Cell, own, other, roleIf, Step, read, write, deviceRead, deviceWrite, deviceWritePart}
 use Rattle.page_model.proofs.Cells.{rowOf, ownOf, row-cell, each-state}
 use Rattle.consistency.proofs.Weaker.{weaker, is-dirty}
 
@@ -46,6 +46,7 @@ idle-cell (read c) = refl
 idle-cell (write c) = refl
 idle-cell deviceRead = refl
 idle-cell deviceWrite = refl
+idle-cell deviceWritePart = refl
 
 idle-from : {op : Operation} (w : Bool) → op ≡ none → (isFlush op || isPurge op || w) ≡ true → w ≡ true
 idle-from w e h = rw e at h
@@ -57,7 +58,7 @@ idle-weaker step r k e = idle-from (weaker (stateOf r k) (cellOf step r k .next)
 abbrev purgesClean : Law
 purgesClean o s cell = not (isPurge (cell .operation)) || not (isDirty s)
 
--- by a step; `refl` shows it of each but a device write
+-- by a step; `refl` shows it of each but a device's write of a page
 abbrev pub Spares : Step → Type 0
 Spares step = everyCell purgesClean step ≡ true
 
@@ -94,9 +95,16 @@ module _ (r : FrameRecord) (c : ℕ) where
       go (yes e) = e
       go (no ne) = absurd (not-held (cellOf (write c) r d .next) (eqb c d) (ne-eqb c d (λ q. ne (sym q))) (cell-law (λ o s cell. o || not (isHeld (cell .next))) (write c) refl r d) h)
 
--- after a device's read no colour is dirty, and after its write none is present either
+-- after a device's read no colour is dirty
 pub device-read-clean : (r : FrameRecord) (k : ℕ) → cellOf deviceRead r k .next ≢ dirty
 device-read-clean r k = not-dirty false refl (cell-law (λ o s cell. not (isDirty (cell .next))) deviceRead refl r k)
 
-pub device-write-clean : (r : FrameRecord) (k : ℕ) → isHeld (cellOf deviceWrite r k .next) ≡ true → ⊥
-device-write-clean r k = not-held (cellOf deviceWrite r k .next) false refl (cell-law (λ o s cell. not (isHeld (cell .next))) deviceWrite refl r k)
+-- after a step none is present or dirty; `refl` shows it of a device's writes, of a page and of a part
+abbrev leavesNone : Law
+leavesNone o s cell = not (isHeld (cell .next))
+
+abbrev pub HoldsNone : Step → Type 0
+HoldsNone step = everyCell leavesNone step ≡ true
+
+pub holds-none : (step : Step) → HoldsNone step → (r : FrameRecord) (k : ℕ) → isHeld (cellOf step r k .next) ≡ true → ⊥
+holds-none step e r k = not-held (cellOf step r k .next) false refl (cell-law leavesNone step e r k)

@@ -15,12 +15,12 @@ use Rattle.manager.specs.Tables.{tabulate}
 use Rattle.manager.proofs.Laws.{getD-tabulate}
 use Rattle.machine.specs.Call.{mapOf, afterItems, answerAt, callCauses, perform}
 use Rattle.machine.specs.Refusals.{causes}
-use Rattle.machine.specs.State.{State, Single, map, unmap, read, write, deviceRead, deviceWrite, evict, Call, single, mapAll, Result}
+use Rattle.machine.specs.State.{State, Single, map, unmap, read, write, deviceRead, deviceWrite, deviceWritePart, evict, Call, single, mapAll, Result}
 use Rattle.machine.specs.Step.{accept, step}
 use Rattle.machine.proofs.CallLaws.{perform-cases, accept-accepted, refused-number}
 use Rattle.consistency.specs.Cacheless.{Cacheless, start, afterSingle, itemsTaken, isRefused, fed}
 use Rattle.consistency.specs.Demand3.{startState, Finds, AllFind, stateAfter, cachelessAfter, Holds, Demand3}
-use Rattle.consistency.proofs.Device.{device-read-taken, device-write-taken}
+use Rattle.consistency.proofs.Device.{device-read-taken, device-write-taken, device-write-part-taken}
 use Rattle.consistency.proofs.Evict.{evict-taken}
 use Rattle.consistency.proofs.Invariant.{Invariant, Taken}
 use Rattle.consistency.proofs.Map.{map-taken, unmap-taken}
@@ -38,6 +38,7 @@ module _ (b : Board) (reg : Regular b) where
   taken st m inv (write space page offset word) = write-taken b reg st m inv space page offset word
   taken st m inv (deviceRead frame buffer) = device-read-taken b reg st m inv frame buffer
   taken st m inv (deviceWrite frame buffer) = device-write-taken b reg st m inv frame buffer
+  taken st m inv (deviceWritePart frame first number buffer) = device-write-part-taken b reg st m inv frame first number buffer
   taken st m inv (evict line) = evict-taken b reg st m inv line
 
   -- an accepted call finds its words, and every call keeps the invariant

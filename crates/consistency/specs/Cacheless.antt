@@ -3,8 +3,8 @@
 use mathlib.Core.Bool.{Bool, true, false, not, cond, _&&_}
 use mathlib.Core.List.{List}
 use mathlib.Core.Option.{Option, none, some}
-use Prim.Native.Nat.{ℕ, zero, suc}
-use lib.Dec.{eqb}
+use Prim.Native.Nat.{ℕ, zero, suc, _+_, _-_}
+use lib.Dec.{eqb, leb, ltb}
 use lib.ListN.{length, getD}
 use Rattle.board.specs.declared.Board.{Board}
 use Rattle.board.specs.Board.{memoryAt}
@@ -12,7 +12,7 @@ use Rattle.mapping.specs.declared.Mapping.{Mapping}
 use Rattle.manager.specs.Answers.{isRefusal}
 use Rattle.manager.specs.Batch.{itemAt}
 use Rattle.machine.specs.Call.{mapOf}
-use Rattle.machine.specs.State.{Single, map, unmap, read, write, deviceRead, deviceWrite, evict, Call, single, mapAll, Answer}
+use Rattle.machine.specs.State.{Single, map, unmap, read, write, deviceRead, deviceWrite, deviceWritePart, evict, Call, single, mapAll, Answer}
 
 -- a word for each frame and offset, and for each space and page a frame or none
 pub record Cacheless : Type 0 where
@@ -35,6 +35,10 @@ abbrev pub stored : (ℕ → ℕ → ℕ) → Option ℕ → ℕ → ℕ → ℕ
 stored word none offset v = word
 stored word (some f) offset v = replaced word f offset v
 
+-- words with a device's in the place of a frame's from offset first on: those that it sends, and no others
+abbrev pub sent : (ℕ → ℕ → ℕ) → ℕ → ℕ → List ℕ → ℕ → ℕ → ℕ
+sent word frame first buffer f o = cond (eqb frame f && leb first o && ltb o (first + length buffer)) (getD buffer (o - first) 0) (word f o)
+
 -- ---- a single call
 
 -- what an accepted one makes of it
@@ -44,7 +48,8 @@ afterAccepted m (unmap space page) = cacheless (m .word) (replaced (m .frame) sp
 afterAccepted m (read space page offset) = m
 afterAccepted m (write space page offset word) = cacheless (stored (m .word) (m .frame space page) offset word) (m .frame)
 afterAccepted m (deviceRead frame buffer) = m
-afterAccepted m (deviceWrite frame buffer) = cacheless (λ f o. cond (eqb frame f) (getD buffer o 0) (m .word f o)) (m .frame)
+afterAccepted m (deviceWrite frame buffer) = cacheless (sent (m .word) frame 0 buffer) (m .frame)
+afterAccepted m (deviceWritePart frame first number buffer) = cacheless (sent (m .word) frame first buffer) (m .frame)
 afterAccepted m (evict line) = m
 
 -- a refused one changes nothing

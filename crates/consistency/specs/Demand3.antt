@@ -15,7 +15,7 @@ use Rattle.mapping.specs.Entry.{capacity}
 use Rattle.manager.specs.Tables.{tables, tabulate, recordWords}
 use Rattle.cache.specs.Store.{store, memoryWord}
 use Rattle.machine.specs.Call.{perform}
-use Rattle.machine.specs.State.{State, state, map, unmap, read, write, deviceRead, deviceWrite, evict, Call, single, mapAll, Answer}
+use Rattle.machine.specs.State.{State, state, map, unmap, read, write, deviceRead, deviceWrite, deviceWritePart, evict, Call, single, mapAll, Answer}
 use Rattle.consistency.specs.Cacheless.{Cacheless, start, isRefused, fed}
 
 -- ---- the start: empty list, page states and cache, whatever words memory, cache and protections hold
@@ -42,6 +42,7 @@ Finds b m (single (read space page offset)) a = a .word ≡ pageWord m (m .frame
 Finds b m (single (write space page offset word)) a = HasFrame (m .frame space page)
 Finds b m (single (deviceRead frame buffer)) a = a .buffer ≡ tabulate (b .page) (m .word frame)
 Finds b m (single (deviceWrite frame buffer)) a = Unit {0}
+Finds b m (single (deviceWritePart frame first number buffer)) a = Unit {0}
 Finds b m (single (evict line)) a = Unit {0}
 Finds b m (mapAll items answers) a = Unit {0}
 

@@ -1,13 +1,13 @@
 -- Demand 2: what an accepted call leaves.
 use mathlib.Core.Path.{_≡_, refl, sym, ap, subst⁻¹, _∙_}
-use mathlib.Core.Bool.{true, _&&_}
+use mathlib.Core.Bool.{true}
 use mathlib.Core.List.{List}
 use mathlib.Core.Logic.{_↔_}
 use Prim.Native.Nat.{ℕ, _≤_, _<_}
 use native.Mathlib.Omega.{arith}
-use borrow.Author.Tests.{not-false, leb-false, eqb-true}
+use borrow.Author.Tests.{not-false, leb-false}
 use lib.ListN.{length, getD}
-use Rattle.bits.proofs.Tautology.{and-left, and-right}
+use Rattle.bits.proofs.Tautology.{and-left}
 use Rattle.board.specs.declared.Board.{Board}
 use Rattle.board.specs.Board.{Regular, lines, colourOf}
 use Rattle.board.proofs.Geometry.{colourOf-lt}
@@ -21,7 +21,7 @@ use Rattle.page_model.proofs.Theorems.{few-operations, state-after}
 use Rattle.mapping.specs.Entry.{capacity, readWrite, mappingAt}
 use Rattle.mapping.specs.Lookup.{isMapped}
 use Rattle.manager.specs.Answers.{accepted}
-use Rattle.manager.specs.Calls.{commitChange}
+use Rattle.manager.specs.Calls.{writeStep, commitChange}
 use Rattle.manager.specs.Refusals.{firstRefusal, isRight}
 use Rattle.manager.specs.Tables.{Tables, tables, recordAt, lengthsRight, rulesKept, protectionAt, tabulate, refill}
 use Rattle.manager.specs.Theorems.{WellFormed}
@@ -37,9 +37,9 @@ use Rattle.cache.proofs.Laws.Access.{access-kept, writeWord-kept}
 use Rattle.cache.proofs.Laws.Device.{deviceWrite-kept}
 use Rattle.cache.proofs.Laws.Evict.{evict-kept}
 use Rattle.machine.specs.Refusals.{storeLengths, lentCauses, ownCauses, bufferRight, causes}
-use Rattle.machine.specs.State.{State, state, Single, map, unmap, read, write, deviceRead, deviceWrite, evict}
+use Rattle.machine.specs.State.{State, state, Single, map, unmap, read, write, deviceRead, deviceWrite, deviceWritePart, evict}
 use Rattle.machine.specs.Step.{operate, carryOut, pageFrame, accept, step}
-use Rattle.machine.proofs.StepLaws.{clear, lengths-clear, store-clear, tables-clear, step-accepted}
+use Rattle.machine.proofs.StepLaws.{clear, lengths-clear, store-clear, tables-clear, deviceWrite-ready, deviceWritePart-ready, step-accepted}
 use Rattle.consistency.proofs.Map.{map-clear}
 use Rattle.consistency.proofs.Operations.{ordered-kept}
 use Rattle.demands.specs.Demands.{stepOf, ByTable, Modelled, listAfter, accessed, accessOf, Left}
@@ -91,6 +91,9 @@ module _ (b : Board) (st : State) where
       step-keeps b (st .tables) (tables-lent b st (deviceRead frame buffer) e) frame table.deviceRead (leb-false (b .frames) frame (clear b st (deviceRead frame buffer) e .1 .1 .0))
   tables-after (deviceWrite frame buffer) e =
       step-keeps b (st .tables) (tables-lent b st (deviceWrite frame buffer) e) frame table.deviceWrite (leb-false (b .frames) frame (clear b st (deviceWrite frame buffer) e .1 .1 .0))
+  tables-after (deviceWritePart frame first number buffer) e =
+      let call = deviceWritePart frame first number buffer in
+      step-keeps b (st .tables) (tables-lent b st call e) frame (writeStep b number) (leb-false (b .frames) frame (clear b st call e .1 .1 .0))
   tables-after (evict line) e =
       let w = tables-lent b st (evict line) e in
       let n = lengths-known b (st .tables) (w .0) in
@@ -122,10 +125,15 @@ module _ (b : Board) (reg : Regular b) (st : State) where
       let call = deviceRead frame buffer in
       ordered frame table.deviceRead (leb-false (b .frames) frame (clear b st call e .1 .1 .0)) (tables-lent b st call e) (store-clear b st call e)
   store-after (deviceWrite frame buffer) e =
-      let call = deviceWrite frame buffer in
-      let h = leb-false (b .frames) frame (clear b st call e .1 .1 .0) in
-      let long = eqb-true (length buffer) (b .page) (and-right (lengthsRight b (st .tables) && storeLengths b (st .store)) _ (lengths-clear b st call e)) in
-      deviceWrite-kept b reg frame h _ (ordered frame table.deviceWrite h (tables-lent b st call e) (store-clear b st call e)) buffer long
+      let r = deviceWrite-ready b st frame buffer e in
+      let long = r .1 in
+      deviceWrite-kept b reg frame (r .0 .1) _ (ordered frame table.deviceWrite (r .0 .1) (tables-lent b st (deviceWrite frame buffer) e) (r .0 .0)) 0 buffer (omega arith)
+  store-after (deviceWritePart frame first number buffer) e =
+      let r = deviceWritePart-ready b st frame first number buffer e in
+      let long = r .1 in
+      let inside = r .3 in
+      deviceWrite-kept b reg frame (r .0 .1) _
+      (ordered frame (writeStep b number) (r .0 .1) (tables-lent b st (deviceWritePart frame first number buffer) e) (r .0 .0)) first buffer (omega arith)
   store-after (evict line) e =
       evict-kept b reg (st .store) (store-clear b st (evict line) e) line (leb-false (lines b) line (clear b st (evict line) e .1 .1 .0))
 
@@ -161,6 +169,9 @@ module _ (b : Board) (st : State) where
       stepped-by b (st .tables) (tables-lent b st (deviceRead frame buffer) e) frame (leb-false (b .frames) frame (clear b st (deviceRead frame buffer) e .1 .1 .0)) table.deviceRead
   modelled-after (deviceWrite frame buffer) e =
       stepped-by b (st .tables) (tables-lent b st (deviceWrite frame buffer) e) frame (leb-false (b .frames) frame (clear b st (deviceWrite frame buffer) e .1 .1 .0)) table.deviceWrite
+  modelled-after (deviceWritePart frame first number buffer) e =
+      let call = deviceWritePart frame first number buffer in
+      stepped-by b (st .tables) (tables-lent b st call e) frame (leb-false (b .frames) frame (clear b st call e .1 .1 .0)) (writeStep b number)
   modelled-after (evict line) e = (refl, refl)
 
 -- ---- list, memory and cache
@@ -174,6 +185,7 @@ module _ (b : Board) (st : State) where
   listed-after (write space page offset word) = refl
   listed-after (deviceRead frame buffer) = refl
   listed-after (deviceWrite frame buffer) = refl
+  listed-after (deviceWritePart frame first number buffer) = refl
   listed-after (evict line) = refl
 
   pub made-after : (call : Single)
@@ -186,6 +198,7 @@ module _ (b : Board) (st : State) where
   made-after (write space page offset word) = refl
   made-after (deviceRead frame buffer) = refl
   made-after (deviceWrite frame buffer) = refl
+  made-after (deviceWritePart frame first number buffer) = refl
   made-after (evict line) = refl
 
 -- ---- protections
@@ -209,6 +222,7 @@ module _ (b : Board) (st : State) where
       go (write space page offset word) = refill-filled b _ long .0
       go (deviceRead frame buffer) = refill-filled b _ long .0
       go (deviceWrite frame buffer) = refill-filled b _ long .0
+      go (deviceWritePart frame first number buffer) = refill-filled b _ long .0
       go (evict line) = refill-filled b _ long .0
 
   -- what they held before is not read
@@ -224,6 +238,7 @@ module _ (b : Board) (st : State) where
     causes-same (write space page offset word) = rw same
     causes-same (deviceRead frame buffer) = rw same
     causes-same (deviceWrite frame buffer) = rw same
+    causes-same (deviceWritePart frame first number buffer) = rw same
     causes-same (evict line) = rw same
 
     accept-same : (call : Single) → accept b other call ≡ accept b st call
@@ -234,6 +249,7 @@ module _ (b : Board) (st : State) where
     accept-same (write space page offset word) = rw same
     accept-same (deviceRead frame buffer) = rw same
     accept-same (deviceWrite frame buffer) = rw same
+    accept-same (deviceWritePart frame first number buffer) = rw same
     accept-same (evict line) = rw same
 
     pub unread-after : (call : Single) → firstRefusal (causes b st call) ≡ 0 → step b other call ≡ step b st call

@@ -10,12 +10,12 @@ use Rattle.board.specs.Board.{colourOf}
 use Rattle.page_model.specs.Table as table
 use Rattle.mapping.specs.Lookup.{lookup, placeOf, placeFor}
 use Rattle.manager.specs.Answers.{refused}
-use Rattle.manager.specs.Calls.{Result, result, changeOf, planned, placed, stepResult, listResult, commitMap, commitUnmap}
-use Rattle.manager.specs.Refusals.{Cause, firstRefusal, placeIn, refusalPlace, inOrder, spaceCause, frameCause, rightsCause, mappedCause, unmappedCause, fullCause, readOnlyCause, tableCauses, mapCauses, writeCauses, transferCauses}
+use Rattle.manager.specs.Calls.{Result, result, changeOf, writeStep, planned, placed, stepResult, listResult, commitMap, commitUnmap}
+use Rattle.manager.specs.Refusals.{Cause, firstRefusal, placeIn, refusalPlace, inOrder, spaceCause, frameCause, partCause, rightsCause, mappedCause, unmappedCause, fullCause, readOnlyCause, tableCauses, mapCauses, writeCauses, transferCauses, partCauses}
 use Rattle.cache.specs.Store.{WellFormed}
 use Rattle.machine.specs.Plans.{storeCauses, earlier}
 use Rattle.machine.specs.Refusals.{bufferRight, offsetCause, ownCauses, causes}
-use Rattle.machine.specs.State.{State, Single, map, unmap, read, write, deviceRead, deviceWrite, evict, single}
+use Rattle.machine.specs.State.{State, Single, map, unmap, read, write, deviceRead, deviceWrite, deviceWritePart, evict, single}
 use Rattle.machine.specs.State as state-of
 use Rattle.machine.specs.Step.{pageFrame, accept}
 use Rattle.machine.proofs.MergeLaws.{ownPlace, merge, causes-merged}
@@ -46,7 +46,7 @@ unfolding firstRefusal
 offset-clear b offset h = rw (lt-leb (b .page) offset h)
 
 pub single-agrees : (b : Board) (st : State) (call : Single) → WellFormed b (st .store) → ManagerCall b st (single call)
-unfolding accept ownCauses inOrder refusalPlace placeIn firstRefusal mapCauses writeCauses transferCauses
+unfolding accept ownCauses inOrder refusalPlace placeIn firstRefusal mapCauses writeCauses transferCauses partCauses
 single-agrees b st (map space page frame rights) wf =
     let l = st .tables .list in
     agrees b st (map space page frame rights)
@@ -76,4 +76,8 @@ single-agrees b st (deviceWrite frame buffer) wf = λ h.
     agrees b st (deviceWrite frame buffer) (λ n. stepResult b (st .tables) (planned n (changeOf b (st .tables) frame table.deviceWrite)))
     refl (λ n. refl) _
     (managers-first b st (deviceWrite frame buffer) wf (eq-eqb _ _ h) [] (frameCause b frame ∷ []) refl refl refl refl)
+single-agrees b st (deviceWritePart frame first number buffer) wf = λ h.
+    agrees b st (deviceWritePart frame first number buffer) (λ n. stepResult b (st .tables) (planned n (changeOf b (st .tables) frame (writeStep b number))))
+    refl (λ n. refl) _
+    (managers-first b st (deviceWritePart frame first number buffer) wf (eq-eqb _ _ h) [] (frameCause b frame ∷ partCause b first number ∷ []) refl refl refl refl)
 single-agrees b st (evict line) wf = tt

@@ -20,7 +20,7 @@ use Rattle.mapping.specs.Entry.{capacity, readWrite, mappingAt}
 use Rattle.mapping.specs.Lookup.{lookup, placeOf}
 use Rattle.manager.specs.Answers.{Outcome, refused, accepted}
 use Rattle.manager.specs.Batch.{itemAt}
-use Rattle.manager.specs.Calls.{noOps}
+use Rattle.manager.specs.Calls.{noOps, writeStep}
 use Rattle.manager.specs.Refusals.{Cause, isRight}
 use Rattle.manager.specs.Tables.{Tables, tables, recordAt, protectionAt, tabulate}
 use Rattle.manager.specs.Theorems.{First, WellFormed}
@@ -30,7 +30,7 @@ use Rattle.cache.specs.Store as hardware-store
 use Rattle.cache.specs.Store.{Store}
 use Rattle.machine.specs.Call.{mapOf, callCauses, callBuffer, perform}
 use Rattle.machine.specs.Refusals.{causes}
-use Rattle.machine.specs.State.{State, state, Single, map, unmap, read, write, deviceRead, deviceWrite, evict, Call, single, mapAll, Answer}
+use Rattle.machine.specs.State.{State, state, Single, map, unmap, read, write, deviceRead, deviceWrite, deviceWritePart, evict, Call, single, mapAll, Answer}
 use Rattle.machine.specs.Step.{answer, result, pageFrame, carryOut, step}
 use Rattle.consistency.specs.Cacheless.{isRefused}
 use Rattle.consistency.specs.Demand3.{Demand3}
@@ -70,6 +70,7 @@ stepOf b st (read space page offset) = some (record { frame = pageFrame st space
 stepOf b st (write space page offset word) = some (record { frame = pageFrame st space page; step = table.write (colourOf b page) })
 stepOf b st (deviceRead frame buffer) = some (record { frame = frame; step = table.deviceRead })
 stepOf b st (deviceWrite frame buffer) = some (record { frame = frame; step = table.deviceWrite })
+stepOf b st (deviceWritePart frame first number buffer) = some (record { frame = frame; step = writeStep b number })
 stepOf b st (evict line) = none
 
 -- the orders are the table's, in order and on this frame; each of its colours is in the state of its cell, and other frames are as they were
@@ -92,6 +93,7 @@ listAfter l (read space page offset) = l
 listAfter l (write space page offset word) = l
 listAfter l (deviceRead frame buffer) = l
 listAfter l (deviceWrite frame buffer) = l
+listAfter l (deviceWritePart frame first number buffer) = l
 listAfter l (evict line) = l
 
 -- what a call answers besides its orders, and the memory and cache that it leaves, where its orders leave s
@@ -110,7 +112,8 @@ accessOf b st (read space page offset) s =
     accessed (some (readWord b (pageFrame st space page) (colourOf b page) offset s)) [] (access b (pageFrame st space page) (colourOf b page) offset s)
 accessOf b st (write space page offset word) s = accessed none [] (writeWord b (pageFrame st space page) (colourOf b page) offset word s)
 accessOf b st (deviceRead frame buffer) s = accessed none (hardware.deviceRead b frame s) s
-accessOf b st (deviceWrite frame buffer) s = accessed none [] (hardware.deviceWrite b frame buffer s)
+accessOf b st (deviceWrite frame buffer) s = accessed none [] (hardware.deviceWrite b frame 0 buffer s)
+accessOf b st (deviceWritePart frame first number buffer) s = accessed none [] (hardware.deviceWrite b frame first buffer s)
 accessOf b st (evict line) s = accessed none [] (hardware.evict b line s)
 
 -- what an accepted single call leaves, and answers

@@ -8,11 +8,11 @@ use Rattle.board.specs.declared.Board.{Board}
 use Rattle.mapping.specs.declared.Mapping.{Mapping}
 use Rattle.mapping.specs.Batch.{batchOf, itemsOf}
 use Rattle.manager.specs.Batch.{BatchResult, batchResult, mapAllCall}
-use Rattle.manager.specs.Calls.{Result, result, mapCall, unmapCall, readCall, writeCall, deviceReadCall, deviceWriteCall}
+use Rattle.manager.specs.Calls.{Result, result, mapCall, unmapCall, readCall, writeCall, deviceReadCall, deviceWriteCall, deviceWritePartCall}
 use Rattle.manager.specs.Tables.{Tables}
 use Rattle.cache.specs.Store.{WellFormed}
 use Rattle.machine.specs.Call.{perform}
-use Rattle.machine.specs.State.{State, Single, map, unmap, read, write, deviceRead, deviceWrite, evict, Call, single, mapAll}
+use Rattle.machine.specs.State.{State, Single, map, unmap, read, write, deviceRead, deviceWrite, deviceWritePart, evict, Call, single, mapAll}
 use Rattle.machine.specs.Step.{step}
 
 abbrev pub Agrees : Board → State → Single → Result → Type 0
@@ -31,6 +31,8 @@ ManagerCall b st (single (write space page offset word)) =
     offset < b .page → Agrees b st (write space page offset word) (writeCall b (st .tables) space page)
 ManagerCall b st (single (deviceRead frame buffer)) = length buffer ≡ b .page → Agrees b st (deviceRead frame buffer) (deviceReadCall b (st .tables) frame)
 ManagerCall b st (single (deviceWrite frame buffer)) = length buffer ≡ b .page → Agrees b st (deviceWrite frame buffer) (deviceWriteCall b (st .tables) frame)
+ManagerCall b st (single (deviceWritePart frame first number buffer)) =
+    length buffer ≡ number → Agrees b st (deviceWritePart frame first number buffer) (deviceWritePartCall b (st .tables) frame first number)
 ManagerCall b st (single (evict line)) = Unit {0}
 ManagerCall b st (mapAll items answers) = BatchAgrees b st (mapAll items answers) (mapAllCall b (st .tables) items answers)
 

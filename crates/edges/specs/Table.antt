@@ -1,5 +1,5 @@
--- Document 01, "At the edges" and the sheet of "The run sheet", with the tags at their limits and a sheet of each kind of step: each row is a
--- case and what it must give, and every row holds.
+-- Document 01, "At the edges" and the sheet of "The run sheet", with the tags at their limits, request N3's parts at theirs and a sheet of each
+-- kind of step: each row is a case and what it must give, and every row holds.
 use mathlib.Core.Bool.{cond}
 use mathlib.Core.List.{List, [], _∷_, _++_}
 use mathlib.Core.Option.{Option, none, some}
@@ -20,7 +20,7 @@ use Rattle.manager.specs.Calls.{noOps}
 use Rattle.manager.specs.Tables.{tables, tabulate}
 use Rattle.cache.specs.Store.{store}
 use Rattle.cache.specs.Tag.{frameOf, isDirty}
-use Rattle.machine.specs.State.{State, state, Single, map, read, write, deviceWrite, evict, Answer, Result}
+use Rattle.machine.specs.State.{State, state, Single, map, read, write, deviceWrite, deviceWritePart, evict, Answer, Result}
 use Rattle.machine.specs.Step.{answer, result, step}
 use Rattle.run_sheet.specs.Run.{start, sheetText}
 
@@ -136,6 +136,14 @@ readOnce = after fresh (map 0 2 5 1 ∷ read 0 2 3 ∷ [])
 abbrev pub wroteOnce : State
 wroteOnce = after fresh (map 0 0 3 2 ∷ write 0 0 0 17 ∷ [])
 
+-- page 2 mapped to frame 5, and its last word written
+abbrev pub wroteLast : State
+wroteLast = after fresh (map 0 2 5 2 ∷ write 0 2 63 42 ∷ [])
+
+-- so many words from an offset of frame 5 on, all 7
+abbrev pub sevens : ℕ → ℕ → Single
+sevens first number = deviceWritePart 5 first number (replicate number 7)
+
 -- ---- document 01's sheet
 
 abbrev pub exampleSheet : List ℕ
@@ -236,6 +244,11 @@ table =
     ∷ (answers (ask (tagged 193) (evict 1 ∷ [])) gives answers (refuses 2 ∷ []))
     ∷ (answers (ask (tagged 129) (evict 0 ∷ map 0 0 0 1 ∷ read 0 0 0 ∷ [])) gives answers (done ∷ done ∷ finds 0 77 ∷ []))
     ∷ (answers (ask (tagged 192) (evict 0 ∷ map 0 0 63 1 ∷ read 0 0 0 ∷ [])) gives answers (done ∷ done ∷ finds 63 77 ∷ []))
+    -- a part's words up to offset 63 are accepted; one more, or none, gets 13
+    ∷ (answers (ask fresh (sevens 52 12 ∷ sevens 53 12 ∷ sevens 63 1 ∷ sevens 64 1 ∷ sevens 0 65 ∷ sevens 52 0 ∷ [])) gives answers (written 5 ∷ refuses 13 ∷ written 5 ∷ refuses 13 ∷ refuses 13 ∷ refuses 13 ∷ []))
+    -- all 64 words from 0 over a dirty page: one purge; 63 words: one flush, and the word that was not sent survives
+    ∷ (answers (ask wroteLast (sevens 0 64 ∷ read 0 2 63 ∷ [])) gives answers (accepts 5 (only (Purge 2)) none ∷ finds 5 7 ∷ []))
+    ∷ (answers (ask wroteLast (sevens 0 63 ∷ read 0 2 63 ∷ read 0 2 62 ∷ [])) gives answers (accepts 5 (only (Flush 2)) none ∷ finds 5 42 ∷ finds 5 7 ∷ []))
     -- kind 1, read: offset 64 gets 6
     ∷ (text (sheetText board01 (oneStep (1 ∷ 0 ∷ 0 ∷ 0 ∷ 64 ∷ 0 ∷ 0 ∷ 0 ∷ 0 ∷ []))) gives text (oneLine (54 ∷ []) 45))
     -- kind 2, write: the page is read only, 10
@@ -248,6 +261,10 @@ table =
     ∷ (text (sheetText board01 (oneStep (5 ∷ 64 ∷ 0 ∷ 0 ∷ 0 ∷ 0 ∷ 0 ∷ 0 ∷ 0 ∷ []))) gives text (oneLine (54 ∷ []) 45))
     -- kind 6, unmap: page 1 is not mapped, 8
     ∷ (text (sheetText board01 (oneStep (6 ∷ 0 ∷ 1 ∷ 0 ∷ 0 ∷ 0 ∷ 0 ∷ 0 ∷ 0 ∷ []))) gives text (oneLine (56 ∷ []) 45))
+    -- kind 7, device write of a part: 12 words from offset 52 on; from 53 on, and none, 13
+    ∷ (text (sheetText board01 (oneStep (7 ∷ 3 ∷ 52 ∷ 0 ∷ 12 ∷ 5 ∷ 0 ∷ 0 ∷ 0 ∷ []))) gives text (oneLine (48 ∷ []) 45))
+    ∷ (text (sheetText board01 (oneStep (7 ∷ 3 ∷ 53 ∷ 0 ∷ 12 ∷ 5 ∷ 0 ∷ 0 ∷ 0 ∷ []))) gives text (oneLine (49 ∷ 51 ∷ []) 45))
+    ∷ (text (sheetText board01 (oneStep (7 ∷ 3 ∷ 52 ∷ 0 ∷ 0 ∷ 5 ∷ 0 ∷ 0 ∷ 0 ∷ []))) gives text (oneLine (49 ∷ 51 ∷ []) 45))
     ∷ []
 
 -- every row of the table holds

@@ -14,7 +14,7 @@ use Rattle.manager.specs.Refusals.{firstRefusal}
 use Rattle.manager.specs.Tables.{tabulate}
 use Rattle.machine.specs.Call.{afterItems, answerAt, callCauses, callBuffer, perform}
 use Rattle.machine.specs.Refusals.{causes}
-use Rattle.machine.specs.State.{State, Single, map, unmap, read, write, deviceRead, deviceWrite, evict, Call, single, mapAll, Result, lentBuffer}
+use Rattle.machine.specs.State.{State, Single, map, unmap, read, write, deviceRead, deviceWrite, deviceWritePart, evict, Call, single, mapAll, Result, lentBuffer}
 use Rattle.machine.specs.Step.{answer, result, accept, step}
 
 -- what a call is where it is accepted
@@ -58,6 +58,7 @@ accept-accepted b st (single (read space page offset)) = refl
 accept-accepted b st (single (write space page offset word)) = refl
 accept-accepted b st (single (deviceRead frame buffer)) = refl
 accept-accepted b st (single (deviceWrite frame buffer)) = refl
+accept-accepted b st (single (deviceWritePart frame first number buffer)) = refl
 accept-accepted b st (single (evict line)) = refl
 accept-accepted b st (mapAll items answers) = refl
 

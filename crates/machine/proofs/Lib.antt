@@ -4,3 +4,4 @@ pub mod MergeLaws
 pub mod StepLaws
 pub mod CallLaws
 pub mod ItemLaws
+pub mod Parts

@@ -1,13 +1,13 @@
 -- What a plan tells of a call: where it is a refusal, the call's answer; where it is a change, what the call is ready for and what it leaves.
 -- Each law is over any call of its shape.
 use mathlib.Core.Path.{_≡_, refl, sym, ap, subst, subst⁻¹, _∙_}
-use mathlib.Core.Bool.{true, _&&_}
+use mathlib.Core.Bool.{Bool, true, false, _&&_, _||_, true≢false}
 use mathlib.Core.List.{List, [], _∷_, _++_}
 use mathlib.Core.Option.{Option, none}
-use Prim.Native.Nat.{ℕ, zero, suc, _<_}
+use Prim.Native.Nat.{ℕ, zero, suc, _+_, _≤_, _<_}
 use native.Mathlib.Omega.{arith}
-use borrow.Author.Tests.{not-false, leb-false, eqb-true}
-use lib.Dec.{eqb}
+use borrow.Author.Tests.{not-false, leb-false, ltb-false, eqb-true, eqb-false}
+use lib.Dec.{eqb, ltb}
 use lib.ListN.{length}
 use Rattle.bits.proofs.Tautology.{and-left, and-right}
 use Rattle.board.specs.declared.Board.{Board}
@@ -23,15 +23,15 @@ use Rattle.manager.specs.declared.Plan.the-variants as step-plan
 use Rattle.manager.specs.declared.ListPlan.{ListPlan}
 use Rattle.manager.specs.declared.ListPlan.the-variants as list-plan
 use Rattle.manager.specs.Answers.{Outcome, refused, accepted}
-use Rattle.manager.specs.Calls.{noOps, planned, placed, changeOf, commitChange}
-use Rattle.manager.specs.Refusals.{Cause, firstRefusal, spaceCause, frameCause, unmappedCause}
+use Rattle.manager.specs.Calls.{noOps, planned, placed, changeOf, writeStep, commitChange}
+use Rattle.manager.specs.Refusals.{Cause, firstRefusal, outOfPage, spaceCause, frameCause, unmappedCause}
 use Rattle.manager.specs.Tables.{Tables, tables, lengthsRight, rulesKept, recordAt}
 use Rattle.manager.proofs.CauseLaws.{NoneApplies, numbered, none-applies, mapped-range}
 use Rattle.cache.specs.Store.{Store, WellFormed}
 use Rattle.cache.specs.Tag.{tagsKeepRules}
-use Rattle.machine.specs.Ready.{AccessReady, TransferReady}
+use Rattle.machine.specs.Ready.{AccessReady, TransferReady, PartReady}
 use Rattle.machine.specs.Refusals.{storeLengths, bufferRight, lentCauses, offsetCause, ownCauses, causes}
-use Rattle.machine.specs.State.{State, state, Single, map, unmap, read, write, deviceRead, deviceWrite, evict, Result, lentBuffer}
+use Rattle.machine.specs.State.{State, state, Single, map, unmap, read, write, deviceRead, deviceWrite, deviceWritePart, evict, Result, lentBuffer}
 use Rattle.machine.specs.Step.{answer, result, carryOut, listed, stepped, pageFrame, accept, step}
 use Rattle.machine.specs.Plans.{planStep, planPlace, refusalOf, placeRefusal}
 use Rattle.machine.proofs.StoreLaws.{well-formed}
@@ -84,6 +84,7 @@ module _ (b : Board) (st : State) (call : Single) where
       go (write space page offset word) = refl
       go (deviceRead frame buffer) = refl
       go (deviceWrite frame buffer) = refl
+      go (deviceWritePart frame first number buffer) = refl
       go (evict line) = refl
 
   -- no refusal: no cause applies
@@ -142,19 +143,19 @@ access-requires b st call s space page offset rest {change} reg p own e =
     let r = subst (λ (m : Change). Ready b st m × (offset < b .page)) (q .1) (access-ready b st call s space page offset rest own (q .0)) in
     (r .0 .0, r .0 .1, r .0 .2, r .0 .3, subst⁻¹ (λ (k : ℕ). k < b .colours) e (colourOf-lt b reg page), r .1, reg)
 
--- a transfer of a frame: any call whose own causes begin with the frame's, and of which a buffer is tested
-pub transfer-ready : (b : Board) (st : State) (call : Single) (s : table.Step) (frame : ℕ) (buffer : List ℕ) (rest : List Cause)
+-- a transfer of a frame: any call whose own causes begin with the frame's, and of which a buffer of so many words is tested
+pub transfer-ready : (b : Board) (st : State) (call : Single) (s : table.Step) (frame number : ℕ) (buffer : List ℕ) (rest : List Cause)
     → ownCauses b st call ≡ frameCause b frame ∷ rest
-    → bufferRight b call ≡ eqb (length buffer) (b .page)
+    → bufferRight b call ≡ eqb (length buffer) number
     → firstRefusal (causes b st call) ≡ 0
-    → Ready b st (changeOf b (st .tables) frame s) × (length buffer ≡ b .page)
+    → Ready b st (changeOf b (st .tables) frame s) × (length buffer ≡ number)
 unfolding lentCauses
-transfer-ready b st call s frame buffer rest own tested e =
+transfer-ready b st call s frame number buffer rest own tested e =
     let n = subst (λ (cs : List Cause). NoneApplies (lentCauses b st call ++ cs)) own (clear b st call e) in
     let l = and-right (lengthsRight b (st .tables) && storeLengths b (st .store)) _ (lengths-clear b st call e) in
-    (ready b st frame s (store-clear b st call e) (leb-false (b .frames) frame (n .1 .1 .0)), eqb-true (length buffer) (b .page) (sym tested ∙ l))
+    (ready b st frame s (store-clear b st call e) (leb-false (b .frames) frame (n .1 .1 .0)), eqb-true (length buffer) number (sym tested ∙ l))
 
--- so the change that is told is what `send` and `receive` require
+-- so the change that is told is what `send` requires
 pub transfer-requires : (b : Board) (st : State) (call : Single) (s : table.Step) (frame : ℕ) (buffer : List ℕ) (rest : List Cause) {change : Change} → Regular b
     → planStep b st call (changeOf b (st .tables) frame s) ≡ step-plan.Step change
     → ownCauses b st call ≡ frameCause b frame ∷ rest
@@ -162,8 +163,17 @@ pub transfer-requires : (b : Board) (st : State) (call : Single) (s : table.Step
     → TransferReady b (st .store) (change .frame) (change .ops) buffer
 transfer-requires b st call s frame buffer rest {change} reg p own tested =
     let q = planned-step _ _ change p in
-    let r = subst (λ (m : Change). Ready b st m × (length buffer ≡ b .page)) (q .1) (transfer-ready b st call s frame buffer rest own tested (q .0)) in
+    let r = subst (λ (m : Change). Ready b st m × (length buffer ≡ b .page)) (q .1) (transfer-ready b st call s frame (b .page) buffer rest own tested (q .0)) in
     (r .0 .0, r .0 .1, r .0 .2, r .0 .3, r .1, reg)
+
+-- words that are not out of the page
+inside-page : (b : Board) (first number : ℕ) → outOfPage b first number ≡ false → (0 < number) × (first + number ≤ b .page)
+inside-page b first number e = go (eqb number 0) (ltb (b .page) (first + number)) refl refl e
+  where
+    go : (n p : Bool) → eqb number 0 ≡ n → ltb (b .page) (first + number) ≡ p → (n || p) ≡ false → (0 < number) × (first + number ≤ b .page)
+    go true p en ep z = absurd (true≢false z)
+    go false true en ep z = absurd (true≢false z)
+    go false false en ep z = let some = eqb-false number 0 en in (omega arith, ltb-false (b .page) (first + number) ep)
 
 -- each call's, for the theorems of consistency
 module _ (b : Board) (st : State) where
@@ -180,16 +190,37 @@ module _ (b : Board) (st : State) where
   pub deviceRead-ready : (frame : ℕ) (buffer : List ℕ) → firstRefusal (causes b st (deviceRead frame buffer)) ≡ 0
       → Ready b st (changeOf b (st .tables) frame table.deviceRead) × (length buffer ≡ b .page)
   unfolding ownCauses
-  deviceRead-ready frame buffer = transfer-ready b st (deviceRead frame buffer) table.deviceRead frame buffer [] refl refl
+  deviceRead-ready frame buffer = transfer-ready b st (deviceRead frame buffer) table.deviceRead frame (b .page) buffer [] refl refl
 
   pub deviceWrite-ready : (frame : ℕ) (buffer : List ℕ) → firstRefusal (causes b st (deviceWrite frame buffer)) ≡ 0
       → Ready b st (changeOf b (st .tables) frame table.deviceWrite) × (length buffer ≡ b .page)
   unfolding ownCauses
-  deviceWrite-ready frame buffer = transfer-ready b st (deviceWrite frame buffer) table.deviceWrite frame buffer [] refl refl
+  deviceWrite-ready frame buffer = transfer-ready b st (deviceWrite frame buffer) table.deviceWrite frame (b .page) buffer [] refl refl
+
+  -- of a part there are words, and all are in the page
+  pub deviceWritePart-ready : (frame first number : ℕ) (buffer : List ℕ) → firstRefusal (causes b st (deviceWritePart frame first number buffer)) ≡ 0
+      → Ready b st (changeOf b (st .tables) frame (writeStep b number)) × (length buffer ≡ number) × (0 < number) × (first + number ≤ b .page)
+  unfolding ownCauses lentCauses
+  deviceWritePart-ready frame first number buffer e =
+      let call = deviceWritePart frame first number buffer in
+      let r = transfer-ready b st call (writeStep b number) frame number buffer _ refl refl e in
+      let inside = inside-page b first number (clear b st call e .1 .1 .1 .0) in
+      (r .0, r .1, inside .0, inside .1)
 
   pub evict-ready : (line : ℕ) → firstRefusal (causes b st (evict line)) ≡ 0 → WellFormed b (st .store) × (line < lines b)
   unfolding lentCauses ownCauses
   evict-ready line e = (store-clear b st (evict line) e, leb-false (lines b) line (clear b st (evict line) e .1 .1 .0))
+
+-- so the change that a part's plan told is what `receive` requires
+pub part-requires : (b : Board) (st : State) (frame first number : ℕ) (buffer : List ℕ) {change : Change} → Regular b
+    → planStep b st (deviceWritePart frame first number buffer) (changeOf b (st .tables) frame (writeStep b number)) ≡ step-plan.Step change
+    → PartReady b (st .store) (change .frame) (change .ops) first buffer
+part-requires b st frame first number buffer {change} reg p =
+    let q = planned-step _ _ change p in
+    let made = deviceWritePart-ready b st frame first number buffer (q .0) in
+    let r = subst (Ready b st) (q .1) (made .0) in
+    let long = made .1 in
+    (r .0, r .1, r .2, r .3, (omega arith), (omega arith), reg)
 
 -- ---- what a call answers and leaves, by the parts of its answer and of what is left
 

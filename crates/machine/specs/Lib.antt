@@ -5,3 +5,4 @@ pub mod Step
 pub mod Call
 pub mod Plans
 pub mod Ready
+pub mod Theorems

@@ -2,7 +2,7 @@
 -- the board. A call has tested all of it.
 use mathlib.Core.List.{List}
 use mathlib.Core.Path.{_≡_}
-use Prim.Native.Nat.{ℕ, _<_}
+use Prim.Native.Nat.{ℕ, _+_, _≤_, _<_}
 use lib.ListN.{length}
 use Rattle.board.specs.declared.Board.{Board}
 use Rattle.board.specs.Board.{Regular}
@@ -14,12 +14,20 @@ use Rattle.cache.specs.Store.{Store, WellFormed}
 abbrev pub OperationsReady : Board → Store → ℕ → Ops → Type 0
 OperationsReady b s f ops = WellFormed b s × (f < b .frames) × OpBelow (b .colours) (ops .first) × OpBelow (b .colours) (ops .second) × Regular b
 
--- and an access after them, or a transfer
+-- and an access after them
 abbrev pub AccessReady : Board → Store → ℕ → Ops → ℕ → ℕ → Type 0
 AccessReady b s f ops colour offset =
     WellFormed b s × (f < b .frames) × OpBelow (b .colours) (ops .first) × OpBelow (b .colours) (ops .second) × (colour < b .colours) × (offset < b .page)
     × Regular b
 
+-- or a device's read
 abbrev pub TransferReady : Board → Store → ℕ → Ops → List ℕ → Type 0
 TransferReady b s f ops buffer =
     WellFormed b s × (f < b .frames) × OpBelow (b .colours) (ops .first) × OpBelow (b .colours) (ops .second) × (length buffer ≡ b .page) × Regular b
+
+-- or its write of some words from offset first on, all in the page
+abbrev pub PartReady : Board → Store → ℕ → Ops → ℕ → List ℕ → Type 0
+PartReady b s f ops first buffer =
+    WellFormed b s × (f < b .frames) × OpBelow (b .colours) (ops .first) × OpBelow (b .colours) (ops .second) × (0 < length buffer)
+    × (first + length buffer ≤ b .page)
+    × Regular b

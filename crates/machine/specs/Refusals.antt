@@ -6,17 +6,17 @@ use lib.Dec.{eqb, leb}
 use lib.ListN.{length}
 use Rattle.board.specs.declared.Board.{Board}
 use Rattle.board.specs.Board.{memoryWords, cacheWords, lines}
-use Rattle.manager.specs.Refusals.{Cause, _if_, spaceCause, frameCause, unmappedCause, readOnlyCause, mappingCauses}
+use Rattle.manager.specs.Refusals.{Cause, _if_, spaceCause, frameCause, partCause, unmappedCause, readOnlyCause, mappingCauses}
 use Rattle.manager.specs.Tables.{lengthsRight, rulesKept}
 use Rattle.cache.specs.Store.{Store}
 use Rattle.cache.specs.Tag.{tagsKeepRules}
-use Rattle.machine.specs.State.{State, Single, map, unmap, read, write, deviceRead, deviceWrite, evict}
+use Rattle.machine.specs.State.{State, Single, map, unmap, read, write, deviceRead, deviceWrite, deviceWritePart, evict}
 
 -- memory, cache words and tags have their lengths
 unfoldable pub storeLengths : Board → Store → Bool
 storeLengths b s = eqb (length (s .memory)) (memoryWords b) && eqb (length (s .words)) (cacheWords b) && eqb (length (s .tags)) (lines b)
 
--- a device's buffer has a page's length
+-- a device's buffer has a page's length, or that of its part
 abbrev pub bufferRight : Board → Single → Bool
 bufferRight b (map space page frame rights) = true
 bufferRight b (unmap space page) = true
@@ -24,6 +24,7 @@ bufferRight b (read space page offset) = true
 bufferRight b (write space page offset word) = true
 bufferRight b (deviceRead frame buffer) = eqb (length buffer) (b .page)
 bufferRight b (deviceWrite frame buffer) = eqb (length buffer) (b .page)
+bufferRight b (deviceWritePart frame first number buffer) = eqb (length buffer) number
 bufferRight b (evict line) = true
 
 -- what each tests of all that it is lent
@@ -55,6 +56,7 @@ ownCauses b st (write space page offset word) =
     ∷ []
 ownCauses b st (deviceRead frame buffer) = frameCause b frame ∷ []
 ownCauses b st (deviceWrite frame buffer) = frameCause b frame ∷ []
+ownCauses b st (deviceWritePart frame first number buffer) = frameCause b frame ∷ partCause b first number ∷ []
 ownCauses b st (evict line) = offsetCause (lines b) line ∷ []
 
 unfoldable pub causes : Board → State → Single → List Cause

@@ -31,6 +31,8 @@ pub data Single : Type 0 where
   write : ℕ → ℕ → ℕ → ℕ → Single
   -- frame, and the device's buffer as it is lent
   deviceRead deviceWrite : ℕ → List ℕ → Single
+  -- frame, first offset, number of words, and the device's buffer (request N3)
+  deviceWritePart : ℕ → ℕ → ℕ → List ℕ → Single
   -- line
   evict : ℕ → Single
 
@@ -58,4 +60,5 @@ lentBuffer (read space page offset) = []
 lentBuffer (write space page offset word) = []
 lentBuffer (deviceRead frame buffer) = buffer
 lentBuffer (deviceWrite frame buffer) = []
+lentBuffer (deviceWritePart frame first number buffer) = []
 lentBuffer (evict line) = []

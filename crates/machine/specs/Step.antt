@@ -10,12 +10,12 @@ use Rattle.mapping.specs.Lookup.{lookup, placeOf, listedMapping, placeFor}
 use Rattle.manager.specs.declared.Change.{Change}
 use Rattle.manager.specs.Answers as operation
 use Rattle.manager.specs.Answers.{Outcome, refused, accepted, FrameOperation, firstOperation, secondOperation}
-use Rattle.manager.specs.Calls.{noOps, changeOf, commitChange, commitMap, commitUnmap}
+use Rattle.manager.specs.Calls.{noOps, changeOf, writeStep, commitChange, commitMap, commitUnmap}
 use Rattle.manager.specs.Refusals.{firstRefusal}
 use Rattle.manager.specs.Tables.{Tables, refill}
 use Rattle.cache.specs.Cache as hardware
 use Rattle.cache.specs.Store.{Store}
-use Rattle.machine.specs.State.{State, state, Single, map, unmap, read, write, deviceRead, deviceWrite, evict, Answer, Result, lentBuffer}
+use Rattle.machine.specs.State.{State, state, Single, map, unmap, read, write, deviceRead, deviceWrite, deviceWritePart, evict, Answer, Result, lentBuffer}
 use Rattle.machine.specs.Refusals.{causes}
 
 -- ---- the orders
@@ -70,7 +70,9 @@ accept b st (write space page offset word) =
 accept b st (deviceRead frame buffer) =
     stepped b st (changeOf b (st .tables) frame table.deviceRead) (λ s. none) (hardware.deviceRead b frame) (λ s. s)
 accept b st (deviceWrite frame buffer) =
-    stepped b st (changeOf b (st .tables) frame table.deviceWrite) (λ s. none) (λ s. []) (hardware.deviceWrite b frame buffer)
+    stepped b st (changeOf b (st .tables) frame table.deviceWrite) (λ s. none) (λ s. []) (hardware.deviceWrite b frame 0 buffer)
+accept b st (deviceWritePart frame first number buffer) =
+    stepped b st (changeOf b (st .tables) frame (writeStep b number)) (λ s. none) (λ s. []) (hardware.deviceWrite b frame first buffer)
 accept b st (evict line) = listed (refill b (st .tables)) (hardware.evict b line (st .store))
 
 -- ---- a single call

@@ -270,7 +270,40 @@ pub fn device_write(
         (machineOf list (now (records .entry)) (now (protections .entry)) (now (memory .entry)) (now (words .entry)) (now (tags .entry)))
         (call.deviceWrite frame (now (buffer .entry))) ⌝ }
 {
-    let plan = plans::plan_device_write(
+    device_write_part(
+        list,
+        records,
+        protections,
+        memory,
+        words,
+        tags,
+        buffer,
+        frame,
+        0,
+        BOARD01.page,
+    )
+}
+
+// A device writes so many words of a frame, from an offset on: its buffer, of that many words, is only read.
+pub fn device_write_part(
+    list: MappingList,
+    records: &mut [u32],
+    protections: &mut [u8],
+    memory: &mut [u32],
+    words: &[u32],
+    tags: &mut [u8],
+    buffer: &[u32],
+    frame: u8,
+    first: usize,
+    number: usize,
+) -> Answer
+    ensures { λ r. ⌜ result (answer (outcome r) none [])
+        (machineOf list (now (records .exit)) (now (protections .exit)) (now (memory .exit)) (now (words .entry)) (now (tags .exit)))
+        ≡ step board01
+        (machineOf list (now (records .entry)) (now (protections .entry)) (now (memory .entry)) (now (words .entry)) (now (tags .entry)))
+        (call.deviceWritePart frame first number (now (buffer .entry))) ⌝ }
+{
+    let plan = plans::plan_device_write_part(
         BOARD01,
         list,
         records,
@@ -280,6 +313,8 @@ pub fn device_write(
         tags,
         buffer,
         frame,
+        first,
+        number,
     );
     let Plan::Step(change) = plan else {
         return Answer::Refused(refusal_of(plan));
@@ -288,7 +323,16 @@ pub fn device_write(
     let next = change.next;
     let ops = change.ops;
     manager::commit_change(COLOURS, list, records, protections, frame, next);
-    operations::receive(BOARD01, memory, words, tags, frame as usize, ops, buffer);
+    operations::receive(
+        BOARD01,
+        memory,
+        words,
+        tags,
+        frame as usize,
+        ops,
+        first,
+        buffer,
+    );
     Answer::Accepted(FrameOps { frame, ops })
 }
 

@@ -6,7 +6,7 @@ ghost use Rattle.page_model.specs.Step.{OpBelow};
 ghost use Rattle.manager.specs.Answers.{operationOn, accepted};
 ghost use Rattle.cache.specs.Cache.{readWord, access, writeWord, deviceRead, deviceWrite};
 ghost use Rattle.cache.specs.Store.{store, WellFormed};
-ghost use Rattle.machine.specs.Ready.{OperationsReady, AccessReady, TransferReady};
+ghost use Rattle.machine.specs.Ready.{OperationsReady, AccessReady, TransferReady, PartReady};
 ghost use Rattle.machine.specs.Step.{operate, carryOut};
 use board::Board;
 use page_model::Op;
@@ -105,7 +105,7 @@ pub fn send(
     cache::device::device_read(board, memory, buffer, frame);
 }
 
-// Stores a device's buffer as a frame's words after its operations.
+// Stores a device's buffer as a frame's words from an offset on, after its operations.
 pub fn receive(
     board: Board,
     memory: &mut [u32],
@@ -113,12 +113,13 @@ pub fn receive(
     tags: &mut [u8],
     frame: usize,
     ops: Ops,
+    first: usize,
     buffer: &[u32],
 )
-    requires { ⌜ TransferReady board (store (now memory) (now words) (now tags)) frame ops (now buffer) ⌝ }
+    requires { ⌜ PartReady board (store (now memory) (now words) (now tags)) frame ops first (now buffer) ⌝ }
     ensures { λ _. ⌜ store (now (memory .exit)) (now (words .entry)) (now (tags .exit))
-        ≡ deviceWrite board frame (now (buffer .entry)) (carryOut board (accepted frame ops) (store (now (memory .entry)) (now (words .entry)) (now (tags .entry)))) ⌝ }
+        ≡ deviceWrite board frame first (now (buffer .entry)) (carryOut board (accepted frame ops) (store (now (memory .entry)) (now (words .entry)) (now (tags .entry)))) ⌝ }
 {
     carry_out(board, memory, words, tags, frame, ops);
-    cache::device::device_write(board, memory, buffer, frame);
+    cache::device::device_write(board, memory, buffer, frame, first);
 }

@@ -6,7 +6,7 @@ ghost use lib.ListN.{length};
 ghost use Rattle.board.specs.Board.{Regular, colourOf};
 ghost use Rattle.page_model.specs.Table as step;
 ghost use Rattle.mapping.specs.Lookup.{lookup, placeOf, listedMapping, placeFor};
-ghost use Rattle.manager.specs.Calls.{changeOf};
+ghost use Rattle.manager.specs.Calls.{changeOf, writeStep};
 ghost use Rattle.manager.specs.Tables.{tables};
 ghost use Rattle.manager.specs.Refusals.{firstRefusal, tableCauses};
 ghost use Rattle.cache.specs.Store.{store};
@@ -130,13 +130,13 @@ pub fn plan_device_read(
         (call.deviceRead frame (now (buffer .entry)))
         (changeOf board (tables list (now (records .entry)) (now (protections .entry))) frame step.deviceRead) ⌝ }
 {
-    let own = transfer_refusal(board, memory, words, tags, buffer);
+    let own = transfer_refusal(board, memory, words, tags, buffer, board.page);
     let plan = manager::plan_device_read(board, list, records, protections, frame);
     with_step(own, plan)
 }
 
-// What `device_write` would do.
-pub fn plan_device_write(
+// What `device_write_part` would do.
+pub fn plan_device_write_part(
     board: Board,
     list: MappingList,
     records: &[u32],
@@ -146,15 +146,25 @@ pub fn plan_device_write(
     tags: &[u8],
     buffer: &[u32],
     frame: u8,
+    first: usize,
+    number: usize,
 ) -> Plan
     requires { ⌜ Regular board ⌝ }
     ensures { λ r. ⌜ r ≡ planStep board
         (machineOf list (now (records .entry)) (now (protections .entry)) (now (memory .entry)) (now (words .entry)) (now (tags .entry)))
-        (call.deviceWrite frame (now (buffer .entry)))
-        (changeOf board (tables list (now (records .entry)) (now (protections .entry))) frame step.deviceWrite) ⌝ }
+        (call.deviceWritePart frame first number (now (buffer .entry)))
+        (changeOf board (tables list (now (records .entry)) (now (protections .entry))) frame (writeStep board number)) ⌝ }
 {
-    let own = transfer_refusal(board, memory, words, tags, buffer);
-    let plan = manager::plan_device_write(board, list, records, protections, frame);
+    let own = transfer_refusal(board, memory, words, tags, buffer, number);
+    let plan = manager::plan_device_write_part(
+        board,
+        list,
+        records,
+        protections,
+        frame,
+        first,
+        number,
+    );
     with_step(own, plan)
 }
 
@@ -220,12 +230,19 @@ fn store_refusal(board: Board, memory: &[u32], words: &[u32], tags: &[u8]) -> u8
     0
 }
 
-// The same with a device's buffer.
-fn transfer_refusal(board: Board, memory: &[u32], words: &[u32], tags: &[u8], buffer: &[u32]) -> u8
+// The same with a device's buffer of so many words.
+fn transfer_refusal(
+    board: Board,
+    memory: &[u32],
+    words: &[u32],
+    tags: &[u8],
+    buffer: &[u32],
+    number: usize,
+) -> u8
     requires { ⌜ Regular board ⌝ }
-    ensures { λ r. ⌜ r ≡ firstRefusal (storeCauses board (store (now (memory .entry)) (now (words .entry)) (now (tags .entry))) (eqb (length (now (buffer .entry))) (board .page))) ⌝ }
+    ensures { λ r. ⌜ r ≡ firstRefusal (storeCauses board (store (now (memory .entry)) (now (words .entry)) (now (tags .entry))) (eqb (length (now (buffer .entry))) number)) ⌝ }
 {
-    if buffer.len() != board.page {
+    if buffer.len() != number {
         return 1;
     }
     store_refusal(board, memory, words, tags)

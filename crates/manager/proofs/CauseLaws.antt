@@ -21,7 +21,7 @@ use Rattle.mapping.specs.Look.{find, look}
 use Rattle.mapping.specs.Lookup.{lookup, found, isMapped, placeOf, listedMapping, placeFor}
 use Rattle.mapping.specs.Rules as list-of
 use Rattle.mapping.proofs.Laws.{keepsRules-true, lookup-at, found-place, look-kept, look-broken}
-use Rattle.manager.specs.Refusals.{Cause, firstRefusal, tableCauses, pageCauses, writeCauses, transferCauses, frameCause, toldTables, toldMapping, toldPage, outOfSpace, isRight}
+use Rattle.manager.specs.Refusals.{Cause, firstRefusal, tableCauses, pageCauses, writeCauses, frameCause, toldTables, toldMapping, toldPage, outOfSpace, isRight}
 use Rattle.manager.specs.Tables.{Tables, tables, recordWords, recordAt, recordsKeepRules, lengthsRight, rulesKept}
 
 -- ---- the lent tables
@@ -183,11 +183,11 @@ module _ (b : Board) (l : MappingList) (s p : ℕ) {seen : Seen} (told : seen �
           ∙ same
           ∙ refusal-prefix (tableCauses b (tables l rs ps)) (own (find l s p)) (λ z. let w = sym same ∙ e in omega arith)
 
--- and of a transfer
-pub told-frame : (b : Board) (l : MappingList) (rs ps : List ℕ) (frame : ℕ) {kept : Bool} → length (l .items) ≡ capacity → kept ≡ list-of.keepsRules b l
-    → firstRefusal (toldTables b kept rs ps ++ frameCause b frame ∷ []) ≡ firstRefusal (transferCauses b (tables l rs ps) frame)
-unfolding firstRefusal toldTables transferCauses lengthsRight rulesKept
-told-frame b l rs ps frame long e = rw (eq-eqb _ _ long, e)
+-- and of a transfer, whose own causes are not the list's
+pub told-own : (b : Board) (l : MappingList) (rs ps : List ℕ) (own : List Cause) {kept : Bool} → length (l .items) ≡ capacity → kept ≡ list-of.keepsRules b l
+    → firstRefusal (toldTables b kept rs ps ++ own) ≡ firstRefusal (tableCauses b (tables l rs ps) ++ own)
+unfolding firstRefusal toldTables tableCauses lengthsRight rulesKept
+told-own b l rs ps own long e = rw (eq-eqb _ _ long, e)
 
 -- ---- an accepted step: the record that it is made of keeps the rules
 
@@ -207,10 +207,11 @@ module _ (b : Board) (t : Tables) (space page : ℕ) where
   unfolding writeCauses
   write-rules e = let n = none-applies (writeCauses b t space page) refl e in page-rules′ (n .1 .0) (n .1 .1 .1 .0)
 
-pub transfer-rules : (b : Board) (t : Tables) (f : ℕ) → firstRefusal (transferCauses b t f) ≡ 0 → record-of.keepsRules (b .colours) (recordAt (t .records) f) ≡ true
-unfolding transferCauses
-transfer-rules b t f e =
-    let n = none-applies (transferCauses b t f) refl e in
+pub transfer-rules : (b : Board) (t : Tables) (f : ℕ) (rest : List Cause) → numbered rest ≡ true → firstRefusal (tableCauses b t ++ frameCause b f ∷ rest) ≡ 0
+    → record-of.keepsRules (b .colours) (recordAt (t .records) f) ≡ true
+unfolding tableCauses
+transfer-rules b t f rest z e =
+    let n = none-applies (tableCauses b t ++ frameCause b f ∷ rest) z e in
     record-rules b t (not-false _ (n .1 .0)) f (leb-false (b .frames) f (n .1 .1 .0))
 
 -- ---- a call that is not refused: the list keeps its rules

@@ -2,6 +2,7 @@
 pub mod Laws
 pub mod BatchLaws
 pub mod Singly
+pub mod Parts
 pub mod CauseLaws
 pub mod RecordLaws
 pub mod AcceptedLaws

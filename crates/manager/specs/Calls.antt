@@ -1,12 +1,14 @@
 -- What each call plans, answers and leaves in the tables. A plan changes nothing; where it is no refusal, a commit carries it out.
+use mathlib.Core.Bool.{cond}
 use Prim.Native.Nat.{ℕ, zero, suc}
+use lib.Dec.{ltb}
 use Rattle.board.specs.declared.Board.{Board}
 use Rattle.board.specs.Board.{colourOf}
 use Rattle.page_model.specs.declared.FrameRecord.{FrameRecord}
 use Rattle.page_model.specs.declared.Op.the-variants.{None}
 use Rattle.page_model.specs.declared.Ops.{Ops}
 use Rattle.page_model.specs.Step.{stepped}
-use Rattle.page_model.specs.Table.{Step, read, write, deviceRead, deviceWrite}
+use Rattle.page_model.specs.Table.{Step, read, write, deviceRead, deviceWrite, deviceWritePart}
 use Rattle.mapping.specs.declared.Mapping.{Mapping}
 use Rattle.mapping.specs.Change.{insertAt, remove}
 use Rattle.mapping.specs.Lookup.{lookup, placeOf, listedMapping, placeFor}
@@ -16,7 +18,7 @@ use Rattle.manager.specs.declared.Plan.the-variants as step-plan
 use Rattle.manager.specs.declared.ListPlan.{ListPlan}
 use Rattle.manager.specs.declared.ListPlan.the-variants as list-plan
 use Rattle.manager.specs.Answers.{Outcome, refused, accepted}
-use Rattle.manager.specs.Refusals.{firstRefusal, mapCauses, pageCauses, writeCauses, transferCauses}
+use Rattle.manager.specs.Refusals.{firstRefusal, mapCauses, pageCauses, writeCauses, transferCauses, partCauses}
 use Rattle.manager.specs.Tables.{Tables, tables, recordAt, putRecord, refill}
 
 -- ---- steps of a frame's record
@@ -44,6 +46,13 @@ planDeviceRead b t frame = planned (firstRefusal (transferCauses b t frame)) (ch
 
 abbrev pub planDeviceWrite : Board → Tables → ℕ → Plan
 planDeviceWrite b t frame = planned (firstRefusal (transferCauses b t frame)) (changeOf b t frame deviceWrite)
+
+-- the step of a device's write of so many words: fewer than a page has, or all of them
+abbrev pub writeStep : Board → ℕ → Step
+writeStep b number = cond (ltb number (b .page)) deviceWritePart deviceWrite
+
+abbrev pub planDeviceWritePart : Board → Tables → ℕ → ℕ → ℕ → Plan
+planDeviceWritePart b t frame first number = planned (firstRefusal (partCauses b t frame first number)) (changeOf b t frame (writeStep b number))
 
 -- the tables with a frame's next record, and the protections that agree with it
 abbrev pub commitChange : Board → Tables → ℕ → FrameRecord → Tables
@@ -102,6 +111,9 @@ deviceReadCall b t frame = stepResult b t (planDeviceRead b t frame)
 
 abbrev pub deviceWriteCall : Board → Tables → ℕ → Result
 deviceWriteCall b t frame = stepResult b t (planDeviceWrite b t frame)
+
+abbrev pub deviceWritePartCall : Board → Tables → ℕ → ℕ → ℕ → Result
+deviceWritePartCall b t frame first number = stepResult b t (planDeviceWritePart b t frame first number)
 
 abbrev pub mapCall : Board → Tables → ℕ → ℕ → ℕ → ℕ → Result
 mapCall b t space page frame rights =

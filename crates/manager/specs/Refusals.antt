@@ -1,7 +1,7 @@
 -- Document 01, "Answers": for each call the causes of refusal, in the order of the table. The first that applies is given.
 use mathlib.Core.Bool.{Bool, true, not, cond, _&&_, _||_}
 use mathlib.Core.List.{List, [], _∷_, _++_}
-use Prim.Native.Nat.{ℕ, suc, _*_}
+use Prim.Native.Nat.{ℕ, suc, _+_, _*_}
 use lib.Dec.{eqb, leb, ltb}
 use lib.ListN.{length}
 use Rattle.board.specs.declared.Board.{Board}
@@ -31,7 +31,7 @@ firstRefusal (c ∷ rest) = cond (c .applies) (c .number) (firstRefusal rest)
 
 -- the numbers in the order in which document 01, with the requests, has them tested
 abbrev pub refusalOrder : List ℕ
-refusalOrder = 1 ∷ 12 ∷ 2 ∷ 3 ∷ 4 ∷ 5 ∷ 6 ∷ 7 ∷ 8 ∷ 9 ∷ 10 ∷ []
+refusalOrder = 1 ∷ 12 ∷ 2 ∷ 3 ∷ 4 ∷ 5 ∷ 6 ∷ 13 ∷ 7 ∷ 8 ∷ 9 ∷ 10 ∷ []
 
 -- the first place of a number in a list, past its end where it is not listed
 unfoldable pub placeIn : List ℕ → ℕ → ℕ
@@ -54,6 +54,10 @@ inOrder n (c ∷ rest) = leb n (refusalPlace (c .number)) && ltb (refusalPlace (
 abbrev pub outOfSpace : ℕ → ℕ → Bool
 outOfSpace space page = leb spaces space || leb pages page
 
+-- of so many words from offset first on: there are none, or there is one past the page's last offset
+abbrev pub outOfPage : Board → ℕ → ℕ → Bool
+outOfPage b first number = eqb number 0 || ltb (b .page) (first + number)
+
 abbrev pub isRight : ℕ → Bool
 isRight rights = eqb rights readOnly || eqb rights readWrite
 
@@ -67,6 +71,9 @@ frameCause b frame = 4 if leb (b .frames) frame
 
 abbrev pub rightsCause : ℕ → Cause
 rightsCause rights = 5 if not (isRight rights)
+
+abbrev pub partCause : Board → ℕ → ℕ → Cause
+partCause b first number = 13 if outOfPage b first number
 
 abbrev pub mappedCause : MappingList → ℕ → ℕ → Cause
 mappedCause l space page = 7 if isMapped l space page
@@ -113,10 +120,15 @@ unfoldable pub writeCauses : Board → Tables → ℕ → ℕ → List Cause
 unfolding pageCauses
 writeCauses b t space page = pageCauses b t space page ++ readOnlyCause (t .list) space page ∷ []
 
--- both transfers
+-- both transfers of a page
 unfoldable pub transferCauses : Board → Tables → ℕ → List Cause
 unfolding tableCauses
 transferCauses b t frame = tableCauses b t ++ frameCause b frame ∷ []
+
+-- a transfer of so many words from offset first on
+unfoldable pub partCauses : Board → Tables → ℕ → ℕ → ℕ → List Cause
+unfolding tableCauses
+partCauses b t frame first number = tableCauses b t ++ frameCause b frame ∷ partCause b first number ∷ []
 
 -- ---- the causes of each call by what one look at the list told, which are those above where it told them of the list (`told-rest`)
 

@@ -10,7 +10,7 @@ ghost use Rattle.mapping.specs.Batch.{itemsOf};
 ghost use Rattle.manager.specs.Answers.{outcome, refused, accepted};
 ghost use Rattle.manager.specs.Batch.{batchResult, mapAllCall};
 ghost use Rattle.manager.specs.Tables.{tables, Colours};
-ghost use Rattle.manager.specs.Calls.{result, noOps, stepResult, planMap, planUnmap, planRead, planWrite, planDeviceRead, planDeviceWrite, commitMap, commitUnmap, commitChange, mapCall, unmapCall, readCall, writeCall, deviceReadCall, deviceWriteCall};
+ghost use Rattle.manager.specs.Calls.{result, noOps, stepResult, planMap, planUnmap, planRead, planWrite, planDeviceRead, planDeviceWritePart, commitMap, commitUnmap, commitChange, mapCall, unmapCall, readCall, writeCall, deviceReadCall, deviceWriteCall, deviceWritePartCall};
 use batch::map_batch;
 use board::BOARD01;
 use board::Board;
@@ -26,6 +26,7 @@ use records::record_at;
 use records::refill;
 use refusals::map_refusal;
 use refusals::page_refusal;
+use refusals::part_refusal;
 use refusals::tables_refusal;
 use refusals::transfer_refusal;
 use refusals::write_refusal;
@@ -185,7 +186,22 @@ pub fn device_write(
     ensures { λ r. ⌜ result (outcome r) (tables list (now (records .exit)) (now (protections .exit)))
         ≡ deviceWriteCall board01 (tables list (now (records .entry)) (now (protections .entry))) frame ⌝ }
 {
-    let plan = plan_device_write(BOARD01, list, records, protections, frame);
+    device_write_part(list, records, protections, frame, 0, BOARD01.page)
+}
+
+// A device writes so many words of a frame in memory, from an offset on.
+pub fn device_write_part(
+    list: MappingList,
+    records: &mut [u32],
+    protections: &mut [u8],
+    frame: u8,
+    first: usize,
+    number: usize,
+) -> Answer
+    ensures { λ r. ⌜ result (outcome r) (tables list (now (records .exit)) (now (protections .exit)))
+        ≡ deviceWritePartCall board01 (tables list (now (records .entry)) (now (protections .entry))) frame first number ⌝ }
+{
+    let plan = plan_device_write_part(BOARD01, list, records, protections, frame, first, number);
     carry_out(COLOURS, list, records, protections, plan)
 }
 
@@ -293,23 +309,29 @@ pub fn plan_device_read(
     step_of(frame, record_at(records, frame).device_read())
 }
 
-// What a device write makes of a frame.
-pub fn plan_device_write(
+// What a device's write of so many words from an offset on makes of a frame.
+pub fn plan_device_write_part(
     board: Board,
     list: MappingList,
     records: &[u32],
     protections: &[u8],
     frame: u8,
+    first: usize,
+    number: usize,
 ) -> Plan
     requires { ⌜ Regular board ⌝ }
-    ensures { λ r. ⌜ r ≡ planDeviceWrite board (tables list (now (records .entry)) (now (protections .entry))) frame ⌝ }
+    ensures { λ r. ⌜ r ≡ planDeviceWritePart board (tables list (now (records .entry)) (now (protections .entry))) frame first number ⌝ }
 {
     let kept = mapping::keeps_rules(board, list);
-    let refusal = transfer_refusal(board, kept, records, protections, frame);
+    let refusal = part_refusal(board, kept, records, protections, frame, first, number);
     if refusal != 0 {
         return Plan::Refused(refusal);
     }
-    step_of(frame, record_at(records, frame).device_write())
+    let record = record_at(records, frame);
+    if number < board.page {
+        return step_of(frame, record.device_write_part());
+    }
+    step_of(frame, record.device_write())
 }
 
 // ---- commits. Of the board they ask only how many colours it has.

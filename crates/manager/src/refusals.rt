@@ -2,7 +2,7 @@
 ghost use mathlib.Core.List.{[], _∷_, _++_};
 ghost use mathlib.Core.Path.{_≡_};
 ghost use Rattle.board.specs.Board.{Regular};
-ghost use Rattle.manager.specs.Refusals.{firstRefusal, refusalPlace, toldTables, toldMapping, toldPage, toldWrite, frameCause, outOfSpace, isRight};
+ghost use Rattle.manager.specs.Refusals.{firstRefusal, refusalPlace, toldTables, toldMapping, toldPage, toldWrite, frameCause, partCause, outOfSpace, outOfPage, isRight};
 use super::records::RECORD_WORDS;
 use super::records::records_keep_rules;
 use board::Board;
@@ -10,9 +10,9 @@ use mapping::Mapping;
 use mapping::Seen;
 
 // How many refusals there are, and their numbers in the order in which they are tested.
-const REFUSALS: usize = 11;
+const REFUSALS: usize = 12;
 
-const ORDER: [u8; REFUSALS] = [1, 12, 2, 3, 4, 5, 6, 7, 8, 9, 10];
+const ORDER: [u8; REFUSALS] = [1, 12, 2, 3, 4, 5, 6, 13, 7, 8, 9, 10];
 
 // The place of a refusal in the order, past its end where it is not listed.
 pub fn place(number: u8) -> usize
@@ -129,7 +129,7 @@ pub fn write_refusal(
     0
 }
 
-// Of both transfers, where kept says whether the list keeps its rules.
+// Of both transfers of a page, where kept says whether the list keeps its rules.
 pub fn transfer_refusal(
     board: Board,
     kept: bool,
@@ -146,6 +146,29 @@ pub fn transfer_refusal(
     }
     if frame as usize >= board.frames {
         return 4;
+    }
+    0
+}
+
+// Of a transfer of so many words from an offset on, likewise.
+pub fn part_refusal(
+    board: Board,
+    kept: bool,
+    records: &[u32],
+    protections: &[u8],
+    frame: u8,
+    first: usize,
+    number: usize,
+) -> u8
+    requires { ⌜ Regular board ⌝ }
+    ensures { λ r. ⌜ r ≡ firstRefusal (toldTables board kept (now (records .entry)) (now (protections .entry)) ++ frameCause board frame ∷ partCause board first number ∷ []) ⌝ }
+{
+    let refusal = transfer_refusal(board, kept, records, protections, frame);
+    if refusal != 0 {
+        return refusal;
+    }
+    if out_of_page(board, first, number) {
+        return 13;
     }
     0
 }
@@ -168,4 +191,17 @@ fn out_of_space(space: u8, page: u16) -> bool
         return true;
     }
     page as usize >= board::PAGES
+}
+
+// Whether of so many words from an offset on there are none, or one is past the page's last offset.
+fn out_of_page(board: Board, first: usize, number: usize) -> bool
+    ensures { λ r. ⌜ r ≡ outOfPage board first number ⌝ }
+{
+    if number == 0 {
+        return true;
+    }
+    if first > board.page {
+        return true;
+    }
+    number > board.page - first
 }

@@ -9,7 +9,7 @@ use Rattle.bits.proofs.Tautology.{and-left, and-right}
 use Rattle.page_model.specs.declared.FrameRecord.{FrameRecord}
 use Rattle.page_model.specs.Record.{stateOf, keepsRules, isHeld, isDirty}
 use Rattle.page_model.specs.Step.{cellOf, recordAfter}
-use Rattle.page_model.specs.Table.{Step, read, write, deviceRead, deviceWrite}
+use Rattle.page_model.specs.Table.{Step, read, write, deviceRead, deviceWrite, deviceWritePart}
 use Rattle.page_model.specs.Theorems.{StepKeepsRules, StateAfter, OneOwner}
 use Rattle.page_model.proofs.Rules.{Keeps, keeps, flag}
 use Rattle.page_model.proofs.Cells.{Agree, apart, nextTest, kept-next}
@@ -36,6 +36,7 @@ one-owner n (write c) r kr j k lj lk ej ek =
     sym (eqb-true c j (next isDirty (λ o s h d. o) refl j lj ∙ ap isDirty ej)) ∙ eqb-true c k (next isHeld (λ o s h d. o) refl k lk ∙ ek)
 one-owner n deviceRead r kr j k lj lk ej ek = no-owner n deviceRead r kr refl j k lj lk ej ek
 one-owner n deviceWrite r kr j k lj lk ej ek = no-owner n deviceWrite r kr refl j k lj lk ej ek
+one-owner n deviceWritePart r kr j k lj lk ej ek = no-owner n deviceWritePart r kr refl j k lj lk ej ek
 
 after : (n : ℕ) (step : Step) (r : FrameRecord) → keepsRules n r ≡ true
     → (keepsRules n (recordAfter n step r) ≡ true) × ((k : ℕ) → k < n → stateOf (recordAfter n step r) k ≡ cellOf step r k .next)

@@ -9,7 +9,7 @@ use Rattle.bits.proofs.Tautology.{all4, equalIf, law4, and-left, and-right}
 use Rattle.page_model.specs.declared.FrameRecord.{FrameRecord}
 use Rattle.page_model.specs.Record.{stateFrom, stateOf}
 use Rattle.page_model.specs.Step.{cellOf}
-use Rattle.page_model.specs.Table.{ColourState, empty, present, dirty, stale, Operation, Role, Cell, Step, read, write, deviceRead, deviceWrite, roleIf, readCell, writeCell, deviceReadCell, deviceWriteCell}
+use Rattle.page_model.specs.Table.{ColourState, empty, present, dirty, stale, Operation, Role, Cell, Step, read, write, deviceRead, deviceWrite, deviceWritePart, roleIf, readCell, writeCell, deviceReadCell, deviceWriteCell, deviceWritePartCell}
 use Rattle.page_model.proofs.Rules.{Keeps, flag}
 
 -- a test of whether a colour is the step's own, its stale bit, its held bit and the flag
@@ -35,12 +35,14 @@ rowOf (read c) = readCell
 rowOf (write c) = writeCell
 rowOf deviceRead = λ role. deviceReadCell
 rowOf deviceWrite = λ role. deviceWriteCell
+rowOf deviceWritePart = λ role. deviceWritePartCell
 
 abbrev pub ownOf : Step → ℕ
 ownOf (read c) = c
 ownOf (write c) = c
 ownOf deviceRead = 0
 ownOf deviceWrite = 0
+ownOf deviceWritePart = 0
 
 pub row-cell : (s : Step) (r : FrameRecord) (k : ℕ) → cellOf s r k ≡ rowOf s (roleIf (eqb (ownOf s) k)) (stateOf r k)
 unfolding cellOf
@@ -48,6 +50,7 @@ row-cell (read c) r k = refl
 row-cell (write c) r k = refl
 row-cell deviceRead r k = refl
 row-cell deviceWrite r k = refl
+row-cell deviceWritePart r k = refl
 
 abbrev pub nextTest : Step → (ColourState → Bool) → Test
 nextTest step f o s h d = f (rowOf step (roleIf o) (stateFrom s h d) .next)

@@ -16,7 +16,7 @@ use Rattle.page_model.specs.declared.FrameRecord.{FrameRecord}
 use Rattle.page_model.specs.declared.Op.{Op}
 use Rattle.page_model.specs.declared.Op.the-variants.{Flush, Purge}
 use Rattle.page_model.specs.Step.{isFlush, isPurge, cellOf, operations, opList, firstTwo, OpBelow}
-use Rattle.page_model.specs.Table.{Operation, Step, read, write, deviceRead, deviceWrite}
+use Rattle.page_model.specs.Table.{Operation, Step, read, write, deviceRead, deviceWrite, deviceWritePart}
 use Rattle.page_model.specs.Theorems.{FewOperations, OpsComplete, OperationsBelow}
 use Rattle.page_model.proofs.Rules.{Keeps, keeps, flag, dirty-at}
 use Rattle.page_model.proofs.Cells.{Test, Agree, apart, operationTest, ownOf, at, kept-operation}
@@ -50,12 +50,14 @@ module _ (n : ℕ) (r : FrameRecord) (kr : Keeps n r) where
   few-flushes (write c) = on-dirty (write c) isFlush refl
   few-flushes deviceRead = on-dirty deviceRead isFlush refl
   few-flushes deviceWrite = on-dirty deviceWrite isFlush refl
+  few-flushes deviceWritePart = on-dirty deviceWritePart isFlush refl
 
   few-purges : (step : Step) → length (placesWith n step r isPurge) ≤ 1
   few-purges (read c) = on-own (read c) isPurge refl
   few-purges (write c) = on-own (write c) isPurge refl
   few-purges deviceRead = on-dirty deviceRead isPurge refl
   few-purges deviceWrite = on-dirty deviceWrite isPurge refl
+  few-purges deviceWritePart = on-dirty deviceWritePart isPurge refl
 
 pub few-operations : FewOperations
 unfolding operations

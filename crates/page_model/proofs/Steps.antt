@@ -15,10 +15,10 @@ use Rattle.page_model.specs.declared.FrameRecord.{FrameRecord}
 use Rattle.page_model.specs.declared.Op.{Op}
 use Rattle.page_model.specs.declared.Op.the-variants.{None, Flush, Purge}
 use Rattle.page_model.specs.Record.{stateOf, isHeld, isDirty, isStale}
-use Rattle.page_model.specs.Step.{isFlush, isPurge, opList, steppedTo, stepped}
-use Rattle.page_model.specs.Table.{read, write, deviceRead, deviceWrite}
+use Rattle.page_model.specs.Step.{isFlush, isPurge, recordAfter, opList, steppedTo, stepped}
+use Rattle.page_model.specs.Table.{Step, read, write, deviceRead, deviceWrite, deviceWritePart}
 use Rattle.page_model.proofs.Rules.{Keeps, flag, dirty-only, dirty-at, dirty-wide}
-use Rattle.page_model.proofs.Cells.{Test, apart, at, next-law, operation-law, kept-state, kept-next, kept-operation}
+use Rattle.page_model.proofs.Cells.{Test, Agree, apart, nextTest, at, next-law, operation-law, kept-state, kept-next, kept-operation}
 use Rattle.page_model.proofs.Build.{step-is, record-is, all-clean, operation-at, no-operation}
 
 -- `present`: the mask of the colours that are present
@@ -75,17 +75,30 @@ module _ (n w : ℕ) (few : n ≤ w) (r : FrameRecord) (kr : Keeps n r) where
       (on-dirty Flush _ (λ d. refl) (operation isFlush (λ o s h d. d && h) refl))
       (no-operation n Purge _ (operation isPurge (λ o s h d. false) refl))
 
+  -- a step that leaves no colour held, and those stale that were so or present
+  overwritten : (step : Step) → Agree apart (λ o s h d. false) (nextTest step isHeld) → Agree apart (λ o s h d. s || not d && h) (nextTest step isStale)
+      → Agree apart (λ o s h d. false) (nextTest step isDirty)
+      → _≡_ {A = FrameRecord} (record { held = 0; stale = staleAfter r; dirty = 0 }) (recordAfter n step r)
+  overwritten step eh es ed =
+      let next = kept-next n r kr step in
+      record-is n step r (pow-pos n) staleAfter-lt
+      (λ k l. rw bit-none (next isHeld (λ o s h d. false) eh k l))
+      (λ k l. rw (bit-or, bit-cond) (next isStale (λ o s h d. s || not d && h) es k l))
+      (all-clean n step r (next isDirty (λ o s h d. false) ed))
+
   pub device-write-step : steppedTo 0 (staleAfter r) 0 None (ifDirty w r Purge) ≡ stepped n deviceWrite r
   device-write-step =
-      let next = kept-next n r kr deviceWrite in
       let operation = kept-operation n r kr deviceWrite in
-      step-is n deviceWrite r None (ifDirty w r Purge)
-      (record-is n deviceWrite r (pow-pos n) staleAfter-lt
-      (λ k l. rw bit-none (next isHeld (λ o s h d. false) refl k l))
-      (λ k l. rw (bit-or, bit-cond) (next isStale (λ o s h d. s || not d && h) refl k l))
-      (all-clean n deviceWrite r (next isDirty (λ o s h d. false) refl)))
+      step-is n deviceWrite r None (ifDirty w r Purge) (overwritten deviceWrite refl refl refl)
       (no-operation n Flush _ (operation isFlush (λ o s h d. false) refl))
       (on-dirty Purge _ (λ d. refl) (operation isPurge (λ o s h d. d && h) refl))
+
+  pub device-write-part-step : steppedTo 0 (staleAfter r) 0 (ifDirty w r Flush) None ≡ stepped n deviceWritePart r
+  device-write-part-step =
+      let operation = kept-operation n r kr deviceWritePart in
+      step-is n deviceWritePart r (ifDirty w r Flush) None (overwritten deviceWritePart refl refl refl)
+      (on-dirty Flush _ (λ d. refl) (operation isFlush (λ o s h d. d && h) refl))
+      (no-operation n Purge _ (operation isPurge (λ o s h d. false) refl))
 
   -- ---- the processor's steps
 

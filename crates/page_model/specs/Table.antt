@@ -1,4 +1,4 @@
--- Document 01, "The page model": both tables, cell by cell, in its order of steps and states.
+-- Document 01, "The page model": both tables, cell by cell, in its order of steps and states; request N3's transfer of a part stands last.
 use mathlib.Core.Bool.{Bool, true, false}
 use Prim.Native.Nat.{ℕ}
 use lib.Dec.{eqb}
@@ -62,12 +62,19 @@ deviceWriteCell present = none ⇒ stale
 deviceWriteCell dirty = purge ⇒ empty
 deviceWriteCell stale = none ⇒ stale
 
+-- device to memory, of fewer words than the page has
+abbrev pub deviceWritePartCell : ColourState → Cell
+deviceWritePartCell empty = none ⇒ empty
+deviceWritePartCell present = none ⇒ stale
+deviceWritePartCell dirty = flush ⇒ empty
+deviceWritePartCell stale = none ⇒ stale
+
 -- ---- a step
 
 -- A processor's step goes through a colour; a transfer concerns all colours alike.
 pub data Step : Type 0 where
   read write : ℕ → Step
-  deviceRead deviceWrite : Step
+  deviceRead deviceWrite deviceWritePart : Step
 
 abbrev pub roleIf : Bool → Role
 roleIf true = own
@@ -79,3 +86,4 @@ cellAt (read c) k s = readCell (roleIf (eqb c k)) s
 cellAt (write c) k s = writeCell (roleIf (eqb c k)) s
 cellAt deviceRead k s = deviceReadCell s
 cellAt deviceWrite k s = deviceWriteCell s
+cellAt deviceWritePart k s = deviceWritePartCell s

@@ -8,7 +8,7 @@ ghost use Rattle.bits.specs.Mask.{width, bit};
 ghost use Prim.Native.Nat.{ℕ, _≤_, _<_};
 ghost use Rattle.page_model.specs.Record.{keepsRules, stateOf, isHeld, isDirty};
 ghost use Rattle.page_model.specs.Step.{stepped, steppedTo, firstTwo, opList};
-ghost use Rattle.page_model.specs.Table.{read, write, deviceRead, deviceWrite};
+ghost use Rattle.page_model.specs.Table.{read, write, deviceRead, deviceWrite, deviceWritePart};
 
 // An operation that the cache is to carry out on one colour of a frame: document 01's order.
 pub enum Op {
@@ -100,6 +100,15 @@ impl FrameRecord {
         let colour = self.dirty_colour();
         let purge = self.if_dirty(Op::Purge(colour));
         Stepped::to(0, self.stale | self.present(), 0, Op::None, purge)
+    }
+
+    // A device writes some of the page's words in memory: the dirty colour is flushed, which keeps the others.
+    pub fn device_write_part(self) -> Stepped
+        ensures { λ r. ⌜ ((n : ℕ) → n ≤ width → keepsRules n self ≡ true → r ≡ stepped n deviceWritePart self) ⌝ }
+    {
+        let dirty = self.dirty_colour();
+        let flush = self.if_dirty(Op::Flush(dirty));
+        Stepped::to(0, self.stale | self.present(), 0, flush, Op::None)
     }
 
     // Whether a colour is present or dirty, in any record.

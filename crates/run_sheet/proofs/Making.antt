@@ -14,7 +14,7 @@ use Rattle.machine.specs.State.{State, machineOf, Single, unmap, evict, Answer,
 use Rattle.machine.specs.Step.{result, step}
 use Rattle.sheet_codec.specs.declared.Fields.{Fields}
 use Rattle.sheet_codec.specs.declared.Kind.{Kind}
-use Rattle.sheet_codec.specs.declared.Kind.the-variants.{Read, Write, DeviceRead, DeviceWrite, Evict, Unmap, Other}
+use Rattle.sheet_codec.specs.declared.Kind.the-variants.{Read, Write, DeviceRead, DeviceWrite, DeviceWritePart, Evict, Unmap, Other}
 use Rattle.sheet_codec.specs.Format.{callOf}
 use Rattle.sheet_codec.specs.Text.{wordOf, firstWord, shownWord}
 use Rattle.sheet_codec.proofs.Kind.{the-type}
@@ -64,22 +64,24 @@ pub did-kind : (f : Fields) {st next : State} {k j : Kind} {o : Outcome} {w : Op
     → Did st (callOf board01 j f) next o w
 did-kind f e d = did-as (ap (λ (x : Kind). callOf board01 x f) e) d
 
--- ---- the kinds: an unmap, and what is left past the first four
+-- ---- the kinds: an unmap, and what is left past the first five
 
 pub unmap-is : (f : Fields) (k : Kind) → isUnmap k ≡ true → unmap (f .s) (f .p) ≡ callOf board01 k f
 unmap-is f Read e = absurd (false≢true e)
 unmap-is f Write e = absurd (false≢true e)
 unmap-is f DeviceRead e = absurd (false≢true e)
 unmap-is f DeviceWrite e = absurd (false≢true e)
+unmap-is f DeviceWritePart e = absurd (false≢true e)
 unmap-is f Evict e = absurd (false≢true e)
 unmap-is f Unmap e = refl
 unmap-is f Other e = refl
 
-pub evict-is : (f : Fields) (k : Kind) → isUnmap k ≡ false → 4 ≤ tagOf the-type k → evict (f .s) ≡ callOf board01 k f
+pub evict-is : (f : Fields) (k : Kind) → isUnmap k ≡ false → 5 ≤ tagOf the-type k → evict (f .s) ≡ callOf board01 k f
 evict-is f Read e h = absurd (omega arith)
 evict-is f Write e h = absurd (omega arith)
 evict-is f DeviceRead e h = absurd (omega arith)
 evict-is f DeviceWrite e h = absurd (omega arith)
+evict-is f DeviceWritePart e h = absurd (omega arith)
 evict-is f Evict e h = refl
 evict-is f Unmap e h = absurd (false≢true (sym e))
 evict-is f Other e h = absurd (false≢true (sym e))

@@ -10,6 +10,7 @@ use sheet_codec::Shown;
 ghost use mathlib.Core.Bool.{false};
 ghost use mathlib.Core.List.{[], _∷_};
 ghost use mathlib.Core.Path.{_≡_};
+ghost use Prim.Native.Nat.{_^_, _≤_};
 ghost use lib.ListN.{length, replicate};
 ghost use Rattle.board.specs.Board.{board01};
 ghost use Rattle.manager.specs.Answers.{outcome};
@@ -22,6 +23,9 @@ ghost use Rattle.run_sheet.specs.Kinds.{isUnmap};
 ghost use Rattle.sheet_codec.specs.Format.{sentWord, callOf};
 ghost use Rattle.sheet_codec.specs.Text.{shownWord, firstWord};
 
+// The most words that a step's field o counts.
+const MOST_SENT: usize = 255;
+
 // Whether a step of this kind is an unmap. A kind that breaks the sheet stands for one.
 pub fn is_unmap(kind: Kind) -> bool
     ensures { λ r. ⌜ r ≡ isUnmap kind ⌝ }
@@ -31,13 +35,14 @@ pub fn is_unmap(kind: Kind) -> bool
         Kind::Write => false,
         Kind::DeviceRead => false,
         Kind::DeviceWrite => false,
+        Kind::DeviceWritePart => false,
         Kind::Evict => false,
         Kind::Unmap => true,
         Kind::Other => true,
     }
 }
 
-// A step that is no unmap, and leaves the list as it is: past the first four kinds, an evict.
+// A step that is no unmap, and leaves the list as it is: past the first five kinds, an evict.
 pub fn step(
     list: MappingList,
     records: &mut [u32],
@@ -60,6 +65,9 @@ pub fn step(
         Kind::Write => write(list, records, protections, memory, words, tags, f),
         Kind::DeviceRead => device_read(list, records, protections, memory, words, tags, f),
         Kind::DeviceWrite => device_write(list, records, protections, memory, words, tags, f),
+        Kind::DeviceWritePart => {
+            device_write_part(list, records, protections, memory, words, tags, f)
+        }
         _ => evict(list, records, protections, memory, words, tags, f),
     }
 }
@@ -193,6 +201,43 @@ fn device_write(
     }
 }
 
+// A device writes o words of a frame, from offset p on: w, w + 1 and so on.
+fn device_write_part(
+    list: MappingList,
+    records: &mut [u32],
+    protections: &mut [u8],
+    memory: &mut [u32],
+    words: &[u32],
+    tags: &mut [u8],
+    f: Fields,
+) -> Told
+    ensures { λ r. ⌜ Did
+        (machineOf list (now (records .entry)) (now (protections .entry)) (now (memory .entry)) (now (words .entry)) (now (tags .entry)))
+        (call.deviceWritePart (f .s) (f .p) (f .o) (tabulate (f .o) (sentWord (f .w))))
+        (machineOf list (now (records .exit)) (now (protections .exit)) (now (memory .exit)) (now (words .entry)) (now (tags .exit)))
+        (outcome (r .answer)) (shownWord (r .shown)) ⌝ }
+{
+    let mut buffer = [0u32; MOST_SENT];
+    count_up(&mut buffer, f.w);
+    let number = f.o as usize;
+    let answer = machine::device_write_part(
+        list,
+        records,
+        protections,
+        memory,
+        words,
+        tags,
+        &buffer[..number],
+        f.s,
+        f.p as usize,
+        number,
+    );
+    Told {
+        answer,
+        shown: Shown::Absent,
+    }
+}
+
 // A line is evicted.
 fn evict(
     list: MappingList,
@@ -252,8 +297,8 @@ fn first_word(answer: Answer, word: u32) -> Shown
 
 // The words w, w + 1 and so on, modulo 2^32.
 fn count_up(buffer: &mut [u32], w: u32)
-    requires { ⌜ length (now buffer) ≡ board01 .page ⌝ }
-    ensures { λ _. ⌜ now (buffer .exit) ≡ tabulate (board01 .page) (sentWord w) ⌝ }
+    requires { ⌜ length (now buffer) ≤ 2 ^ 32 ⌝ }
+    ensures { λ _. ⌜ now (buffer .exit) ≡ tabulate (length (now (buffer .entry))) (sentWord w) ⌝ }
 {
     let mut i = 0;
     while i < buffer.len() {

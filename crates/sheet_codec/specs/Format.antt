@@ -11,7 +11,7 @@ use Rattle.machine.specs.State as call
 use Rattle.machine.specs.State.{Single}
 use Rattle.sheet_codec.specs.declared.Fields.{Fields}
 use Rattle.sheet_codec.specs.declared.Kind.{Kind}
-use Rattle.sheet_codec.specs.declared.Kind.the-variants.{Read, Write, DeviceRead, DeviceWrite, Evict, Unmap, Other}
+use Rattle.sheet_codec.specs.declared.Kind.the-variants.{Read, Write, DeviceRead, DeviceWrite, DeviceWritePart, Evict, Unmap, Other}
 
 -- ---- numbers, low byte first
 
@@ -81,18 +81,19 @@ fieldsAt sheet at =
 abbrev pub kindOf : ℕ → Kind
 kindOf n =
     cond (eqb n 1) Read
-    (cond (eqb n 2) Write (cond (eqb n 3) DeviceRead (cond (eqb n 4) DeviceWrite (cond (eqb n 5) Evict (cond (eqb n 6) Unmap Other)))))
+    (cond (eqb n 2) Write (cond (eqb n 3) DeviceRead (cond (eqb n 4) DeviceWrite (cond (eqb n 5) Evict (cond (eqb n 6) Unmap (cond (eqb n 7) DeviceWritePart Other))))))
 
 -- p, o and w are 0
 abbrev pub allZero : ℕ → ℕ → ℕ → Bool
 allZero p o w = eqb p 0 && eqb o 0 && eqb w 0
 
--- the kind is one of the six, and the fields that it does not use are 0
+-- the kind is one of the seven, and the fields that it does not use are 0
 abbrev pub keeps : Kind → Fields → Bool
 keeps Read f = allZero 0 0 (f .w)
 keeps Write f = true
 keeps DeviceRead f = allZero (f .p) (f .o) (f .w)
 keeps DeviceWrite f = allZero (f .p) (f .o) 0
+keeps DeviceWritePart f = true
 keeps Evict f = allZero (f .p) (f .o) (f .w)
 keeps Unmap f = allZero 0 (f .o) (f .w)
 keeps Other f = false
@@ -129,6 +130,7 @@ callOf b Read f = call.read (f .s) (f .p) (f .o)
 callOf b Write f = call.write (f .s) (f .p) (f .o) (f .w)
 callOf b DeviceRead f = call.deviceRead (f .s) (replicate (b .page) 0)
 callOf b DeviceWrite f = call.deviceWrite (f .s) (tabulate (b .page) (sentWord (f .w)))
+callOf b DeviceWritePart f = call.deviceWritePart (f .s) (f .p) (f .o) (tabulate (f .o) (sentWord (f .w)))
 callOf b Evict f = call.evict (f .s)
 callOf b Unmap f = call.unmap (f .s) (f .p)
 callOf b Other f = call.unmap (f .s) (f .p)

@@ -8,7 +8,7 @@ use lib.ListN.{getD}
 use Rattle.io.specs.Digits.{digits}
 use Rattle.manager.specs.Answers as operation
 use Rattle.manager.specs.Answers.{FrameOperation, Outcome, refused, accepted, numberOf, firstOperation, secondOperation}
-use Rattle.machine.specs.State.{Single, map, unmap, read, write, deviceRead, deviceWrite, evict, Answer}
+use Rattle.machine.specs.State.{Single, map, unmap, read, write, deviceRead, deviceWrite, deviceWritePart, evict, Answer}
 use Rattle.sheet_codec.specs.declared.Shown.{Shown}
 use Rattle.sheet_codec.specs.declared.Shown.the-variants.{Absent, Word}
 
@@ -93,6 +93,7 @@ wordOf (read space page offset) a = a .word
 wordOf (write space page offset word) a = none
 wordOf (deviceRead frame buffer) a = firstWord (a .outcome) (a .buffer)
 wordOf (deviceWrite frame buffer) a = none
+wordOf (deviceWritePart frame first number buffer) a = none
 wordOf (evict line) a = none
 
 -- ---- the lines

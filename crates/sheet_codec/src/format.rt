@@ -96,6 +96,7 @@ fn keeps(kind: Kind, f: Fields) -> bool
         Kind::Write => true,
         Kind::DeviceRead => all_zero(f.p, f.o, f.w),
         Kind::DeviceWrite => all_zero(f.p, f.o, 0),
+        Kind::DeviceWritePart => true,
         Kind::Evict => all_zero(f.p, f.o, f.w),
         Kind::Unmap => all_zero(0, f.o, f.w),
         Kind::Other => false,
@@ -125,6 +126,7 @@ pub fn kind_of(n: u8) -> Kind
         4 => Kind::DeviceWrite,
         5 => Kind::Evict,
         6 => Kind::Unmap,
+        7 => Kind::DeviceWritePart,
         _ => Kind::Other,
     }
 }

@@ -9,6 +9,7 @@ pub enum Kind {
     Write,
     DeviceRead,
     DeviceWrite,
+    DeviceWritePart,
     Evict,
     Unmap,
     Other,

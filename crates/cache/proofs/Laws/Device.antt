@@ -1,13 +1,14 @@
--- The laws of a device's transfer of a whole frame.
-use mathlib.Core.Path.{_≡_, refl, _∙_}
+-- The laws of a device's transfers.
+use mathlib.Core.Path.{_≡_, refl, ap, _∙_}
 use mathlib.Core.Logic.{_≢_}
 use mathlib.Core.List.{List}
-use Prim.Native.Nat.{ℕ, _+_, _≤_, _<_}
+use Prim.Native.Nat.{ℕ, _+_, _-_, _≤_, _<_}
 use native.Mathlib.Omega.{arith}
 use lib.ListN.{length, getD}
 use Rattle.board.specs.declared.Board.{Board}
 use Rattle.board.specs.Board.{Regular, frameAt, memoryAt}
 use Rattle.board.proofs.Geometry.{frameAt-end, frameAt-within}
+use Rattle.cache.specs.Part.{overlay}
 use Rattle.cache.specs.Store.{Store, WellFormed, memoryWord}
 use Rattle.cache.specs.Cache.{deviceRead, deviceWrite}
 use Rattle.cache.proofs.Laws.Part.{length-part, part-at, length-overlay, overlay-inside, overlay-outside}
@@ -23,36 +24,45 @@ module _ (b : Board) (reg : Regular b) (f : ℕ) (hf : f < b .frames) (s : Store
   unfolding deviceRead memoryAt
   deviceRead-word o ho = part-at (s .memory) (frameAt b f) (b .page) o ho
 
-  -- ---- device to memory
+  -- ---- device to memory, from offset first on
 
-  module _ (buffer : List ℕ) (full : length buffer ≡ b .page) where
-    fits : frameAt b f + length buffer ≤ length (s .memory)
+  module _ (first : ℕ) (buffer : List ℕ) (inside : first + length buffer ≤ b .page) where
+    fits : memoryAt b f first + length buffer ≤ length (s .memory)
+    unfolding memoryAt
     fits = let e = wf .memory-length in omega (arith, frameAt-end b reg f hf)
 
-    pub deviceWrite-kept : WellFormed b (deviceWrite b f buffer s)
+    pub deviceWrite-kept : WellFormed b (deviceWrite b f first buffer s)
     unfolding deviceWrite
     deviceWrite-kept =
         record {
-          memory-length = length-overlay (s .memory) (frameAt b f) buffer fits ∙ wf .memory-length;
+          memory-length = length-overlay (s .memory) (memoryAt b f first) buffer fits ∙ wf .memory-length;
           words-length = wf .words-length;
           tags-length = wf .tags-length;
           tags-rules = wf .tags-rules;
         }
 
-    pub deviceWrite-tags : deviceWrite b f buffer s .tags ≡ s .tags
+    pub deviceWrite-tags : deviceWrite b f first buffer s .tags ≡ s .tags
     unfolding deviceWrite
     deviceWrite-tags = refl
 
-    pub deviceWrite-words : deviceWrite b f buffer s .words ≡ s .words
+    pub deviceWrite-words : deviceWrite b f first buffer s .words ≡ s .words
     unfolding deviceWrite
     deviceWrite-words = refl
 
-    pub deviceWrite-memory-same : (o : ℕ) → o < b .page → memoryWord b (deviceWrite b f buffer s) f o ≡ getD buffer o 0
+    -- the words that it sends, the frame's others, and another frame's
+    pub deviceWrite-memory-same : (o : ℕ) → first ≤ o → o < first + length buffer → memoryWord b (deviceWrite b f first buffer s) f o ≡ getD buffer (o - first) 0
     unfolding deviceWrite memoryAt
-    deviceWrite-memory-same o ho = overlay-inside (s .memory) (frameAt b f) buffer fits o (omega arith)
+    deviceWrite-memory-same o low high =
+        ap (λ (x : ℕ). getD (overlay (s .memory) (memoryAt b f first) buffer) x 0) (omega arith)
+        ∙ overlay-inside (s .memory) (memoryAt b f first) buffer fits (o - first) (omega arith)
 
-    pub deviceWrite-memory-other : (g o : ℕ) → o < b .page → g ≢ f → memoryWord b (deviceWrite b f buffer s) g o ≡ memoryWord b s g o
-    unfolding deviceWrite
+    pub deviceWrite-memory-rest : (o : ℕ) → (first ≤ o → o < first + length buffer → ⊥) → memoryWord b (deviceWrite b f first buffer s) f o ≡ memoryWord b s f o
+    unfolding deviceWrite memoryAt
+    deviceWrite-memory-rest o out =
+        overlay-outside (s .memory) (memoryAt b f first) buffer fits (memoryAt b f o) (λ low high. out (omega arith) (omega arith))
+
+    pub deviceWrite-memory-other : (g o : ℕ) → o < b .page → g ≢ f → memoryWord b (deviceWrite b f first buffer s) g o ≡ memoryWord b s g o
+    unfolding deviceWrite memoryAt
     deviceWrite-memory-other g o ho ne =
-        overlay-outside (s .memory) (frameAt b f) buffer fits (memoryAt b g o)
-        (λ low high. ne (frameAt-within b reg f g o ho low (omega arith)))
+        overlay-outside (s .memory) (memoryAt b f first) buffer fits (memoryAt b g o)
+        (λ low high. ne (frameAt-within b reg f g o ho (omega arith) (omega arith)))

@@ -1,53 +1,16 @@
--- `machine::device_write` meets its contract.
-use mathlib.Core.Path.{refl, sym, _∙_}
-use mathlib.Core.List.{[]}
-use mathlib.Core.Option.{none}
+-- `machine::device_write` meets its contract: it is the write of all the page's words.
+use mathlib.Core.Path.{_∙_}
+use native.Mathlib.Omega.{arith}
 use borrow.Author.Needs.{needs}
 use Rattle.board.specs.Board.{board01}
-use Rattle.board.proofs.Geometry.{board01-regular}
-use Rattle.cache.specs.Cache as hardware
-use Rattle.machine.specs.Refusals.{ownCauses}
-use Rattle.machine.specs.Step.{accept}
-use Rattle.machine.proofs.StepLaws.{transfer-requires, planned-refused, stepped-made}
+use Rattle.machine.proofs.Parts.{whole-part}
 use Rattle.machine.proofs.device_write.Statement.{statement}
 use Rattle.machine.proofs.device_write.Tie as tie
 
--- the places that the proof goes back to
-abbrev start-of : tie.After-plan-device-write → tie.Start
-start-of c = c .before .before .before .before .before .before .before .before .before .before .before
-
-abbrev plan-of : tie.After-commit-change → tie.After-plan
-plan-of c = c .before .before .before .before .before .before
-
-receive-requires : tie.Need-receive-requires
-unfolding ownCauses
-receive-requires c κs =
-    let commit = c .before .before .before .before .before .before in
-    let at = plan-of commit in
-    let plan = at .before .before in
-    let a = start-of plan .args in
-    transfer-requires board01 _ _ _ (a .frame) (a .buffer .now) [] board01-regular
-    (sym (plan .plan-device-write .ensures) ∙ at .plan .given .1) refl refl
-
 returns : tie.Need-returns
 returns c =
-    let plan = c .before .before .before in
-    planned-refused _ _ _ _ (plan .plan-device-write .ensures) (c .before .enum-told .given .1) (c .refusal-of .ensures)
-
-returns-2 : tie.Need-returns-2
-unfolding accept
-returns-2 c =
-    let receive = c .before .before .before .before in
-    let commit = receive .before .before .before .before .before .before .before in
-    let at = plan-of commit in
-    let plan = at .before .before in
-    let a = start-of plan .args in
-    stepped-made board01 _ _ _ (sym (plan .plan-device-write .ensures) ∙ at .plan .given .1)
-    (λ f x. none) (λ f x. []) (λ f. hardware.deviceWrite board01 f (a .buffer .now)) refl
-    refl refl (commit .commit-change .ensures board01 refl) (receive .receive .ensures)
+    let called = c .before .before .before .before .before .before .before .before in
+    called .device-write-part .ensures ∙ whole-part board01 (omega arith) _ _ _
 
 pub device-write-spec : {M : Type 1} → statement M
-device-write-spec =
-    tie.close
-    (tie.spec (λ c κs. board01-regular) (λ c. search needs) (λ c. search needs) (λ c κs. search needs) (λ c. search needs) (λ c. search needs) (λ c. search needs) (λ c. search needs) returns
-    (λ c κs. search needs) (λ c. search needs) receive-requires (λ c. search needs) (λ c. search needs) (λ c. search needs) (λ c. search needs) returns-2)
+device-write-spec = tie.close (tie.spec (λ c κs. search needs) (λ c. search needs) (λ c. search needs) (λ c. search needs) (λ c. search needs) returns)

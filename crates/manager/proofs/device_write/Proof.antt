@@ -1,30 +1,15 @@
--- `manager::device_write` meets its contract.
-use mathlib.Core.Path.{refl, ap, _∙_}
+-- `manager::device_write` meets its contract: it is the transfer of all the page's words.
+use mathlib.Core.Path.{ap, _∙_}
+use native.Mathlib.Omega.{arith}
+use borrow.Author.Needs.{needs}
 use Rattle.board.specs.Board.{board01}
 use Rattle.manager.specs.Calls.{stepResult}
-use borrow.Author.Needs.{needs}
-use Rattle.board.proofs.Geometry.{board01-regular}
+use Rattle.manager.proofs.Parts.{whole-plan}
 use Rattle.manager.proofs.device_write.Statement.{statement}
 use Rattle.manager.proofs.device_write.Tie as tie
 
-plan-device-write-requires : tie.Need-plan-device-write-requires
-plan-device-write-requires c κs = board01-regular
-
-carry-out-requires : tie.Need-carry-out-requires
-carry-out-requires c κs = search needs
-
-same-length : tie.Need-same-length
-same-length c = search needs
-
-same-length-2 : tie.Need-same-length-2
-same-length-2 c = search needs
-
 returns : tie.Need-returns
-returns c =
-    let after-plan-device-write = c .before .before .before .before .before .before .before in
-    c .before .before .before .before .carry-out .ensures board01 refl ∙ ap (stepResult board01 _) (after-plan-device-write .plan-device-write .ensures)
+returns c = c .before .before .before .before .device-write-part .ensures ∙ ap (stepResult board01 _) (whole-plan board01 (omega arith) _ _)
 
 pub device-write-spec : {M : Type 1} → statement M
-device-write-spec =
-    tie.close
-    (tie.spec plan-device-write-requires carry-out-requires same-length same-length-2 returns)
+device-write-spec = tie.close (tie.spec (λ c κs. search needs) (λ c. search needs) (λ c. search needs) returns)

@@ -1,9 +1,8 @@
 -- `cache::device::device_write` meets its contract.
 use borrow.Author.Needs.{needs}
-use mathlib.Core.Path.{ap, _∙_}
+use mathlib.Core.Path.{refl, ap}
 use mathlib.Core.List.{List}
 use Prim.Native.Nat.{ℕ}
-use Rattle.board.proofs.Geometry.{memoryAt-zero}
 use Rattle.cache.specs.Store.{store}
 use Rattle.cache.specs.Cache.{deviceWrite}
 use Rattle.cache.proofs.Laws.Part.{part-back}
@@ -37,10 +36,10 @@ same-length c = search needs
 returns : tie.Need-returns
 unfolding deviceWrite
 returns c words tags =
-    let to = c .before .before .before .before .before in
+    let to = c .before .before .before .before in
     let start = to .before .before .before in
     ap (λ (m : List ℕ). store m words tags)
-    (part-back (start .args .memory .now) _ (to .memory-at .ensures .0 ∙ memoryAt-zero _ (start .pre .3) (start .args .frame)) (c .before .before .copy .ensures) (start .pre .1))
+    (part-back (start .args .memory .now) _ (to .memory-at .ensures .0) (c .before .before .copy .ensures) refl)
 
 pub device-write-spec : {M : Type 1} → statement M
 device-write-spec =

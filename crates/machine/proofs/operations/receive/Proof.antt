@@ -10,7 +10,7 @@ returns c =
     let done = c .before .before in
     let orders = done .before .before .before .before .before .before in
     let s = orders .before .before .before .before .before .before .before in
-    done .device-write .ensures _ _ ∙ ap (deviceWrite (s .args .board) (s .args .frame) (s .args .buffer .now)) (orders .carry-out .ensures)
+    done .device-write .ensures _ _ ∙ ap (deviceWrite (s .args .board) (s .args .frame) (s .args .first) (s .args .buffer .now)) (orders .carry-out .ensures)
 
 pub receive-spec : {M : Type 1} → statement M
 receive-spec = tie.close (tie.spec (λ c κs. search needs) (λ c κs. search needs) (λ c. search needs) (λ c. search needs) returns)

@@ -6,17 +6,16 @@ use native.Mathlib.Omega.{arith}
 use borrow.Author.Count.{below-none, below-more}
 use lib.ListN.{length, getD}
 use lib.Seq.{getD-set-same, getD-set-other, ext-getD}
-use Rattle.board.specs.Board.{board01}
 use Rattle.manager.proofs.Laws.{length-tabulate, getD-tabulate}
 use Rattle.sheet_codec.specs.Format.{sentWord}
 use Rattle.run_sheet.proofs.steps.count_up.Statement.{statement}
 use Rattle.run_sheet.proofs.steps.count_up.Tie as tie
 
 abbrev Inv-loop : tie.InvT-loop
-Inv-loop buffer₀ w i₀ buffer i = (i ≤ board01 .page) × (length buffer ≡ board01 .page) × ((k : ℕ) → k < i → getD buffer k 0 ≡ sentWord w k)
+Inv-loop buffer₀ w i₀ buffer i = (i ≤ length buffer₀) × (length buffer ≡ length buffer₀) × ((k : ℕ) → k < i → getD buffer k 0 ≡ sentWord w k)
 
 abbrev μ-loop : tie.MeasureT-loop
-μ-loop buffer₀ w i₀ buffer i = board01 .page - i
+μ-loop buffer₀ w i₀ buffer i = length buffer₀ - i
 
 loop-holds : tie.Need-loop-holds Inv-loop μ-loop
 loop-holds c = (search needs, search needs, below-none _)
@@ -52,7 +51,7 @@ returns : tie.Need-returns Inv-loop μ-loop
 returns c =
     let l = c .before .loop in
     let f = sentWord (c .before .before .before .args .w) in
-    let n = board01 .page in
+    let n = length (c .before .before .before .args .buffer .now) in
     ext-getD 0 (l .buffer) _ (l .inv .1 ∙ sym (length-tabulate n f)) (λ k h. l .inv .2 k (omega arith) ∙ sym (getD-tabulate n f k (omega arith)))
 
 pub count-up-spec : {M : Type 1} → statement M

@@ -23,12 +23,15 @@ returns-6 : tie.Need-returns-6
 returns-6 c = let e : c .before .args .n ≡ 6 = c .match .keys6 in rw e
 
 returns-7 : tie.Need-returns-7
-returns-7 c =
+returns-7 c = let e : c .before .args .n ≡ 7 = c .match .keys7 in rw e
+
+returns-8 : tie.Need-returns-8
+returns-8 c =
     let n = c .before .args .n in
     let r = c .match .rest in
     simp
-    (ne-eqb n 1 (r .0 .0 .0 .0 .0 .1), ne-eqb n 2 (r .0 .0 .0 .0 .1), ne-eqb n 3 (r .0 .0 .0 .1), ne-eqb n 4 (r .0 .0 .1), ne-eqb n 5 (r .0 .1), ne-eqb n 6 (r .1))
+    (ne-eqb n 1 (r .0 .0 .0 .0 .0 .0 .1), ne-eqb n 2 (r .0 .0 .0 .0 .0 .1), ne-eqb n 3 (r .0 .0 .0 .0 .1), ne-eqb n 4 (r .0 .0 .0 .1), ne-eqb n 5 (r .0 .0 .1), ne-eqb n 6 (r .0 .1), ne-eqb n 7 (r .1))
 
 pub kind-of-spec : {M : Type 1} → statement M
 kind-of-spec =
-    tie.close (tie.spec returns returns-2 returns-3 returns-4 returns-5 returns-6 returns-7)
+    tie.close (tie.spec returns returns-2 returns-3 returns-4 returns-5 returns-6 returns-7 returns-8)
