@@ -20,6 +20,7 @@ BEGIN {
     instruction("device-write", "step", 4, "FRAME s WORD w")
     instruction("evict", "step", 5, "LINE s")
     instruction("unmap", "step", 6, "SPACE s PAGE p")
+    instruction("device-write-part", "step", 7, "FRAME s FIRST p NUMBER o WORD w")
 
     # A word that stands for a number in a field.
     word_for("RIGHTS", 1, "r")

@@ -71,14 +71,20 @@ fn evictions(memory: &mut [u32; 4096], words: &mut [u32; 512], tags: &mut [u8; 6
     show::memory_word(memory, 0, 8);
 }
 
-// A transfer moves the 64 words of its frame and touches no neighbour.
+// A transfer moves the 64 words of its frame, or its last twelve, and touches no neighbour.
 fn transfers(memory: &mut [u32; 4096]) {
     io::write_all(STDOUT_FILENO, b"transfers\n");
     let mut buffer = [0u32; 64];
     show::count_up(&mut buffer, 100);
-    show::device_write(memory, &buffer, 62);
+    show::device_write(memory, &buffer, 62, 0);
     show::memory_word(memory, 61, 63);
     show::memory_word(memory, 62, 0);
+    show::memory_word(memory, 62, 63);
+    show::memory_word(memory, 63, 0);
+    show::count_up(&mut buffer, 7000);
+    show::device_write(memory, &buffer[0..12], 62, 52);
+    show::memory_word(memory, 62, 51);
+    show::memory_word(memory, 62, 52);
     show::memory_word(memory, 62, 63);
     show::memory_word(memory, 63, 0);
     show::device_read(memory, &mut buffer, 3);

@@ -1,7 +1,8 @@
 // One step of the cache each, and a line of text on what it left. A step whose tags break the rules is left out.
 use board::BOARD01;
 use libc::STDOUT_FILENO;
-ghost use Prim.Native.Nat.{_<_};
+ghost use Prim.Native.Nat.{_+_, _<_, _≤_};
+ghost use lib.ListN.{length};
 ghost use Rattle.board.specs.Board.{board01};
 
 // Reads a word, and writes it and the line's tag.
@@ -81,13 +82,13 @@ pub fn evict(memory: &mut [u32; 4096], words: &[u32; 512], tags: &mut [u8; 64], 
     }
 }
 
-// Transfers a device's buffer to a frame.
-pub fn device_write(memory: &mut [u32; 4096], buffer: &[u32; 64], frame: usize)
-    requires { ⌜ frame < board01 .frames ⌝ }
+// Transfers a device's buffer to a frame, from an offset on.
+pub fn device_write(memory: &mut [u32; 4096], buffer: &[u32], frame: usize, first: usize)
+    requires { ⌜ (frame < board01 .frames) × (0 < length (now buffer)) × (first + length (now buffer) ≤ board01 .page) ⌝ }
 {
-    cache::device::device_write(BOARD01, memory, buffer, frame);
+    cache::device::device_write(BOARD01, memory, buffer, frame, first);
     io::write_all(STDOUT_FILENO, b"device write ");
-    one(frame as u64);
+    two(frame as u64, first as u64);
 }
 
 // Transfers a frame to a device's buffer.

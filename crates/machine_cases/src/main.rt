@@ -11,11 +11,15 @@ use mapping::MappingList;
 use show::entry;
 ghost use Prim.Native.Nat.{_≤_};
 
+// The largest number.
+const MOST: usize = 18446744073709551615;
+
 fn main() {
     lengths();
     tags();
     tables();
     lists();
+    parts();
     refused();
     accepted();
 }
@@ -181,6 +185,60 @@ fn pair() -> Batch {
     Batch { items, count: 2 }
 }
 
+// ---- parts of a page
+
+// Each on what the rows are given: words up to the last offset, all, all but the last, all but the first; words past the page, none, and a sum that no
+// word holds; a buffer one short and one long, and a number that no buffer has; then a frame that is not there, beside a tag, and beside a short buffer.
+fn parts() {
+    io::write_all(STDOUT_FILENO, b"parts\n");
+    part(12, 0, 3, 52, 12);
+    part(64, 0, 3, 0, 64);
+    part(63, 0, 3, 0, 63);
+    part(63, 0, 3, 1, 63);
+    part(12, 0, 3, 53, 12);
+    part(1, 0, 3, 64, 1);
+    part(65, 0, 3, 0, 65);
+    part(0, 0, 3, 52, 0);
+    part(1, 0, 3, MOST, 1);
+    part(11, 0, 3, 52, 12);
+    part(13, 0, 3, 52, 12);
+    part(12, 0, 3, MOST, MOST);
+    part(12, 0, 64, 53, 12);
+    part(12, 65, 64, 53, 12);
+    part(11, 65, 64, 53, 12);
+}
+
+// From a buffer of b words, with this tag of line 40.
+fn part(b: usize, tag: u8, frame: u8, first: usize, number: usize)
+    requires { ⌜ b ≤ 65 ⌝ }
+{
+    let mut r = [0u32; 192];
+    let mut p = [9u8; 256];
+    let mut m = [70u32; 4096];
+    let w = [80u32; 512];
+    let mut t = [0u8; 64];
+    let buffer = [90u32; 65];
+    r[9] = 1;
+    r[11] = 1;
+    t[0] = 132;
+    t[40] = tag;
+    let b = &buffer[0..b];
+    show::device_write_part(
+        two_pages(),
+        &mut r,
+        &mut p,
+        &mut m,
+        &w,
+        &mut t,
+        b,
+        frame,
+        first,
+        number,
+    );
+    show::frame_words(&m);
+    show::left(&r, &p, &m, &w, &t);
+}
+
 // ---- other refusals, on what the rows are given
 
 fn refused() {
@@ -290,6 +348,7 @@ fn accepted() {
     reads_out(two, &mut r, &mut p, &mut m, &mut w, &mut t);
     evictions(two, &mut r, &mut p, &mut m, &mut w, &mut t);
     unmapped(two, &mut r, &mut p, &mut m, &mut w, &mut t);
+    received(two, &mut r, &mut p, &mut m, &mut w, &mut t, &b);
 }
 
 // A read, a write and an eviction, each with what it leaves.
@@ -430,4 +489,22 @@ fn unmapped(
     let two = show::map_all(one, r, p, m, w, t, pair(), &mut answers);
     show::left(r, p, m, w, t);
     read(two, r, p, m, w, t, 0, 17, 0);
+}
+
+// Twelve words under a page that a program reads: it then finds them, and the others.
+fn received(
+    list: MappingList,
+    r: &mut [u32; 192],
+    p: &mut [u8; 256],
+    m: &mut [u32; 4096],
+    w: &mut [u32; 512],
+    t: &mut [u8; 64],
+    b: &[u32; 64],
+) {
+    io::write_all(STDOUT_FILENO, b"received\n");
+    show::device_write_part(list, r, p, m, w, t, &b[0..12], 3, 2, 12);
+    show::left(r, p, m, w, t);
+    read(list, r, p, m, w, t, 1, 9, 2);
+    read(list, r, p, m, w, t, 1, 9, 13);
+    read(list, r, p, m, w, t, 1, 9, 14);
 }

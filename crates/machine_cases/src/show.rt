@@ -201,6 +201,37 @@ pub fn device_write(
     apart();
 }
 
+// A device writes so many words of a frame, from an offset on.
+pub fn device_write_part(
+    list: MappingList,
+    records: &mut [u32],
+    protections: &mut [u8],
+    memory: &mut [u32],
+    words: &[u32],
+    tags: &mut [u8],
+    buffer: &[u32],
+    frame: u8,
+    start: usize,
+    number: usize,
+) {
+    let answer = machine::device_write_part(
+        list,
+        records,
+        protections,
+        memory,
+        words,
+        tags,
+        buffer,
+        frame,
+        start,
+        number,
+    );
+    io::write_all(STDOUT_FILENO, b"device write part");
+    told(answer);
+    first(buffer);
+    apart();
+}
+
 // A line is turned out.
 pub fn evict(
     list: MappingList,
@@ -248,6 +279,20 @@ pub fn word(name: &[u8], s: &[u32], at: usize) {
         spaced(long(s[at]));
     }
     end();
+}
+
+// s: the words of memory before and behind frame 3, and between these the frame's at offsets 0, 1, 51, 52, 62 and 63.
+pub fn frame_words(memory: &[u32; 4096]) {
+    io::write_all(STDOUT_FILENO, b"s");
+    spaced(long(memory[191]));
+    spaced(long(memory[192]));
+    spaced(long(memory[193]));
+    spaced(long(memory[243]));
+    spaced(long(memory[244]));
+    spaced(long(memory[254]));
+    spaced(long(memory[255]));
+    spaced(long(memory[256]));
+    apart();
 }
 
 // Fills a slice with the numbers from first on.

@@ -10,6 +10,9 @@ use mapping::MappingList;
 use show::entry;
 ghost use Prim.Native.Nat.{_≤_};
 
+// The largest number.
+const MOST: usize = 18446744073709551615;
+
 fn main() {
     let two = limits();
     orders();
@@ -33,6 +36,7 @@ fn limits() -> MappingList {
     first_refusals(list, &records, &mut protections);
     page_limits(list, &mut records, &mut protections);
     frame_limits(list, &mut records, &mut protections);
+    part_limits(list, &mut records, &mut protections);
     unmap_limits(list, &mut records, &mut protections);
     list
 }
@@ -74,6 +78,17 @@ fn frame_limits(list: MappingList, records: &mut [u32; 192], protections: &mut [
     show::device_write(list, records, protections, 255);
 }
 
+// Twelve words from offset 53 on, of a frame that is not there and of one that is; 65 words; none; sums that no word holds; and twelve from 52 on.
+fn part_limits(list: MappingList, records: &mut [u32; 192], protections: &mut [u8; 256]) {
+    show::device_write_part(list, records, protections, 64, 53, 12);
+    show::device_write_part(list, records, protections, 63, 53, 12);
+    show::device_write_part(list, records, protections, 63, 0, 65);
+    show::device_write_part(list, records, protections, 63, 52, 0);
+    show::device_write_part(list, records, protections, 63, MOST, 1);
+    show::device_write_part(list, records, protections, 63, MOST, MOST);
+    show::device_write_part(list, records, protections, 63, 52, 12);
+}
+
 fn unmap_limits(list: MappingList, records: &mut [u32; 192], protections: &mut [u8; 256]) {
     let left = show::unmap(list, records, protections, 0, 0);
     show::unmap(left, records, protections, 0, 0);
@@ -92,6 +107,7 @@ fn orders() {
     let two = show::map(one, &records, &mut protections, entry(1, 9, 3, 1));
     accesses(two, &mut records, &mut protections);
     transfers(two, &mut records, &mut protections);
+    parts(two, &mut records, &mut protections);
     unmapped(two, &mut records, &mut protections);
 }
 
@@ -113,6 +129,17 @@ fn transfers(list: MappingList, records: &mut [u32; 192], protections: &mut [u8;
     show::device_write(list, records, protections, 3);
     show::write(list, records, protections, 0, 0);
     show::device_read(list, records, protections, 4);
+}
+
+// A part over a dirty page is flushed, under a page that is read goes stale; all the words are the page.
+fn parts(list: MappingList, records: &mut [u32; 192], protections: &mut [u8; 256]) {
+    show::device_write_part(list, records, protections, 3, 4, 12);
+    show::read(list, records, protections, 1, 9);
+    show::device_write_part(list, records, protections, 3, 0, 63);
+    show::read(list, records, protections, 1, 9);
+    show::write(list, records, protections, 0, 0);
+    show::device_write_part(list, records, protections, 3, 0, 64);
+    show::write(list, records, protections, 0, 0);
 }
 
 // An unmap moves the later mappings down and leaves the record.
@@ -201,6 +228,7 @@ fn lengths() {
     show::write(list, &mut records, &mut short, 0, 0);
     show::device_read(list, &mut records, &mut long, 64);
     show::device_write(list, &mut long_records, &mut short, 0);
+    show::device_write_part(list, &mut long_records, &mut protections, 64, 0, 0);
     show::device_write(list, &mut records, &mut protections, 0);
 }
 
@@ -237,6 +265,7 @@ fn exchanged(one: MappingList) {
     show::write(list, &mut records, &mut protections, 1, 8);
     show::device_read(list, &mut records, &mut protections, 3);
     show::device_write(list, &mut records, &mut protections, 3);
+    show::device_write_part(list, &mut records, &mut protections, 3, 0, 0);
     show::device_read(one, &mut records, &mut protections, 3);
 }
 

@@ -89,6 +89,20 @@ pub fn device_write(list: MappingList, records: &mut [u32], protections: &mut [u
     line(answer, protections);
 }
 
+// A device writes so many words of a frame, from an offset on.
+pub fn device_write_part(
+    list: MappingList,
+    records: &mut [u32],
+    protections: &mut [u8],
+    frame: u8,
+    first: usize,
+    number: usize,
+) {
+    let answer = manager::device_write_part(list, records, protections, frame, first, number);
+    io::write_all(STDOUT_FILENO, b"device write part ");
+    line(answer, protections);
+}
+
 // The list: n, how many are listed, and l, the first four places by space, page, frame and rights.
 pub fn places(list: MappingList) {
     io::write_all(STDOUT_FILENO, b"n ");

@@ -15,8 +15,8 @@ slice-aggregate-write-all c = search needs
 write-all-requires : tie.Need-write-all-requires
 write-all-requires c κs = search needs
 
-one-requires : tie.Need-one-requires
-one-requires c κs = search needs
+two-requires : tie.Need-two-requires
+two-requires c κs = search needs
 
 returns : tie.Need-returns
 returns c = search needs
@@ -28,5 +28,5 @@ device-write-spec =
     device-write-requires
     slice-aggregate-write-all
     write-all-requires
-    one-requires
+    two-requires
     returns)
