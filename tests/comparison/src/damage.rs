@@ -71,7 +71,7 @@ impl Damage {
             Self::Kind => {
                 if !sheet.steps.is_empty() {
                     let at = random.below(sheet.steps.len());
-                    sheet.steps[at][0] = random.pick(&[0, 7, 8, 129, 255]);
+                    sheet.steps[at][0] = random.pick(&[0, 8, 9, 129, 255]);
                 }
                 sheet.encode()
             }

@@ -14,13 +14,14 @@ const LINES: usize = 64;
 const COLOURS: usize = 8;
 const LINE_WORDS: usize = 8;
 
-/// The kinds of step, by the numbers of document 01.
+/// The kinds of step, by the numbers of documents 01 and 02.
 pub const READ: u8 = 1;
 pub const WRITE: u8 = 2;
 pub const DEVICE_READ: u8 = 3;
 pub const DEVICE_WRITE: u8 = 4;
 pub const EVICT: u8 = 5;
 pub const UNMAP: u8 = 6;
+pub const DEVICE_WRITE_PART: u8 = 7;
 
 pub type Mapping = [u8; 5];
 pub type Step = [u8; 9];
@@ -55,8 +56,8 @@ pub fn sheet(seed: u64, number: u64) -> (Vec<u8>, Option<Damage>) {
     }
 }
 
-/// A sheet to measure with: this many mappings, and as many steps as a sheet may have, of all kinds
-/// but unmap. Nothing is refused.
+/// A sheet to measure with: this many mappings, and as many steps as a sheet may have, of kinds 1 to 5,
+/// so that an older program takes it too. Nothing is refused.
 pub fn accepted_sheet(seed: u64, mappings: usize) -> Vec<u8> {
     let mut random = Random::new(seed, mappings as u64);
     let plan = Plan {
@@ -68,7 +69,7 @@ pub fn accepted_sheet(seed: u64, mappings: usize) -> Vec<u8> {
         offsets: (0..OFFSETS).collect(),
         read_only: 0,
         bad: 0,
-        weights: [45, 35, 6, 6, 8, 0],
+        weights: [45, 35, 6, 6, 8, 0, 0],
     };
     Maker::make(&mut random, plan).encode()
 }
@@ -86,7 +87,7 @@ struct Plan {
     /// How many of 100 calls are to be refused.
     bad: usize,
     /// How often each kind of step comes, from kind 1.
-    weights: [usize; 6],
+    weights: [usize; 7],
 }
 
 impl Plan {
@@ -123,11 +124,12 @@ impl Plan {
             read_only: random.pick(&[0, 10, 30]),
             bad: random.pick(&[0, 0, 5, 30]),
             weights: random.pick(&[
-                [40, 40, 6, 6, 7, 1],
-                [20, 20, 25, 25, 8, 2],
-                [30, 30, 4, 4, 30, 2],
-                [30, 30, 8, 8, 4, 20],
-                [10, 60, 5, 15, 10, 0],
+                [40, 40, 6, 6, 7, 1, 6],
+                [20, 20, 25, 15, 8, 2, 20],
+                [30, 30, 4, 4, 30, 2, 8],
+                [30, 30, 8, 8, 4, 20, 8],
+                [10, 60, 5, 10, 10, 0, 10],
+                [30, 35, 4, 4, 4, 1, 30],
             ]),
         }
     }
@@ -202,6 +204,10 @@ impl<'a> Maker<'a> {
             }
             DEVICE_READ => encode(kind, self.frame(), 0, 0, 0),
             DEVICE_WRITE => encode(kind, self.frame(), 0, 0, word),
+            DEVICE_WRITE_PART => {
+                let (offset, count) = self.part();
+                encode(kind, self.frame(), offset, count, word)
+            }
             EVICT => encode(kind, self.line(), 0, 0, 0),
             _ => {
                 let place = self.leaving_place();
@@ -256,6 +262,46 @@ impl<'a> Maker<'a> {
             0 => self.random.below(FRAMES) as u8,
             _ => self.random.pick(&self.plan.frames) as u8,
         }
+    }
+
+    /// The first offset and the number of a part's words: in the page, unless it is to be refused.
+    fn part(&mut self) -> (u16, u8) {
+        let [none, past, beyond, _] = self.faults();
+        let (mut first, mut count) = self.part_in_page();
+        if none {
+            count = 0;
+        }
+        if past {
+            let one = OFFSETS - first + 1;
+            count = self.random.pick(&[one, one, 128, 255]);
+        }
+        if beyond {
+            // The page's end, a low byte that would do, and sums that two bytes do not hold.
+            let sum = 65536 - count.max(1);
+            let far = [64, 65, first + 256, first | 0x8000, sum, 65535];
+            first = self.random.pick(&far);
+        }
+        (first as u16, count as u8)
+    }
+
+    /// All words, all but one, all from an offset on, a receiver's twelve, or any. Often the first is one
+    /// that programs reach, or the next.
+    fn part_in_page(&mut self) -> (usize, usize) {
+        let reached = self.random.pick(&self.plan.offsets);
+        let any = self.random.below(OFFSETS);
+        let first = self.random.pick(&[reached, (reached + 1) % OFFSETS, any]);
+        let left = OFFSETS - first;
+        let some = (first, 1 + self.random.below(left));
+        self.random.pick(&[
+            (0, OFFSETS),
+            (0, OFFSETS - 1),
+            (1, OFFSETS - 1),
+            (first, left),
+            (first, left.min(12)),
+            some,
+            some,
+            some,
+        ])
     }
 
     fn line(&mut self) -> u8 {

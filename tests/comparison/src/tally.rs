@@ -2,7 +2,7 @@
 //! left out.
 
 use crate::damage::Damage;
-use crate::generate::{MAPPINGS, STEPS};
+use crate::generate::{DEVICE_WRITE_PART, MAPPINGS, STEPS};
 use std::collections::BTreeMap;
 use std::fmt;
 
@@ -24,9 +24,10 @@ const fn kind(name: &'static str, orders: &'static [usize], refusals: &'static [
     }
 }
 
-/// The mappings, then the steps by their number. No sheet meets refusal 1 or 2, since the program's
-/// own buffers have their lengths and keep the rules, or 9, since no mapping follows the 256th.
-const KINDS: [Kind; 7] = [
+/// The mappings, then the steps by their number, parts by how they lie to their page. No sheet meets
+/// refusal 1 or 2, since the program's own buffers have their lengths and keep the rules, or 9, since no
+/// mapping follows the 256th.
+const KINDS: [Kind; 15] = [
     kind("map", &[0], &[3, 4, 5, 7]),
     kind("read", &[0, 1, 2, 3], &[3, 6, 8]),
     kind("write", &[0, 1, 2, 3], &[3, 6, 8, 10]),
@@ -34,7 +35,36 @@ const KINDS: [Kind; 7] = [
     kind("device write", &[0, 2], &[4]),
     kind("evict", &[0], &[6]),
     kind("unmap", &[0], &[3, 8]),
+    kind("part no words", &[], &[4, 13]),
+    kind("part whole", &[0, 2], &[4]),
+    kind("part inside", &[0, 1], &[4]),
+    kind("part to end", &[0, 1], &[4]),
+    kind("part one past", &[], &[4, 13]),
+    kind("part past", &[], &[4, 13]),
+    kind("part beyond", &[], &[4, 13]),
+    kind("part overflow", &[], &[4, 13]),
 ];
+
+/// The place in `KINDS` of a step.
+fn kind_of(step: &[u8]) -> usize {
+    let kind = usize::from(step[0]);
+    if step[0] != DEVICE_WRITE_PART {
+        return kind;
+    }
+    let first = usize::from(u16::from_le_bytes([step[2], step[3]]));
+    let count = usize::from(step[4]);
+    kind + match (first, count, first + count) {
+        (_, 0, _) => 0,
+        (0, _, 64) => 1,
+        (_, _, ..64) => 2,
+        (_, _, 64) => 3,
+        (_, _, 65) => 4,
+        (..64, _, _) => 5,
+        (_, _, ..65536) => 6,
+        // The sum does not fit the first offset's two bytes.
+        _ => 7,
+    }
+}
 
 #[derive(Default)]
 pub struct Tally {
@@ -62,8 +92,7 @@ impl Tally {
         self.full_lists += u64::from(listed == MAPPINGS);
         self.full_steps += u64::from(steps.len() == STEPS);
 
-        let kinds = steps.map(|step| usize::from(step[0]));
-        let calls = std::iter::repeat_n(0, mappings).chain(kinds);
+        let calls = std::iter::repeat_n(0, mappings).chain(steps.map(kind_of));
         for (kind, line) in calls.zip(text.lines()) {
             let words: Vec<&str> = line.split(' ').collect();
             match words[1].parse().expect("every line has a number") {
@@ -146,4 +175,36 @@ impl fmt::Display for Tally {
 fn counts<K: fmt::Debug>(counts: &BTreeMap<K, u64>) -> String {
     let each = counts.iter().map(|(what, n)| format!("  {what:?}: {n}"));
     each.collect()
+}
+
+#[cfg(test)]
+mod tests {
+    use super::*;
+
+    #[test]
+    fn parts_by_how_they_lie() {
+        let rows: [(u16, u8, &str); 16] = [
+            (0, 0, "part no words"),
+            (65535, 0, "part no words"),
+            (0, 64, "part whole"),
+            (0, 63, "part inside"),
+            (62, 1, "part inside"),
+            (1, 63, "part to end"),
+            (63, 1, "part to end"),
+            (0, 65, "part one past"),
+            (63, 2, "part one past"),
+            (64, 1, "part one past"),
+            (63, 3, "part past"),
+            (0, 255, "part past"),
+            (64, 2, "part beyond"),
+            (65280, 255, "part beyond"),
+            (65535, 1, "part overflow"),
+            (65535, 255, "part overflow"),
+        ];
+        for (first, count, name) in rows {
+            let [low, high] = first.to_le_bytes();
+            let step = [DEVICE_WRITE_PART, 0, low, high, count, 0, 0, 0, 0];
+            assert_eq!(KINDS[kind_of(&step)].name, name, "{first} {count}");
+        }
+    }
 }

@@ -58,7 +58,15 @@ impl<O: Order> Buffers<O> {
                     ..accepted
                 })
             }
-            Call::DeviceWrite { frame, first } => lent.device_write(frame, &sent(first)),
+            Call::DeviceWrite { frame, first } => {
+                lent.device_write(frame, &sent(first, PAGE_WORDS))
+            }
+            Call::DeviceWritePart {
+                frame,
+                offset,
+                count,
+                first,
+            } => lent.device_write_part(frame, offset, count, &sent(first, count)),
             Call::Evict { line } => lent.evict(line),
         }
     }

@@ -5,7 +5,7 @@ use crate::every;
 use crate::hardware::Hardware;
 use crate::list::{MappingList, Order, MAPPINGS};
 use crate::record::{self, Record, RECORDS_WORDS};
-use peer::board::{Frame, Line, Offset, Place, PAGE_WORDS};
+use peer::board::{Frame, Line, Offset, Part, Place, PAGE_WORDS};
 use peer::call::{Accepted, Answer, Found, Mapping, Operations};
 use peer::record::{Access, Transfer};
 use peer::Refusal;
@@ -62,15 +62,30 @@ impl<O: Order> Lent<'_, O> {
 
     /// The device takes the frame's words into its buffer.
     pub fn device_read(&mut self, frame: u8, buffer: &mut [u32]) -> Answer {
-        let (frame, operations) = self.transfer(Transfer::Read, frame, buffer.len())?;
+        self.test_with(buffer, PAGE_WORDS)?;
+        let frame = Frame::new(frame)?;
+        let operations = self.transfer(Transfer::Read, frame);
         buffer.copy_from_slice(self.hardware.page(frame));
         self.accept(operations, Found::Nothing)
     }
 
     /// The device sends the words of its buffer to the frame.
     pub fn device_write(&mut self, frame: u8, buffer: &[u32]) -> Answer {
-        let (frame, operations) = self.transfer(Transfer::Write, frame, buffer.len())?;
-        self.hardware.page(frame).copy_from_slice(buffer);
+        self.device_write_part(frame, 0, PAGE_WORDS, buffer)
+    }
+
+    /// The device sends the words of its buffer, so many, to the frame's from the offset on.
+    pub fn device_write_part(
+        &mut self,
+        frame: u8,
+        offset: usize,
+        count: usize,
+        buffer: &[u32],
+    ) -> Answer {
+        self.test_with(buffer, count)?;
+        let (frame, part) = (Frame::new(frame)?, Part::new(offset, count)?);
+        let operations = self.transfer(Transfer::write(part), frame);
+        self.hardware.page(frame)[part.offsets()].copy_from_slice(buffer);
         self.accept(operations, Found::Nothing)
     }
 
@@ -105,20 +120,17 @@ impl<O: Order> Lent<'_, O> {
         self.accept(operations, found)
     }
 
-    /// What comes before a transfer, with a device buffer of this length.
-    fn transfer(
-        &mut self,
-        transfer: Transfer,
-        frame: u8,
-        length: usize,
-    ) -> Result<(Frame, Operations), Refusal> {
-        if length != PAGE_WORDS {
+    /// What comes before a transfer.
+    fn transfer(&mut self, transfer: Transfer, frame: Frame) -> Operations {
+        self.step(frame, |record| record::transfer(record, transfer, frame))
+    }
+
+    /// Refusals 1 and 2 of a call that is lent a device's buffer too, to be of this length.
+    fn test_with(&self, buffer: &[u32], length: usize) -> Result<(), Refusal> {
+        if buffer.len() != length {
             return Err(Refusal::Length);
         }
-        self.test()?;
-        let frame = Frame::new(frame)?;
-        let operations = self.step(frame, |record| record::transfer(record, transfer, frame));
-        Ok((frame, operations))
+        self.test()
     }
 
     /// Refusals 1 and 2: tests all that the call is lent.

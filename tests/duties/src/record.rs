@@ -57,7 +57,7 @@ pub fn access(
     }
 }
 
-/// The record after a transfer of the whole page, and what is due before it.
+/// The record after a transfer, and what is due before it.
 pub fn transfer(
     [held, stale, dirty]: Record,
     transfer: Transfer,
@@ -65,11 +65,11 @@ pub fn transfer(
 ) -> (Record, Operations) {
     let next = match (transfer, dirty) {
         (Transfer::Read, 0) => [held, stale, 0],
-        (Transfer::Write, 0) => [0, stale | held, 0],
+        (Transfer::Write | Transfer::WritePart, 0) => [0, stale | held, 0],
         _ => [0, stale, 0],
     };
     let due = match transfer {
-        Transfer::Read => Operation::Flush,
+        Transfer::Read | Transfer::WritePart => Operation::Flush,
         Transfer::Write => Operation::Purge,
     };
     let dirty_colour = if dirty == 0 { None } else { lowest(held) };
@@ -133,7 +133,7 @@ mod tests {
                     );
                 }
             }
-            for kind in [Transfer::Read, Transfer::Write] {
+            for kind in [Transfer::Read, Transfer::Write, Transfer::WritePart] {
                 let mut right = before;
                 let due = right.transfer(frame, kind);
                 let (next, operations) = transfer(record, kind, frame);

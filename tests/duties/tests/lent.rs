@@ -4,7 +4,9 @@
 use duties::buffers::Buffers;
 use duties::list::{AllPairs, AllPairsPacked, Neighbours, Order, MAPPINGS};
 use peer::call::{Call, Mapping};
-use peer::Refusal::{self, Length, Place, Rules};
+use peer::Refusal::{self, Frame, Length, Part, Place, Rules};
+
+const MAX: usize = usize::MAX;
 
 /// The words of a record, from its frame's first.
 const STALE: usize = 1;
@@ -36,6 +38,16 @@ fn write(space: u8, page: u16) -> Call {
     }
 }
 
+/// A part of frame 5.
+fn part(offset: usize, count: usize) -> Call {
+    Call::DeviceWritePart {
+        frame: 5,
+        offset,
+        count,
+        first: 1,
+    }
+}
+
 fn accept<O: Order>(buffers: &mut Buffers<O>, call: Call) {
     assert!(buffers.call(call).is_ok(), "{call:?}");
 }
@@ -50,7 +62,7 @@ fn started<O: Order>() -> Buffers<O> {
 }
 
 /// A call of each kind, which the started buffers accept.
-fn calls() -> [Call; 7] {
+fn calls() -> [Call; 8] {
     [
         Call::Map(mapping(2, 9, 7, 1)),
         Call::Unmap { space: 1, page: 8 },
@@ -58,6 +70,7 @@ fn calls() -> [Call; 7] {
         write(1, 9),
         Call::DeviceRead { frame: 5 },
         Call::DeviceWrite { frame: 5, first: 1 },
+        part(20, 12),
         Call::Evict { line: 0 },
     ]
 }
@@ -74,7 +87,7 @@ fn refusal<O: Order + Clone + PartialEq>(change: Change<O>) -> Option<Refusal> {
         assert!(refusal.is_none() || buffers == before, "{call:?}");
         refusal
     });
-    assert_eq!(answers, [answers[0]; 7]);
+    assert_eq!(answers, [answers[0]; 8]);
     answers[0]
 }
 
@@ -113,6 +126,54 @@ fn another_length_is_refused() {
     lengths::<AllPairs>();
     lengths::<AllPairsPacked>();
     lengths::<Neighbours>();
+}
+
+/// The tag of line 0; a part's frame, first offset and number; the words lent; and the refusal.
+const PARTS: [(u8, u8, usize, usize, usize, Refusal); 16] = [
+    // A buffer longer or shorter than the part, whatever else is wrong.
+    (0, 5, 20, 12, 11, Length),
+    (0, 5, 20, 12, 13, Length),
+    (0, 5, 20, 12, 64, Length),
+    (65, 64, MAX, 12, 11, Length),
+    (65, 64, 0, 0, 1, Length),
+    (65, 64, 0, 1, 0, Length),
+    (65, 64, 0, MAX, 64, Length),
+    (65, 64, MAX, 12, 12, Rules),
+    (65, 64, 0, 0, 0, Rules),
+    (0, 64, MAX, 12, 12, Frame),
+    (0, 64, 0, 0, 0, Frame),
+    (0, 63, 0, 0, 0, Part),
+    (0, 63, 53, 12, 12, Part),
+    (0, 63, 0, 65, 65, Part),
+    (0, 63, MAX, 1, 1, Part),
+    (0, 63, MAX, 65, 65, Part),
+];
+
+fn parts<O: Order + Clone + PartialEq>() {
+    for (at, (tag, frame, offset, count, length, refusal)) in PARTS.into_iter().enumerate() {
+        let mut buffers = started::<O>();
+        buffers.tags[0] = tag;
+        let before = buffers.clone();
+        let device = vec![9; length];
+        let mut lent = buffers.lend();
+        let answer = lent.device_write_part(frame, offset, count, &device);
+        assert_eq!(answer, Err(refusal), "{at}");
+        assert!(buffers == before, "{at}");
+    }
+    // Frame 5's words begin at 64 times 5. All others stay.
+    let mut buffers = started::<O>();
+    let mut right = buffers.memory.clone();
+    right[320 + 62..320 + 64].copy_from_slice(&[7, 8]);
+    let answer = buffers.lend().device_write_part(5, 62, 2, &[7, 8]);
+    assert!(answer.is_ok());
+    assert_eq!(buffers.memory, right);
+}
+
+#[test]
+fn parts_of_a_page() {
+    parts::<AllPairs>();
+    parts::<AllPairsPacked>();
+    parts::<Neighbours>();
 }
 
 fn rules<O: Order + Clone + PartialEq>() {
@@ -271,6 +332,13 @@ fn protections() {
         (read(0, 9), vec![(9, 1), (10, 0)]),
         (Call::Unmap { space: 0, page: 10 }, vec![(9, 1)]),
         (Call::DeviceWrite { frame: 5, first: 0 }, vec![(9, 0)]),
+        // A part makes a held colour stale and a dirty one empty.
+        (read(0, 9), vec![(9, 1)]),
+        (part(0, 1), vec![(9, 0)]),
+        (map(2, 2), vec![(2, 0), (9, 0)]),
+        (write(0, 2), vec![(2, 2), (9, 0)]),
+        (part(63, 1), vec![(2, 0), (9, 0)]),
+        (read(0, 2), vec![(2, 1), (9, 0)]),
     ];
     for (call, right) in rows {
         let right: Vec<_> = right

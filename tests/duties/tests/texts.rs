@@ -84,6 +84,34 @@ fn unmaps_and_refusals() {
     assert_eq!(check(&bytes(sheet)), right);
 }
 
+/// Parts over a dirty page, a held one and a stale one, and the refused ones.
+#[test]
+fn parts() {
+    let sheet = "
+        02 00
+        00 00 00 05 02    # m0 page 0, frame 5
+        00 01 00 05 02    # m1 page 1, of another colour
+        0d 00
+        02 00 00 00 00 07 00 00 00    # 0 writes 7 to offset 0
+        07 05 01 00 3f 64 00 00 00    # 1 sends 100 to 162 to the other offsets: a flush
+        01 00 00 00 00 00 00 00 00    # 2 finds 7
+        01 00 01 00 3f 00 00 00 00    # 3 finds 162
+        07 05 3f 00 01 c8 00 00 00    # 4 sends 200 to offset 63: both colours are stale
+        02 00 00 00 01 08 00 00 00    # 5 writes 8 to offset 1: a purge
+        07 05 02 00 0c 64 00 00 00    # 6 sends 100 to 111 to offsets 2 to 13: a flush
+        01 00 01 00 01 00 00 00 00    # 7 finds 8 through page 1, stale since 4: a purge
+        01 00 01 00 0d 00 00 00 00    # 8 finds 111
+        02 00 01 00 00 09 00 00 00    # 9 writes 9 to offset 0
+        07 05 00 00 40 64 00 00 00    # 10 sends 100 to 163 to all: a purge
+        07 05 34 00 0d 00 00 00 00    # 11 past offset 63: 13
+        07 40 ff ff 00 00 00 00 00    # 12 frame 64: 4
+    ";
+    let right = "m0 0\nm1 0\n\
+        0 0 - - -\n1 0 F5.0 - -\n2 0 - - 7\n3 0 - - 162\n4 0 - - -\n5 0 P5.0 - -\n6 0 F5.0 - -\n\
+        7 0 P5.1 - 8\n8 0 - - 111\n9 0 - - -\n10 0 P5.1 - -\n11 13 - - -\n12 4 - - -\nend 2 3\n";
+    assert_eq!(check(&bytes(sheet)), right);
+}
+
 #[test]
 fn large_sheets() {
     for mappings in [1, 16, 64, 256] {

@@ -86,6 +86,35 @@ impl Offset {
     }
 }
 
+/// Words of a page in a row, one at least.
+#[derive(Clone, Copy, Debug, PartialEq, Eq)]
+pub struct Part {
+    offset: usize,
+    count: usize,
+}
+
+impl Part {
+    /// All words of the page.
+    pub const WHOLE: Self = Self {
+        offset: 0,
+        count: PAGE_WORDS,
+    };
+
+    /// So many words from the offset on. The two are not added before they are tested.
+    pub fn new(offset: usize, count: usize) -> Result<Self, Refusal> {
+        let left = PAGE_WORDS.saturating_sub(offset);
+        if (1..=left).contains(&count) {
+            Ok(Self { offset, count })
+        } else {
+            Err(Refusal::Part)
+        }
+    }
+
+    pub fn offsets(self) -> Range<usize> {
+        self.offset..self.offset + self.count
+    }
+}
+
 /// A line of the cache.
 #[derive(Clone, Copy, Debug, PartialEq, Eq)]
 pub struct Line(u8);
@@ -121,5 +150,62 @@ fn below<N: Copy + Into<usize>>(limit: usize, n: N, refusal: Refusal) -> Result<
         Ok(n)
     } else {
         Err(refusal)
+    }
+}
+
+#[cfg(test)]
+mod tests {
+    use super::*;
+
+    #[test]
+    fn parts_in_the_page() {
+        let rows = [
+            (0, 1, 0..1),
+            (0, 12, 0..12),
+            (0, 63, 0..63),
+            (0, 64, 0..64),
+            (1, 63, 1..64),
+            (52, 12, 52..64),
+            (63, 1, 63..64),
+        ];
+        for (offset, count, offsets) in rows {
+            assert_eq!(Part::new(offset, count).map(Part::offsets), Ok(offsets));
+        }
+        assert_eq!(Part::new(0, 64), Ok(Part::WHOLE));
+    }
+
+    #[test]
+    fn no_words_and_words_past_the_page() {
+        const MAX: usize = usize::MAX;
+        let rows = [
+            // No words.
+            (0, 0),
+            (63, 0),
+            (64, 0),
+            (MAX, 0),
+            // One word past the last offset, and more.
+            (0, 65),
+            (1, 64),
+            (53, 12),
+            (63, 2),
+            (64, 1),
+            (64, 64),
+            // The largest numbers. Some of these sums, cut to a usize, would be 0, 1, 63 and 64.
+            (MAX, 1),
+            (MAX, 2),
+            (MAX, 64),
+            (MAX, 65),
+            (MAX, MAX),
+            (0, MAX),
+            (1, MAX),
+            (2, MAX),
+            (63, MAX),
+            (64, MAX),
+            (MAX - 62, 63),
+            (MAX - 63, 64),
+        ];
+        for (offset, count) in rows {
+            assert_eq!(Part::new(offset, count), Err(Refusal::Part));
+        }
     }
 }

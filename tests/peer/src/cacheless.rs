@@ -51,7 +51,13 @@ impl Cacheless {
             Call::DeviceRead { frame } => {
                 return Found::Page(Box::new(self.words[usize::from(frame)]))
             }
-            Call::DeviceWrite { frame, first } => self.words[usize::from(frame)] = sent(first),
+            Call::DeviceWrite { frame, first } => self.send(frame, 0, PAGE_WORDS, first),
+            Call::DeviceWritePart {
+                frame,
+                offset,
+                count,
+                first,
+            } => self.send(frame, offset, count, first),
             Call::Evict { .. } => {}
         }
         Found::Nothing
@@ -59,6 +65,12 @@ impl Cacheless {
 
     pub fn words(&self) -> &[PageWords; FRAMES] {
         &self.words
+    }
+
+    /// Changes the words sent and no other.
+    fn send(&mut self, frame: u8, offset: usize, count: usize, first: u32) {
+        let words = &mut self.words[usize::from(frame)][offset..offset + count];
+        words.copy_from_slice(&sent(first, count));
     }
 
     fn frame(&mut self, space: u8, page: u16) -> &mut Option<u8> {

@@ -36,6 +36,13 @@ pub enum Call {
         frame: u8,
         first: u32,
     },
+    /// The same, but `count` words into the frame's from the offset on.
+    DeviceWritePart {
+        frame: u8,
+        offset: usize,
+        count: usize,
+        first: u32,
+    },
     /// Document 01's "turning out".
     Evict {
         line: u8,
@@ -46,9 +53,9 @@ pub enum Call {
     },
 }
 
-/// The words that a device write sends.
-pub fn sent(first: u32) -> PageWords {
-    std::array::from_fn(|k| first.wrapping_add(k as u32))
+/// The words that a device write of so many sends.
+pub fn sent(first: u32, count: usize) -> Vec<u32> {
+    (0..count).map(|k| first.wrapping_add(k as u32)).collect()
 }
 
 /// What the manager has the cache do (document 01's "order").

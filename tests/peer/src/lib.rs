@@ -1,5 +1,5 @@
 //! Runs a run sheet as document 01 describes, on a machine written from documents 01 and 02 alone (of
-//! 02 the requests N1 and N2), with a cacheless memory beside it that every accepted read and the
+//! 02 the requests N1 to N3), with a cacheless memory beside it that every accepted read and the
 //! memory at the end must equal.
 
 pub mod board;
@@ -152,6 +152,23 @@ mod tests {
         let mut pair = written();
         tamper(&mut pair, 63);
         assert!(pair.call(Call::DeviceRead { frame: 0 }).is_err());
+    }
+
+    #[test]
+    fn a_wrong_word_beside_a_part_is_caught() {
+        for (offset, sent_over) in [(62, false), (63, true)] {
+            let mut pair = written();
+            tamper(&mut pair, 63);
+            let part = Call::DeviceWritePart {
+                frame: 0,
+                offset,
+                count: 1,
+                first: 9,
+            };
+            assert!(pair.call(part).is_ok());
+            let read = pair.call(Call::DeviceRead { frame: 0 });
+            assert_eq!(read.is_ok(), sent_over);
+        }
     }
 
     #[test]

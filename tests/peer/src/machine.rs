@@ -1,7 +1,7 @@
 //! The machine: each call asks the manager, has the cache do what it says, then makes the access.
 //! A call tests its numbers in the order of their refusals, so that the first in that order is given.
 
-use crate::board::{Frame, Line, Offset, Place};
+use crate::board::{Frame, Line, Offset, Part, Place};
 use crate::call::{number, sent, Accepted, Answer, Call, Found, Mapping, Operations};
 use crate::hardware::Hardware;
 use crate::manager::Manager;
@@ -73,14 +73,16 @@ impl Machine {
                 })
             }
             Call::DeviceWrite { frame, first } => {
-                let frame = Frame::new(frame)?;
-                let operations = self.manager.transfer(Transfer::Write, frame);
-                self.perform(operations);
-                *self.hardware.page_mut(frame) = sent(first);
-                Ok(Accepted {
-                    operations,
-                    found: Found::Nothing,
-                })
+                Ok(self.device_write(Frame::new(frame)?, Part::WHOLE, first))
+            }
+            Call::DeviceWritePart {
+                frame,
+                offset,
+                count,
+                first,
+            } => {
+                let (frame, part) = (Frame::new(frame)?, Part::new(offset, count)?);
+                Ok(self.device_write(frame, part, first))
             }
             Call::Evict { line } => {
                 self.hardware.evict(Line::new(line)?);
@@ -99,6 +101,18 @@ impl Machine {
             *answer = number(&self.call(Call::Map(item)));
         }
         Ok(())
+    }
+
+    /// The device sends words into a part of the frame's. The others stay.
+    fn device_write(&mut self, frame: Frame, part: Part, first: u32) -> Accepted {
+        let operations = self.manager.transfer(Transfer::write(part), frame);
+        self.perform(operations);
+        let words = &mut self.hardware.page_mut(frame)[part.offsets()];
+        words.copy_from_slice(&sent(first, words.len()));
+        Accepted {
+            operations,
+            found: Found::Nothing,
+        }
     }
 
     fn perform(&mut self, operations: Operations) {

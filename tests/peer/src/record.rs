@@ -1,6 +1,6 @@
 //! The page model: a state for each colour of a frame, and the two tables by which a step changes it.
 
-use crate::board::{Colour, Frame, COLOURS};
+use crate::board::{Colour, Frame, Part, COLOURS};
 use crate::call::{Operation, Operations};
 use crate::Refusal;
 
@@ -52,19 +52,32 @@ fn other_colour(access: Access, state: State) -> (State, Due) {
     }
 }
 
-/// The device's two transfers, named from its side: a read takes memory's words.
+/// The device's transfers, named from its side: a read takes memory's words. A part is not the whole
+/// page: the words beside it may be in the cache alone.
 #[derive(Clone, Copy, Debug, PartialEq, Eq)]
 pub enum Transfer {
     Read,
     Write,
+    WritePart,
+}
+
+impl Transfer {
+    /// A write of these words.
+    pub fn write(part: Part) -> Self {
+        if part == Part::WHOLE {
+            Self::Write
+        } else {
+            Self::WritePart
+        }
+    }
 }
 
 fn every_colour(transfer: Transfer, state: State) -> (State, Due) {
     match (transfer, state) {
         (_, Empty) => (Empty, Nothing),
         (Transfer::Read, Present) => (Present, Nothing),
-        (Transfer::Write, Present) => (Stale, Nothing),
-        (Transfer::Read, Dirty) => (Empty, Flush),
+        (Transfer::Write | Transfer::WritePart, Present) => (Stale, Nothing),
+        (Transfer::Read | Transfer::WritePart, Dirty) => (Empty, Flush),
         (Transfer::Write, Dirty) => (Empty, Purge),
         (_, Stale) => (Stale, Nothing),
     }
@@ -103,7 +116,7 @@ impl Record {
         })
     }
 
-    /// A transfer of the whole page.
+    /// A transfer by the device.
     pub fn transfer(&mut self, frame: Frame, transfer: Transfer) -> Operations {
         self.step(frame, |_, state| every_colour(transfer, state))
     }

@@ -4,8 +4,8 @@
 /// that its request gives it.
 #[derive(Clone, Copy, Debug, PartialEq, Eq)]
 pub enum Refusal {
-    /// A lent buffer of another length. No call of the peer meets it, since the types here fix every
-    /// length that it tests; those of `tests/duties` do.
+    /// A lent buffer of another length. No call of the peer meets it, since nothing that it is lent can
+    /// have another; those of `tests/duties` do.
     Length = 1,
     /// More items than one call maps, or not as many answers as items.
     Items = 12,
@@ -14,6 +14,8 @@ pub enum Refusal {
     Frame = 4,
     Rights = 5,
     Offset = 6,
+    /// A device's part of a page with no words, or with words past the last offset.
+    Part = 13,
     Mapped = 7,
     Unmapped = 8,
     Full = 9,

@@ -74,6 +74,12 @@ fn step(&[kind, s, p0, p1, o, w0, w1, w2, w3]: &[u8; 9]) -> Result<Call, Refusal
         (4, 0, 0, first) => Ok(Call::DeviceWrite { frame: s, first }),
         (5, 0, 0, 0) => Ok(Call::Evict { line: s }),
         (6, page, 0, 0) => Ok(Call::Unmap { space: s, page }),
+        (7, offset, count, first) => Ok(Call::DeviceWritePart {
+            frame: s,
+            offset: offset.into(),
+            count: count.into(),
+            first,
+        }),
         _ => Err(Refusal::Sheet),
     }
 }

@@ -1,4 +1,4 @@
-//! Document 01, "The run sheet": its example, and what breaks a sheet.
+//! Document 01, "The run sheet": its example, and what breaks a sheet; document 02, N3: kind 7.
 
 const EXAMPLE: &str = "02 00  00 00 00 03 02  01 09 00 03 01  06 00  01 01 09 00 00 00 00 00 00
     02 00 00 00 00 11 00 00 00  01 01 09 00 00 00 00 00 00  04 03 00 00 00 28 00 00 00
@@ -77,20 +77,21 @@ fn counts_past_their_limits_are_broken() {
 
 #[test]
 fn kinds_and_unused_fields() {
-    for kind in [0, 7, 0x80, 0xff] {
+    for kind in [0, 8, 0x80, 0x87, 0xff] {
         assert_eq!(
             one_step(&format!("{kind:02x} 00 00 00 00 00 00 00 00")),
             BROKEN
         );
     }
     // For each kind, the bytes after it that may be other than 0.
-    let used: [&[usize]; 6] = [
+    let used: [&[usize]; 7] = [
         &[1, 2, 3, 4],
         &[1, 2, 3, 4, 5, 6, 7, 8],
         &[1],
         &[1, 5, 6, 7, 8],
         &[1],
         &[1, 2, 3],
+        &[1, 2, 3, 4, 5, 6, 7, 8],
     ];
     for (kind, used) in (1..).zip(used) {
         for field in 1..9 {
@@ -120,6 +121,51 @@ fn refused_steps() {
         one_step("06 00 00 00 00 00 00 00 00"),
         "0 8 - - -\nend 0 0\n"
     );
+}
+
+/// Frame 5 at pages 0 and 1. 17 and 18 are written at its two ends, and 62 words sent between them; one
+/// word is sent while both colours are held; a word is written, and all 64 are sent over it.
+#[test]
+fn parts() {
+    let sheet = "02 00  00 00 00 05 02  00 01 00 05 02  0b 00
+        02 00 00 00 00 11 00 00 00
+        02 00 01 00 3f 12 00 00 00
+        07 05 01 00 3e 64 00 00 00
+        01 00 00 00 00 00 00 00 00
+        01 00 01 00 3e 00 00 00 00
+        01 00 01 00 3f 00 00 00 00
+        07 05 3f 00 01 ff ff ff ff
+        01 00 00 00 3f 00 00 00 00
+        02 00 01 00 01 13 00 00 00
+        07 05 00 00 40 c8 00 00 00
+        03 05 00 00 00 00 00 00 00";
+    let right = "m0 0\nm1 0\n0 0 - - -\n1 0 F5.0 - -\n\
+        2 0 F5.1 - -\n3 0 - - 17\n4 0 - - 161\n5 0 - - 18\n\
+        6 0 - - -\n7 0 P5.0 - 4294967295\n\
+        8 0 P5.1 - -\n9 0 P5.1 - -\n10 0 - - 200\nend 2 3\n";
+    assert_eq!(text(&bytes(sheet)), right);
+}
+
+/// A part of no words, or past the page, is refused and does not break the sheet.
+#[test]
+fn refused_parts() {
+    let rows = [
+        ("07 05 00 00 00 00 00 00 00", 13),
+        ("07 05 00 00 41 00 00 00 00", 13),
+        ("07 05 00 00 ff 00 00 00 00", 13),
+        ("07 05 3f 00 02 00 00 00 00", 13),
+        ("07 05 40 00 01 00 00 00 00", 13),
+        ("07 05 00 01 01 00 00 00 00", 13),
+        ("07 05 ff ff 01 00 00 00 00", 13),
+        ("07 05 ff ff ff ff ff ff ff", 13),
+        ("07 40 ff ff 00 00 00 00 00", 4),
+        ("07 40 00 00 0c 00 00 00 00", 4),
+        ("07 3f 34 00 0c 00 00 00 00", 0),
+    ];
+    for (step, number) in rows {
+        let right = format!("0 {number} - - -\nend 0 0\n");
+        assert_eq!(one_step(step), right, "{step}");
+    }
 }
 
 #[test]
