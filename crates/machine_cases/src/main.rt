@@ -30,9 +30,9 @@ fn two_pages() -> MappingList {
     mapping::insert_at(one, 1, entry(1, 9, 3, 1))
 }
 
-// ---- rows of the seven single calls: wrong lengths, broken rules
+// ---- rows of seven single calls: wrong lengths, broken rules
 
-// The seven single calls in a row, none with the list of another: on space 0, frame 3, offset 0 and line 0, which nothing but the case refuses, and again on space 16, frame 64, offset 64 and line 64.
+// The single calls but that of a part in a row, none with the list of another: on space 0, frame 3, offset 0 and line 0, which nothing but the case refuses, and again on space 16, frame 64, offset 64 and line 64.
 // A case is the lengths of what is lent, the tag of line 40, and the flag of frame 63.
 fn tried(
     list: MappingList,
