@@ -1,7 +1,7 @@
 -- What is proved of the machine's calls, for any board.
 use mathlib.Core.List.{List}
 use mathlib.Core.Path.{_≡_}
-use Prim.Native.Nat.{ℕ, _<_}
+use Prim.Native.Nat.{ℕ}
 use Rattle.board.specs.declared.Board.{Board}
 use Rattle.machine.specs.State.{State, deviceWrite, deviceWritePart}
 use Rattle.machine.specs.Step.{step}
