@@ -25,8 +25,8 @@ module _ (b : Board) (some : 0 < b .page) (st : State) (frame : ℕ) (buffer : L
   whole-accept =
       ap (λ (s : Step). stepped b st (changeOf b (st .tables) frame s) (λ x. none) (λ x. []) (hardware.deviceWrite b frame 0 buffer)) (whole-step b some)
 
-pub whole-part : (b : Board) → 0 < b .page → WholePart b
+pub whole-part : WholePart
 unfolding step
-whole-part b some st frame buffer =
+whole-part b st frame buffer reg =
     ap₂ (λ (n : ℕ) (made : Result). elim n as (λ m. Result) [ zero ↦ made | suc m ↦ result (answer (refused (suc m)) none []) st ])
-    (whole-refusal b some st frame buffer) (whole-accept b some st frame buffer)
+    (whole-refusal b (reg .has-page-words) st frame buffer) (whole-accept b (reg .has-page-words) st frame buffer)
