@@ -5,3 +5,4 @@ pub mod StepLaws
 pub mod CallLaws
 pub mod ItemLaws
 pub mod Parts
+pub mod Theorems

@@ -348,7 +348,7 @@ fn accepted() {
     reads_out(two, &mut r, &mut p, &mut m, &mut w, &mut t);
     evictions(two, &mut r, &mut p, &mut m, &mut w, &mut t);
     unmapped(two, &mut r, &mut p, &mut m, &mut w, &mut t);
-    received(two, &mut r, &mut p, &mut m, &mut w, &mut t, &b);
+    received(two, &mut r, &mut p, &mut m, &mut w, &mut t);
 }
 
 // A read, a write and an eviction, each with what it leaves.
@@ -499,10 +499,11 @@ fn received(
     m: &mut [u32; 4096],
     w: &mut [u32; 512],
     t: &mut [u8; 64],
-    b: &[u32; 64],
 ) {
     io::write_all(STDOUT_FILENO, b"received\n");
-    show::device_write_part(list, r, p, m, w, t, &b[0..12], 3, 2, 12);
+    let mut b = [0u32; 12];
+    show::count_up(&mut b, 1000);
+    show::device_write_part(list, r, p, m, w, t, &b, 3, 2, 12);
     show::left(r, p, m, w, t);
     read(list, r, p, m, w, t, 1, 9, 2);
     read(list, r, p, m, w, t, 1, 9, 13);

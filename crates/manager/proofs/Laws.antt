@@ -2,14 +2,14 @@
 use mathlib.Core.Path.{_≡_, refl, sym, ap, ap₂, subst, _∙_}
 use mathlib.Core.Bool.{Bool, true, false, cond, _&&_}
 use mathlib.Core.List.{List}
-use Prim.Native.Nat.{ℕ, zero, suc, _+_, _≤_, _<_}
+use Prim.Native.Nat.{ℕ, zero, suc, _+_, _<_}
 use native.Mathlib.Omega.{arith}
 use borrow.Author.Count.{below-more}
 use native.Mathlib.Nat.{lt-irrefl}
 use mir.Val.{boolByte}
 use lib.Dec.{eqb}
-use lib.ListN.{length, take, getD, set}
-use lib.Seq.{ext-getD, getD-take, length-take-le, getD-set-same, getD-set-other}
+use lib.ListN.{length, getD, set}
+use lib.Seq.{ext-getD, getD-set-same, getD-set-other}
 use Rattle.bits.specs.Mask.{digit}
 use Rattle.board.specs.declared.Board.{Board}
 use Rattle.board.specs.Board.{colourOf}
@@ -41,12 +41,6 @@ getD-tabulate (suc n) f (suc k) l = getD-tabulate n (λ i. f (suc i)) k (omega a
 pub is-tabulate : (l : List ℕ) (n : ℕ) (f : ℕ → ℕ) → length l ≡ n → ((k : ℕ) → k < n → getD l k 0 ≡ f k) → l ≡ tabulate n f
 is-tabulate l n f e h =
     ext-getD 0 l (tabulate n f) (e ∙ sym (length-tabulate n f)) (λ i li. let j : i < n = omega arith in h i j ∙ sym (getD-tabulate n f i j))
-
--- the first of them
-pub take-tabulate : (n m : ℕ) (f : ℕ → ℕ) → n ≤ m → take n (tabulate m f) ≡ tabulate n f
-take-tabulate n m f h =
-    let long = length-tabulate m f in
-    is-tabulate (take n (tabulate m f)) n f (length-take-le n (tabulate m f) (omega arith)) (λ k l. getD-take n (tabulate m f) k 0 l ∙ getD-tabulate m f k (omega arith))
 
 -- one more value of f stored
 pub set-more : (l : List ℕ) (i v : ℕ) (f : ℕ → ℕ) → i < length l → ((k : ℕ) → k < i → getD l k 0 ≡ f k) → v ≡ f i

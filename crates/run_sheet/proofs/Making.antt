@@ -64,7 +64,7 @@ pub did-kind : (f : Fields) {st next : State} {k j : Kind} {o : Outcome} {w : Op
     → Did st (callOf board01 j f) next o w
 did-kind f e d = did-as (ap (λ (x : Kind). callOf board01 x f) e) d
 
--- ---- the kinds: an unmap, and what is left past the first five
+-- ---- the kinds: an unmap, and what is left past those that `step` names
 
 pub unmap-is : (f : Fields) (k : Kind) → isUnmap k ≡ true → unmap (f .s) (f .p) ≡ callOf board01 k f
 unmap-is f Read e = absurd (false≢true e)

@@ -42,7 +42,7 @@ pub fn is_unmap(kind: Kind) -> bool
     }
 }
 
-// A step that is no unmap, and leaves the list as it is: past the first five kinds, an evict.
+// A step that is no unmap, and leaves the list as it is: past the kinds above, an evict.
 pub fn step(
     list: MappingList,
     records: &mut [u32],
@@ -218,8 +218,9 @@ fn device_write_part(
         (outcome (r .answer)) (shownWord (r .shown)) ⌝ }
 {
     let mut buffer = [0u32; MOST_SENT];
-    count_up(&mut buffer, f.w);
     let number = f.o as usize;
+    let part = &mut buffer[0..number];
+    count_up(part, f.w);
     let answer = machine::device_write_part(
         list,
         records,
@@ -227,7 +228,7 @@ fn device_write_part(
         memory,
         words,
         tags,
-        &buffer[..number],
+        part,
         f.s,
         f.p as usize,
         number,

@@ -6,7 +6,6 @@ use borrow.Author.Needs.{needs}
 use Rattle.board.specs.Board.{board01}
 use Rattle.board.proofs.Geometry.{board01-regular}
 use Rattle.cache.specs.Cache as hardware
-use Rattle.machine.specs.Refusals.{ownCauses}
 use Rattle.machine.specs.Step.{accept}
 use Rattle.machine.proofs.StepLaws.{part-requires, planned-refused, stepped-made}
 use Rattle.machine.proofs.device_write_part.Statement.{statement}
@@ -20,7 +19,6 @@ abbrev plan-of : tie.After-commit-change → tie.After-plan
 plan-of c = c .before .before .before .before .before .before
 
 receive-requires : tie.Need-receive-requires
-unfolding ownCauses
 receive-requires c κs =
     let commit = c .before .before .before .before .before .before in
     let at = plan-of commit in

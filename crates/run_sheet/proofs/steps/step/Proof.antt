@@ -13,7 +13,7 @@ use Rattle.run_sheet.proofs.steps.step.Tie as tie
 abbrev start : tie.After-slice-known5 → tie.Start
 start c = c .before .before .before .before .before
 
--- past the first five kinds
+-- past the kinds that it names
 past : {n : ℕ} → OneOf (5 ∷ 6 ∷ 7 ∷ []) n → 5 ≤ n
 past h = ⊎-elim (λ e. omega arith) (λ h. ⊎-elim (λ e. omega arith) (λ e. omega arith) h) h
 
