@@ -1,5 +1,5 @@
 -- Document 01, "The cacheless memory": what memory would hold if there were no cache, fed each call and whether it was refused. Request N1's
--- list of mappings counts as its items in order.
+-- list of mappings counts as its items in order; request N3's part of a page changes only the words sent.
 use mathlib.Core.Bool.{Bool, true, false, not, cond, _&&_}
 use mathlib.Core.List.{List}
 use mathlib.Core.Option.{Option, none, some}

@@ -54,7 +54,7 @@ inOrder n (c ∷ rest) = leb n (refusalPlace (c .number)) && ltb (refusalPlace (
 abbrev pub outOfSpace : ℕ → ℕ → Bool
 outOfSpace space page = leb spaces space || leb pages page
 
--- of so many words from offset first on: there are none, or there is one past the page's last offset
+-- of so many words from offset first on (request N3): there are none, or there is one past the page's last offset
 abbrev pub outOfPage : Board → ℕ → ℕ → Bool
 outOfPage b first number = eqb number 0 || ltb (b .page) (first + number)
 

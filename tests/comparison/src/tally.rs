@@ -25,8 +25,8 @@ const fn kind(name: &'static str, orders: &'static [usize], refusals: &'static [
 }
 
 /// The mappings, then the steps by their number, parts by how they lie to their page. No sheet meets
-/// refusal 1 or 2, since the program's own buffers have their lengths and keep the rules, or 9, since no
-/// mapping follows the 256th.
+/// refusal 1 or 2, since the program's own buffers have their lengths and keep the rules, 9, since no
+/// mapping follows the 256th, or 12, since no step is a list of mappings.
 const KINDS: [Kind; 15] = [
     kind("map", &[0], &[3, 4, 5, 7]),
     kind("read", &[0, 1, 2, 3], &[3, 6, 8]),
@@ -156,7 +156,7 @@ impl fmt::Display for Tally {
         }
         by_number.insert(11, self.broken.values().sum::<u64>());
         writeln!(f, "refusals    {}", counts(&by_number))?;
-        writeln!(f, "              (no sheet can meet 1, 2 or 9)")?;
+        writeln!(f, "              (no sheet can meet 1, 2, 9 or 12)")?;
         writeln!(f, "broken by   {}", counts(&self.broken))?;
         let (lists, steps) = (self.full_lists, self.full_steps);
         write!(
