@@ -15,18 +15,21 @@ transfer s = toldTables (s .args .board) (s .args .kept) (s .args .records .now)
 abbrev own : tie.Start → List Cause
 own s = partCause (s .args .board) (s .args .first) (s .args .number) ∷ []
 
+abbrev start-of : tie.After-transfer-refusal → tie.Start
+start-of c = c .before .before .before
+
 returns : tie.Need-returns
 unfolding toldTables
 returns c =
-    let s = c .before .before .before .before in
+    let s = start-of (c .before) in
     let refusal = c .before .transfer-refusal .ensures in
     refusal ∙ refusal-prefix (transfer s) (own s) (λ z. c .if1 .taken (refusal ∙ z))
 
 -- past the causes of a page's transfer its own decides
-rest : (c : tie.Else1) → firstRefusal (own (c .before .before .before .before)) ≡ firstRefusal (transfer (c .before .before .before .before) ++ own (c .before .before .before .before))
+rest : (c : tie.Else1) → let s = start-of (c .before) in firstRefusal (own s) ≡ firstRefusal (transfer s ++ own s)
 unfolding toldTables
 rest c =
-    let s = c .before .before .before .before in
+    let s = start-of (c .before) in
     refusal-rest (transfer s) (own s) refl (sym (c .before .transfer-refusal .ensures) ∙ c .if1 .left)
 
 returns-2 : tie.Need-returns-2

@@ -6,24 +6,11 @@ use borrow.Author.Needs.{needs}
 use Rattle.page_model.proofs.FrameRecord.device_write.Statement.{statement}
 use Rattle.page_model.proofs.FrameRecord.device_write.Tie as tie
 
-dirty-colour-requires : tie.Need-dirty-colour-requires
-dirty-colour-requires c κs = search needs
-
-if-dirty-requires : tie.Need-if-dirty-requires
-if-dirty-requires c κs = search needs
-
-present-requires : tie.Need-present-requires
-present-requires c κs = search needs
-
-to-requires : tie.Need-to-requires
-to-requires c κs = search needs
-
 returns : tie.Need-returns
 returns c n few rules =
     let at-if = c .before .before .before in
-    let s = at-if .before .before in
     c .to .ensures ∙ simp (c .before .before .present .ensures, at-if .if-dirty .ensures, at-if .before .dirty-colour .ensures) (device-write-step n _ few _ (keeps n _ rules))
 
 pub device-write-spec : {M : Type 1} → statement M
 device-write-spec =
-    tie.close (tie.spec dirty-colour-requires if-dirty-requires present-requires to-requires returns)
+    tie.close (tie.spec (λ c κs. search needs) (λ c κs. search needs) (λ c κs. search needs) (λ c κs. search needs) returns)
