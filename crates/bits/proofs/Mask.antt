@@ -1,7 +1,8 @@
 -- The laws of masks, for any width: what each operation does to bit k, and what the bits tell of the mask. Passes on those of `Places`.
 use mathlib.Core.Path.{_≡_, refl, sym, ap, ap₂, _∙_, subst}
-use mathlib.Core.Bool.{Bool, true, false, not, _&&_, _||_, cond}
-use Prim.Native.Nat.{ℕ, zero, suc, _+_, _-_, _*_, _/_, _%_, _^_, _≤_, _<_}
+use mathlib.Core.Bool.{Bool, true, false, not, _&&_, _||_, cond, and-true, and-false, or-false}
+use mathlib.Core.List.{List, [], _∷_, map}
+use Prim.Native.Nat.{ℕ, zero, suc, _+_, _*_, _/_, _%_, _^_, _≤_, _<_}
 use native.Mathlib.Omega.{arith}
 use native.Mathlib.Decide.{decLt}
 use native.Mathlib.Nat.{pow-suc, div-one, div-eq-of-lt, div-add-mod', mod-lt, zero-div, mod-eq-of-lt, add-zero, one-mul}
@@ -11,10 +12,11 @@ use lib.Arith.{lt-one}
 use lib.Bits.{bitAnd, bitOr, and-shr, or-shr, and-mod, or-mod, or-lt, or-add-and, and-le-l, and-le-r}
 use lib.Count.{ones, trailingZeros, under, ones-step, ones-cat}
 use lib.Dec.{eqb, ltb, lit<, eqb·zero-suc, eqb·suc-zero, eqb·suc-suc}
+use lib.ListN.{length, length-map}
 use lib.Pow.{pow-pos, pow-lt, pow-mono, shr-shr, shr-lt}
 use Rattle.bits.proofs.Tautology.{iff}
-pub use Rattle.bits.proofs.Places.{at-place, all-at, all-of, any-cong, any-none, any-of, any-at, any-one, countOf-cong, places-at, places-none, places-one, places-few}
-use Rattle.bits.specs.Mask.{bit, withBit, withoutBit, digit, maskOf, countOf, all}
+pub use Rattle.bits.proofs.Places.{at-place, all-at, all-of, any-cong, any-none, any-of, any-at, any-one, any-more, countOf-cong, places-at, places-none, places-few}
+use Rattle.bits.specs.Mask.{bit, withBit, digit, maskOf, countOf, all, withZero, placesOf}
 
 half-lt : {n : ℕ} (k : ℕ) → n < 2 ^ suc k → n / 2 < 2 ^ k
 half-lt {n} k h = shr-lt k 1 (subst (λ (x : ℕ). n < 2 ^ x) (sym (add-one k)) h)
@@ -93,7 +95,7 @@ ones-bits zero m h = ap ones (lt-one h)
 ones-bits (suc n) m h =
     ones-step m ∙ ap₂ (λ (x y : ℕ). x + y) (sym (digit-bit m)) (ones-bits n (m / 2) (half-lt n h) ∙ countOf-cong n (bit (m / 2)) (λ k. bit m (suc k)) (λ k l. sym (bit-suc m k)))
 
--- ---- bit k of an and, an or, a complement, a shift of one
+-- ---- bit k of an and, an or, a shift of one
 
 -- an operation that works on each binary digit works on each bit
 module _ (op : ℕ → ℕ → ℕ) (f : Bool → Bool → Bool) where
@@ -120,22 +122,6 @@ bit-and = bit-op bitAnd _&&_ and-shr and-mod refl refl refl refl
 pub bit-or : (a b k : ℕ) → bit (bitOr a b) k ≡ (bit a k || bit b k)
 bit-or = bit-op bitOr _||_ or-shr or-mod refl refl refl refl
 
-not-digit : (x y : ℕ) → x + y ≡ 1 → eqb x 1 ≡ not (eqb y 1)
-not-digit zero y e = let f : y ≡ 1 = omega arith in rw f
-not-digit (suc x) y e =
-    let f : y ≡ 0 = omega arith in let g : x ≡ 0 = omega arith in rw (f, g)
-
--- the complement of a mask of n bits is 2 ^ n - 1 less the mask
-pub bit-not : (n a k : ℕ) → a < 2 ^ n → k < n → bit (2 ^ n - 1 - a) k ≡ not (bit a k)
-bit-not zero a k h l = absurd (omega arith)
-bit-not (suc n) a zero h l =
-    let e : 2 ^ suc n ≡ 2 ^ n * 2 = pow-suc 2 n in
-    simp bit-zero (not-digit ((2 ^ suc n - 1 - a) % 2) (a % 2) (omega arith))
-bit-not (suc n) a (suc k) h l =
-    let e : 2 ^ suc n ≡ 2 ^ n * 2 = pow-suc 2 n in
-    let half : (2 ^ suc n - 1 - a) / 2 ≡ 2 ^ n - 1 - a / 2 = omega arith in
-    simp (bit-suc, half) (bit-not n (a / 2) k (half-lt n h) (omega arith))
-
 pub bit-none : (k : ℕ) → bit 0 k ≡ false
 unfolding bit
 bit-none k = rw zero-div
@@ -154,23 +140,15 @@ bit-one (suc j) (suc k) =
     let half : 2 ^ suc j / 2 ≡ 2 ^ j = omega (arith, pow-suc 2 j) in
     rw (bit-suc, half, eqb·suc-suc) (bit-one j k)
 
--- ---- a bit set, a bit cleared
+-- ---- a bit set
 
 pub bit-with : (m j k : ℕ) → bit (withBit m j) k ≡ (bit m k || eqb j k)
 unfolding withBit
 bit-with m j k = rw (bit-or, bit-one)
 
-pub bit-without : (n m j k : ℕ) → j < n → k < n → bit (withoutBit n m j) k ≡ (bit m k && not (eqb j k))
-unfolding withoutBit
-bit-without n m j k lj lk = let fits = pow-lt lj in rw (bit-and, bit-not, bit-one)
-
 pub with-lt : (n m j : ℕ) → m < 2 ^ n → j < n → withBit m j < 2 ^ n
 unfolding withBit
 with-lt n m j l lj = or-lt n m (2 ^ j) l (pow-lt lj)
-
-pub without-lt : (n w m j : ℕ) → m < 2 ^ n → withoutBit w m j < 2 ^ n
-unfolding withoutBit
-without-lt n w m j l = omega (arith, and-le-l m (2 ^ w - 1 - 2 ^ j))
 
 -- no bit stands past the first k places exactly if the mask is below 2 ^ k
 pub shr-none : (m k : ℕ) → eqb (m / 2 ^ k) 0 ≡ ltb m (2 ^ k)
@@ -189,10 +167,29 @@ or-within n a b = go (decLt a (2 ^ n)) (decLt b (2 ^ n))
     go (yes h) (no l) = le-ltb (bitOr a b) (2 ^ n) (omega (arith, or-add-and a b, and-le-l a b)) ∙ sym (ap₂ _&&_ (lt-ltb _ _ h) (le-ltb b (2 ^ n) (omega arith)))
     go (no h) l = le-ltb (bitOr a b) (2 ^ n) (omega (arith, or-add-and a b, and-le-r a b)) ∙ sym (ap (λ (x : Bool). x && ltb b (2 ^ n)) (le-ltb a (2 ^ n) (omega arith)))
 
--- no bit, or those of m
-pub bit-cond : (b : Bool) (m k : ℕ) → bit (cond b 0 m) k ≡ (not b && bit m k)
-bit-cond true m k = bit-none k
-bit-cond false m k = refl
+-- a mask below 2 ^ n has no bit from place n up
+pub bit-past : (n m k : ℕ) → m < 2 ^ n → n ≤ k → bit m k ≡ false
+unfolding bit
+bit-past n m k l h = let z : m / 2 ^ k ≡ 0 = div-eq-of-lt (omega (arith, pow-mono h)) in rw z
+
+-- ---- one place more
+
+pub maskOf-more : (n : ℕ) (p : ℕ → Bool) → maskOf (suc n) p ≡ cond (p n) (withBit (maskOf n p) n) (maskOf n p)
+maskOf-more n p = sym (go (p n) refl)
+  where
+    fits : maskOf n p < 2 ^ suc n
+    fits = omega (arith, maskOf-lt n p, pow-suc 2 n)
+
+    at : (k : ℕ) → k < suc n → (bit (maskOf n p) k || p n && eqb n k) ≡ p k
+    at k l = split (decLt k n)
+      where
+        split : Dec (k < n) → (bit (maskOf n p) k || p n && eqb n k) ≡ p k
+        split (yes h) = rw (bit-maskOf n p k h, ne-eqb n k (λ e. omega arith), and-false, or-false)
+        split (no h) = let e : k ≡ n = omega arith in rw (e, bit-past n (maskOf n p) n (maskOf-lt n p) (omega arith), eq-eqb n n refl, and-true)
+
+    go : (b : Bool) → p n ≡ b → cond b (withBit (maskOf n p) n) (maskOf n p) ≡ maskOf (suc n) p
+    go true e = mask-of (suc n) _ p (with-lt (suc n) _ n fits (omega arith)) (λ k l. bit-with _ n k ∙ ap (λ (b : Bool). bit (maskOf n p) k || b && eqb n k) (sym e) ∙ at k l)
+    go false e = mask-of (suc n) _ p fits (λ k l. sym (or-false _) ∙ ap (λ (b : Bool). bit (maskOf n p) k || b && eqb n k) (sym e) ∙ at k l)
 
 -- ---- two masks
 
@@ -240,9 +237,25 @@ pub one-countOf : (n d : ℕ) (p : ℕ → Bool) → d < n → ((k : ℕ) → k 
 one-countOf n d p l h =
     sym (ones-bits n (2 ^ d) (pow-lt l) ∙ countOf-cong n (bit (2 ^ d)) p (λ k j. bit-one d k ∙ sym (h k j))) ∙ ones-pow d
 
--- and the trailing zeros are the same at any greater width
-pub only-bit-wide : (n w m : ℕ) → n ≤ w → m < 2 ^ n → ones m ≡ 1 → trailingZeros w m ≡ trailingZeros n m
-only-bit-wide n w m few h e =
-    let a = only-bit w m (omega (arith, pow-mono few)) e in
-    let b = only-bit n m h e in
-    eqb-true _ _ (sym (bit-one _ _) ∙ ap (λ (x : ℕ). bit x (trailingZeros n m)) (sym (a .1) ∙ b .1) ∙ bit-one _ _ ∙ eq-eqb (trailingZeros n m) _ refl)
+-- the only place that p picks, if it picks one, is the number of its mask's trailing zeros, at any width that has room for it
+pub places-only : (n w : ℕ) (p : ℕ → Bool) → n ≤ w → length (placesOf n p) ≤ 1
+    → placesOf n p ≡ cond (eqb (maskOf n p) 0) [] (trailingZeros w (maskOf n p) ∷ [])
+unfolding placesOf maskOf trailingZeros
+places-only zero w p l h = refl
+places-only (suc n) zero p l h = absurd (omega arith)
+places-only (suc n) (suc w) p l h = first (p 0) (maskOf n (λ k. p (suc k))) (placesOf n (λ k. p (suc k))) (places-only n w (λ k. p (suc k)) (omega arith)) h
+  where
+    none-left : (rest : List ℕ) → length rest ≤ 0 → rest ≡ []
+    none-left [] l = refl
+    none-left (k ∷ rest) l = absurd (omega arith)
+
+    first : (b : Bool) (m : ℕ) (rest : List ℕ) → (length rest ≤ 1 → rest ≡ cond (eqb m 0) [] (trailingZeros w m ∷ [])) → length (withZero b (map suc rest)) ≤ 1
+        → withZero b (map suc rest) ≡ cond (eqb (digit b + 2 * m) 0) [] (under ((digit b + 2 * m) % 2) (trailingZeros w ((digit b + 2 * m) / 2)) ∷ [])
+    first true m rest ih h =
+        let odd : (1 + 2 * m) % 2 ≡ 1 = omega arith in
+        rw (ne-eqb (1 + 2 * m) 0 (λ e. omega arith), odd) (ap (λ (l : List ℕ). 0 ∷ l) (none-left (map suc rest) (omega arith)))
+    first false zero rest ih h = ap (map suc) (ih (omega (arith, length-map rest suc)))
+    first false (suc m) rest ih h =
+        let even : (0 + 2 * suc m) % 2 ≡ 0 = omega arith in
+        let half : (0 + 2 * suc m) / 2 ≡ suc m = omega arith in
+        rw (ne-eqb (0 + 2 * suc m) 0 (λ e. omega arith), even, half) (ap (map suc) (rw eqb·suc-zero at (ih (omega (arith, length-map rest suc)))))

@@ -1,13 +1,13 @@
 -- The laws of a test over the places below n, for any n: whether it picks every place or some place, how many it picks, and which.
 use mathlib.Core.Path.{_≡_, refl, sym, ap, ap₂, _∙_}
-use mathlib.Core.Bool.{Bool, true, false, _&&_, _||_, or-true, and-true, and-false, false≢true}
+use mathlib.Core.Bool.{Bool, true, false, _&&_, _||_, or-true, or-false, or-assoc, and-true, and-false, false≢true}
 use mathlib.Core.List.{List, [], _∷_, map, List·Memᴰ, List·Memᴰ·not-nil, List·Memᴰ·cases-cons, Memᴰ·of-map}
 use mathlib.Core.Logic.{⊎-elim}
 use Prim.Native.Nat.{ℕ, zero, suc, _+_, _≤_, _<_}
 use native.Mathlib.Omega.{arith}
 use native.Mathlib.Nat.{suc-inj}
 use borrow.Author.Tests.{eqb-true, eq-eqb}
-use lib.Dec.{eqb, eqb·zero-suc, eqb·suc-zero, eqb·suc-suc}
+use lib.Dec.{eqb}
 use lib.ListN.{length, length-map}
 use Rattle.bits.proofs.Tautology.{and-left, and-right}
 use Rattle.bits.specs.Mask.{digit, countOf, all, any, withZero, placesOf}
@@ -66,6 +66,12 @@ pub any-one : (n d : ℕ) (b : Bool) (p : ℕ → Bool) → d < n → ((k : ℕ)
 any-one n d true p l h = any-of n p d l (h d l ∙ eq-eqb d d refl)
 any-one n d false p l h = any-none n p h
 
+-- of one place more
+pub any-more : (n : ℕ) (p : ℕ → Bool) → any (suc n) p ≡ (any n p || p n)
+unfolding any
+any-more zero p = or-false (p 0)
+any-more (suc n) p = ap (λ (b : Bool). p 0 || b) (any-more n (λ k. p (suc k))) ∙ sym (or-assoc (p 0) (any n (λ k. p (suc k))) (p (suc n)))
+
 -- ---- the number of places, and the places
 
 pub countOf-cong : (n : ℕ) (p q : ℕ → Bool) → ((k : ℕ) → k < n → p k ≡ q k) → countOf n p ≡ countOf n q
@@ -98,14 +104,6 @@ pub places-none : (n : ℕ) (p : ℕ → Bool) → ((k : ℕ) → k < n → p k 
 unfolding placesOf
 places-none zero p h = refl
 places-none (suc n) p h = ap₂ withZero (h 0 (omega arith)) (ap (map suc) (places-none n (λ k. p (suc k)) (λ k l. h (suc k) (omega arith))))
-
-pub places-one : (n d : ℕ) (p : ℕ → Bool) → d < n → ((k : ℕ) → k < n → p k ≡ eqb d k) → placesOf n p ≡ d ∷ []
-unfolding placesOf
-places-one zero d p l h = absurd (omega arith)
-places-one (suc n) zero p l h =
-    ap₂ withZero (h 0 l) (ap (map suc) (places-none n (λ k. p (suc k)) (λ k j. h (suc k) (omega arith) ∙ eqb·zero-suc k)))
-places-one (suc n) (suc d) p l h =
-    ap₂ withZero (h 0 (omega arith) ∙ eqb·suc-zero d) (ap (map suc) (places-one n d (λ k. p (suc k)) (omega arith) (λ k j. h (suc k) (omega arith) ∙ eqb·suc-suc d k)))
 
 -- places that p picks are few if p picks no two
 pub places-few : (n : ℕ) (p : ℕ → Bool) → ((j k : ℕ) → j < n → k < n → p j ≡ true → p k ≡ true → j ≡ k) → length (placesOf n p) ≤ 1

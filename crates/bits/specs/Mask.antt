@@ -1,8 +1,8 @@
 -- Masks of any width. Bit k of a mask is its binary digit of weight 2 ^ k; a test says of each place whether its bit is set.
 use mathlib.Core.Bool.{Bool, true, false, _&&_, _||_}
 use mathlib.Core.List.{List, [], _∷_, map}
-use Prim.Native.Nat.{ℕ, zero, suc, _+_, _-_, _*_, _/_, _%_, _^_}
-use lib.Bits.{bitAnd, bitOr}
+use Prim.Native.Nat.{ℕ, zero, suc, _+_, _*_, _/_, _%_, _^_}
+use lib.Bits.{bitOr}
 use lib.Dec.{eqb}
 
 -- the bits of a u32, the mask of the code
@@ -13,12 +13,9 @@ width = 32
 unfoldable pub bit : ℕ → ℕ → Bool
 bit m k = eqb (m / 2 ^ k % 2) 1
 
--- m with bit k set, and m, a mask of n bits, with bit k cleared
+-- m with bit k set
 unfoldable pub withBit : ℕ → ℕ → ℕ
 withBit m k = bitOr m (2 ^ k)
-
-unfoldable pub withoutBit : ℕ → ℕ → ℕ → ℕ
-withoutBit n m k = bitAnd m (2 ^ n - 1 - 2 ^ k)
 
 -- a test as a binary digit
 abbrev pub digit : Bool → ℕ

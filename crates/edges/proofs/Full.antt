@@ -29,7 +29,8 @@ use Rattle.cache.specs.Tag as tag
 use Rattle.machine.specs.Refusals as machine-refusals
 use Rattle.machine.specs.Step as machine-step
 use Rattle.run_sheet.specs.Run as run
-use Rattle.edges.specs.Table.{Holds, Seen, answers, roomForOne, freshPair, mappedPair, ask, askFrom, pageMapping, itemAt, itemsOf, pagesMapped, listing}
+use Rattle.edges.specs.Rows.{Holds, Seen, answers}
+use Rattle.edges.specs.Table.{roomForOne, freshPair, mappedPair, ask, askFrom, pageMapping, itemAt, itemsOf, pagesMapped, listing}
 
 -- ---- what stands where
 

@@ -1,2 +1,4 @@
--- Document 01's edge cases and example sheet.
+-- Document 01's edge cases, its example sheet and the cells of the page model.
+pub mod Rows
+pub mod Cells
 pub mod Table

@@ -1,5 +1,5 @@
--- Document 01, "At the edges" and the sheet of "The run sheet", with the tags at their limits, request N3's parts at theirs and a sheet of each
--- kind of step: each row is a case and what it must give, and every row holds.
+-- Document 01, "At the edges" and the sheet of "The run sheet", with the tags at their limits, request N3's parts at theirs, a sheet of each
+-- kind of step and every cell of the page model: each row is a case and what it must give, and every row holds.
 use mathlib.Core.Bool.{cond}
 use mathlib.Core.List.{List, [], _∷_, _++_}
 use mathlib.Core.Option.{Option, none, some}
@@ -23,30 +23,8 @@ use Rattle.cache.specs.Tag.{frameOf, isDirty}
 use Rattle.machine.specs.State.{State, state, Single, map, read, write, deviceWrite, deviceWritePart, evict, Answer, Result}
 use Rattle.machine.specs.Step.{answer, result, step}
 use Rattle.run_sheet.specs.Run.{start, sheetText}
-
--- ---- rows
-
--- what a case gives: a text, the answers of calls, a call's answer with the state after it, or numbers
-pub data Seen : Type 0 where
-  text : List ℕ → Seen
-  answers : List Answer → Seen
-  outcome : Result → Seen
-  numbers : List ℕ → Seen
-
-pub record Row : Type 0 where
-  pub given : Seen
-  pub must : Seen
-
-infix 20 _gives_
-abbrev pub _gives_ : Seen → Seen → Row
-given gives must = record { given = given; must = must }
-
-abbrev pub Holds : Row → Type 0
-Holds row = row .given ≡ row .must
-
-abbrev pub EveryRowHolds : List Row → Type 0
-EveryRowHolds [] = Unit {0}
-EveryRowHolds (row ∷ rows) = Holds row × EveryRowHolds rows
+use Rattle.edges.specs.Rows.{text, answers, outcome, numbers, Row, _gives_, EveryRowHolds}
+use Rattle.edges.specs.Cells.{cells}
 
 -- ---- calls
 
@@ -265,7 +243,8 @@ table =
     ∷ (text (sheetText board01 (oneStep (7 ∷ 3 ∷ 52 ∷ 0 ∷ 12 ∷ 5 ∷ 0 ∷ 0 ∷ 0 ∷ []))) gives text (oneLine (48 ∷ []) 45))
     ∷ (text (sheetText board01 (oneStep (7 ∷ 3 ∷ 53 ∷ 0 ∷ 12 ∷ 5 ∷ 0 ∷ 0 ∷ 0 ∷ []))) gives text (oneLine (49 ∷ 51 ∷ []) 45))
     ∷ (text (sheetText board01 (oneStep (7 ∷ 3 ∷ 52 ∷ 0 ∷ 0 ∷ 5 ∷ 0 ∷ 0 ∷ 0 ∷ []))) gives text (oneLine (49 ∷ 51 ∷ []) 45))
-    ∷ []
+    -- the cells of the page model
+    ∷ cells
 
 -- every row of the table holds
 abbrev pub Edges : Type 0

@@ -7,9 +7,10 @@ use lib.Dec.{eqb}
 use Rattle.bits.specs.Mask.{bit}
 use Rattle.bits.proofs.Tautology.{all4, equalIf, law4, and-left, and-right}
 use Rattle.page_model.specs.declared.FrameRecord.{FrameRecord}
+use Rattle.page_model.specs.Cases.{stepNumber, rowAt}
 use Rattle.page_model.specs.Record.{stateFrom, stateOf}
 use Rattle.page_model.specs.Step.{cellOf}
-use Rattle.page_model.specs.Table.{ColourState, empty, present, dirty, stale, Operation, Role, Cell, Step, read, write, deviceRead, deviceWrite, deviceWritePart, roleIf, readCell, writeCell, deviceReadCell, deviceWriteCell, deviceWritePartCell}
+use Rattle.page_model.specs.Table.{ColourState, empty, present, dirty, stale, Operation, Role, Cell, Step, read, write, deviceRead, deviceWrite, deviceWritePart, roleIf, ownOf}
 use Rattle.page_model.proofs.Rules.{Keeps, flag}
 
 -- a test of whether a colour is the step's own, its stale bit, its held bit and the flag
@@ -29,20 +30,9 @@ apart o s h d = not (h && s)
 abbrev pub stateTest : (ColourState → Bool) → Test
 stateTest f o s h d = f (stateFrom s h d)
 
--- the row of the tables that a step takes, and the colour that it goes through; a transfer's row does not look at the role
+-- the row of the tables that a step takes; a transfer's does not look at the role
 abbrev pub rowOf : Step → Role → ColourState → Cell
-rowOf (read c) = readCell
-rowOf (write c) = writeCell
-rowOf deviceRead = λ role. deviceReadCell
-rowOf deviceWrite = λ role. deviceWriteCell
-rowOf deviceWritePart = λ role. deviceWritePartCell
-
-abbrev pub ownOf : Step → ℕ
-ownOf (read c) = c
-ownOf (write c) = c
-ownOf deviceRead = 0
-ownOf deviceWrite = 0
-ownOf deviceWritePart = 0
+rowOf step = rowAt (stepNumber step)
 
 pub row-cell : (s : Step) (r : FrameRecord) (k : ℕ) → cellOf s r k ≡ rowOf s (roleIf (eqb (ownOf s) k)) (stateOf r k)
 unfolding cellOf

@@ -1,23 +1,34 @@
 -- An access through a colour that lets it pass changes nothing.
 use mathlib.Core.Path.{_≡_, refl, sym, ap, ap₂, _∙_}
 use mathlib.Core.Bool.{Bool, true, false, _&&_, Bool·beq}
-use mathlib.Core.List.{_++_}
-use Prim.Native.Nat.{ℕ, _<_}
+use mathlib.Core.List.{_++_, map}
+use Prim.Native.Nat.{ℕ, _^_, _<_}
 use borrow.Author.Tests.{eqb-true}
 use lib.Count.{trailingZeros}
 use lib.Dec.{eqb}
-use Rattle.bits.specs.Mask.{bit, digit}
-use Rattle.bits.proofs.Mask.{bit-one, at-place, any-one}
+use Rattle.bits.specs.Mask.{bit, digit, any, placesOf}
+use Rattle.bits.proofs.Mask.{mask-of, bit-one, at-place, any-one, places-none}
 use Rattle.bits.proofs.Tautology.{beq-of, and-left, and-right}
 use Rattle.page_model.specs.declared.FrameRecord.{FrameRecord}
 use Rattle.page_model.specs.declared.Op.the-variants.{Flush, Purge}
-use Rattle.page_model.specs.Record.{stateOf, isHeld, isDirty, isStale}
-use Rattle.page_model.specs.Step.{isFlush, isPurge, operations}
-use Rattle.page_model.specs.Table.{Step, read, write}
+use Rattle.page_model.specs.Record.{stateOf, encode, isHeld, isDirty, isStale}
+use Rattle.page_model.specs.Step.{isFlush, isPurge, cellOf, recordAfter, operations}
+use Rattle.page_model.specs.Table.{Step, read, write, ownOf}
 use Rattle.page_model.specs.Theorems.{Idle}
 use Rattle.page_model.proofs.Rules.{Keeps, flag, flag-digit, dirty-only}
-use Rattle.page_model.proofs.Cells.{Test, Agree, apart, nextTest, operationTest, ownOf, at, next-law, operation-law, kept-state}
-use Rattle.page_model.proofs.Build.{record-is, no-operation}
+use Rattle.page_model.proofs.Cells.{Test, Agree, apart, nextTest, operationTest, at, next-law, operation-law, kept-state}
+
+-- masks whose bits are the states after the step, and the flag of whether one of these is dirty, make the record after it
+record-is : (n : ℕ) (s : Step) (r : FrameRecord) {h t d : ℕ} → h < 2 ^ n → t < 2 ^ n
+    → ((k : ℕ) → k < n → bit h k ≡ isHeld (cellOf s r k .next))
+    → ((k : ℕ) → k < n → bit t k ≡ isStale (cellOf s r k .next))
+    → d ≡ digit (any n (λ k. isDirty (cellOf s r k .next)))
+    → _≡_ {A = FrameRecord} (record { held = h; stale = t; dirty = d }) (recordAfter n s r)
+unfolding recordAfter encode
+record-is n s r lh lt eh et ed =
+    let eh′ = mask-of n _ (λ k. isHeld (cellOf s r k .next)) lh eh in
+    let et′ = mask-of n _ (λ k. isStale (cellOf s r k .next)) lt et in
+    λ i. record { held = eh′ i; stale = et′ i; dirty = ed i }
 
 module _ (n : ℕ) (r : FrameRecord) (kr : Keeps n r) (c : ℕ) (lc : c < n) where
   -- a colour that is held is the dirty one, if one is
@@ -51,7 +62,7 @@ module _ (n : ℕ) (r : FrameRecord) (kr : Keeps n r) (c : ℕ) (lc : c < n) whe
   idle-of step given lo holds eh es ed ef ep =
       let next = next-law n r step given holds in
       let operation = operation-law n r step given holds in (
-        sym (ap₂ _++_ (no-operation n Flush _ (operation isFlush (λ o s h d. false) ef)) (no-operation n Purge _ (operation isPurge (λ o s h d. false) ep))),
+        ap₂ _++_ (ap (map Flush) (places-none n _ (λ k l. sym (operation isFlush (λ o s h d. false) ef k l)))) (ap (map Purge) (places-none n _ (λ k l. sym (operation isPurge (λ o s h d. false) ep k l)))),
         sym (record-is n step r (kr .held-lt) (kr .stale-lt) (next isHeld (λ o s h d. h) eh) (next isStale (λ o s h d. s) es)
             (flag-digit (kr .flag-le) ∙ ap digit (sym (any-one n (ownOf step) (flag r) _ lo (λ k l. sym (next isDirty (λ o s h d. d && o) ed k l)))))),
       )

@@ -1,13 +1,12 @@
 -- The page model's laws and theorems.
 pub mod Rules
 pub mod Cells
-pub mod Build
-pub mod Steps
 pub mod Idle
 pub mod Start
 pub mod Encoding
 pub mod After
 pub mod Operations
+pub mod Colours
 pub mod Passing
 pub mod Theorems
 pub mod Listed

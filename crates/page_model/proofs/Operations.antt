@@ -16,13 +16,13 @@ use Rattle.page_model.specs.declared.FrameRecord.{FrameRecord}
 use Rattle.page_model.specs.declared.Op.{Op}
 use Rattle.page_model.specs.declared.Op.the-variants.{Flush, Purge}
 use Rattle.page_model.specs.Step.{isFlush, isPurge, cellOf, operations, opList, firstTwo, OpBelow}
-use Rattle.page_model.specs.Table.{Operation, Step, read, write, deviceRead, deviceWrite, deviceWritePart}
+use Rattle.page_model.specs.Table.{Operation, Step, read, write, deviceRead, deviceWrite, deviceWritePart, ownOf}
 use Rattle.page_model.specs.Theorems.{FewOperations, OpsComplete, OperationsBelow}
 use Rattle.page_model.proofs.Rules.{Keeps, keeps, flag, dirty-at}
-use Rattle.page_model.proofs.Cells.{Test, Agree, apart, operationTest, ownOf, at, kept-operation}
+use Rattle.page_model.proofs.Cells.{Test, Agree, apart, operationTest, at, kept-operation}
 
 -- the colours on which a step has an operation that f picks
-abbrev placesWith : ℕ → Step → FrameRecord → (Operation → Bool) → List ℕ
+abbrev pub placesWith : ℕ → Step → FrameRecord → (Operation → Bool) → List ℕ
 placesWith n step r f = placesOf n (λ k. f (cellOf step r k .operation))
 
 -- ---- there are few
@@ -45,14 +45,14 @@ module _ (n : ℕ) (r : FrameRecord) (kr : Keeps n r) where
     on-own : Agree apart (λ o s h d. operationTest step f o s h d && o) (operationTest step f) → length (placesWith n step r f) ≤ 1
     on-own = few (λ o s h d. o) (ownOf step) (λ k e. e)
 
-  few-flushes : (step : Step) → length (placesWith n step r isFlush) ≤ 1
+  pub few-flushes : (step : Step) → length (placesWith n step r isFlush) ≤ 1
   few-flushes (read c) = on-dirty (read c) isFlush refl
   few-flushes (write c) = on-dirty (write c) isFlush refl
   few-flushes deviceRead = on-dirty deviceRead isFlush refl
   few-flushes deviceWrite = on-dirty deviceWrite isFlush refl
   few-flushes deviceWritePart = on-dirty deviceWritePart isFlush refl
 
-  few-purges : (step : Step) → length (placesWith n step r isPurge) ≤ 1
+  pub few-purges : (step : Step) → length (placesWith n step r isPurge) ≤ 1
   few-purges (read c) = on-own (read c) isPurge refl
   few-purges (write c) = on-own (write c) isPurge refl
   few-purges deviceRead = on-dirty deviceRead isPurge refl

@@ -6,10 +6,10 @@ use borrow.Author.Tests.{eq-eqb}
 use Rattle.page_model.specs.declared.FrameRecord.{FrameRecord}
 use Rattle.page_model.specs.Record.{stateOf, keepsRules, isDirty}
 use Rattle.page_model.specs.Step.{recordAfter}
-use Rattle.page_model.specs.Table.{ColourState, own, Cell, Step, read, write, roleIf}
+use Rattle.page_model.specs.Table.{ColourState, own, Cell, Step, read, write, roleIf, ownOf}
 use Rattle.page_model.specs.Theorems.{passesRead, passesWrite, ReadPasses, WritePasses}
 use Rattle.page_model.proofs.Rules.{keeps}
-use Rattle.page_model.proofs.Cells.{stateTest, rowOf, ownOf, row-cell, at-law, each-state}
+use Rattle.page_model.proofs.Cells.{stateTest, rowOf, row-cell, at-law, each-state}
 use Rattle.page_model.proofs.Idle.{read-idle, write-idle}
 use Rattle.page_model.proofs.After.{state-after}
 

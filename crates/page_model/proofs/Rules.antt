@@ -8,7 +8,7 @@ use lib.Bits.{bitAnd, bitOr}
 use lib.Count.{ones, trailingZeros}
 use lib.Dec.{eqb, leb, ltb}
 use Rattle.bits.specs.Mask.{bit, digit, countOf}
-use Rattle.bits.proofs.Mask.{all-at, all-of, ones-bits, only-bit, only-bit-wide, bit-one, digit-eqb, disjoint-all, or-within}
+use Rattle.bits.proofs.Mask.{all-at, all-of, ones-bits, only-bit, bit-one, digit-eqb, disjoint-all, or-within}
 use Rattle.bits.proofs.Tautology.{and-left, and-right}
 use Rattle.page_model.specs.declared.FrameRecord.{FrameRecord}
 use Rattle.page_model.specs.Record.{keepsRules}
@@ -73,10 +73,6 @@ module _ (n : ℕ) (r : FrameRecord) (k : Keeps n r) where
   -- with the flag set, the held mask is one bit, whose place the trailing zeros are
   pub dirty-only : flag r ≡ true → (trailingZeros n (r .held) < n) × (r .held ≡ 2 ^ trailingZeros n (r .held))
   dirty-only z = only-bit n (r .held) (k .held-lt) (one-bit z)
-
-  -- at any greater width too
-  pub dirty-wide : (w : ℕ) → n ≤ w → flag r ≡ true → trailingZeros w (r .held) ≡ trailingZeros n (r .held)
-  dirty-wide w few z = only-bit-wide n w (r .held) few (k .held-lt) (one-bit z)
 
   -- so the dirty colour is the one held
   pub dirty-at : (j : ℕ) → (flag r && bit (r .held) j) ≡ (flag r && eqb (trailingZeros n (r .held)) j)

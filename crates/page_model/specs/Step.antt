@@ -53,10 +53,6 @@ firstTwo [] = record { first = None; second = None }
 firstTwo (a ∷ []) = record { first = a; second = None }
 firstTwo (a ∷ (b ∷ rest)) = record { first = a; second = b }
 
--- a record of two masks and a flag, after at most a flush and a purge
-abbrev pub steppedTo : ℕ → ℕ → ℕ → Op → Op → Stepped
-steppedTo h t d fl pu = record { next = record { held = h; stale = t; dirty = d }; ops = firstTwo (opList fl ++ opList pu) }
-
 -- the record after the step, and its operations, of which there are no more than two (`Theorems`)
 abbrev pub stepped : ℕ → Step → FrameRecord → Stepped
 stepped n s r = record { next = recordAfter n s r; ops = firstTwo (operations n s r) }

@@ -1,6 +1,6 @@
 -- Document 01, "The page model": both tables, cell by cell, in its order of steps and states; request N3's transfer of a part stands last.
 use mathlib.Core.Bool.{Bool, true, false}
-use Prim.Native.Nat.{ℕ}
+use Prim.Native.Nat.{ℕ, suc}
 use lib.Dec.{eqb}
 
 -- The state of one colour of a frame. Document 01 calls present "held".
@@ -87,3 +87,18 @@ cellAt (write c) k s = writeCell (roleIf (eqb c k)) s
 cellAt deviceRead k s = deviceReadCell s
 cellAt deviceWrite k s = deviceWriteCell s
 cellAt deviceWritePart k s = deviceWritePartCell s
+
+-- the colour that a step goes through, of a transfer 0, at which its cells do not look; and how many colours it needs for that
+abbrev pub ownOf : Step → ℕ
+ownOf (read c) = c
+ownOf (write c) = c
+ownOf deviceRead = 0
+ownOf deviceWrite = 0
+ownOf deviceWritePart = 0
+
+abbrev pub reach : Step → ℕ
+reach (read c) = suc c
+reach (write c) = suc c
+reach deviceRead = 0
+reach deviceWrite = 0
+reach deviceWritePart = 0

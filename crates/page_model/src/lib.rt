@@ -1,14 +1,17 @@
 // The page model: a frame's record, and what each step makes of it.
+mod table;
+
 ghost use mathlib.Core.Path.{_≡_};
 ghost use mathlib.Core.Bool.{true, cond};
 ghost use mathlib.Core.List.{_++_};
+ghost use Prim.Native.Nat.{ℕ, _≤_, _<_};
 ghost use lib.Count.{trailingZeros};
 ghost use lib.Dec.{eqb};
-ghost use Rattle.bits.specs.Mask.{width, bit};
-ghost use Prim.Native.Nat.{ℕ, _≤_, _<_};
+ghost use Rattle.bits.specs.Mask.{width, withBit};
+ghost use Rattle.page_model.specs.Cases.{stateNumber, stepNumber, withState};
 ghost use Rattle.page_model.specs.Record.{keepsRules, stateOf, isHeld, isDirty};
-ghost use Rattle.page_model.specs.Step.{stepped, steppedTo, firstTwo, opList};
-ghost use Rattle.page_model.specs.Table.{read, write, deviceRead, deviceWrite, deviceWritePart};
+ghost use Rattle.page_model.specs.Step.{stepped, firstTwo, opList};
+ghost use Rattle.page_model.specs.Table.{Step, ownOf, reach, read, write, deviceRead, deviceWrite, deviceWritePart};
 
 // An operation that the cache is to carry out on one colour of a frame: document 01's order.
 pub enum Op {
@@ -36,6 +39,9 @@ pub struct Stepped {
     pub ops: Ops,
 }
 
+// The colours that a mask has bits for; a board may have fewer.
+const COLOURS: usize = 32;
+
 impl FrameRecord {
     // Whether the record keeps the rules: no bit past the colours, none in both masks, the flag 0 or 1, and with the flag set exactly one held bit.
     pub fn keeps_rules(self, colours: usize) -> bool
@@ -59,14 +65,7 @@ impl FrameRecord {
         requires { ⌜ colour < width ⌝ }
         ensures { λ r. ⌜ ((n : ℕ) → n ≤ width → colour < n → keepsRules n self ≡ true → r ≡ stepped n (read colour) self) ⌝ }
     {
-        if bits::bit(self.held, colour) {
-            return self.unchanged();
-        }
-        let flush = self.if_dirty(Op::Flush(self.dirty_colour()));
-        let purge = self.purge_stale(colour);
-        let held = bits::with_bit(self.present(), colour);
-        let stale = bits::without_bit(self.stale, colour);
-        Stepped::to(held, stale, 0, flush, purge)
+        self.step(table::READ, colour)
     }
 
     // The processor writes through a colour.
@@ -74,41 +73,28 @@ impl FrameRecord {
         requires { ⌜ colour < width ⌝ }
         ensures { λ r. ⌜ ((n : ℕ) → n ≤ width → colour < n → keepsRules n self ≡ true → r ≡ stepped n (write colour) self) ⌝ }
     {
-        if self.holds_dirty(colour) {
-            return self.unchanged();
-        }
-        let flush = self.if_dirty(Op::Flush(self.dirty_colour()));
-        let purge = self.purge_stale(colour);
-        let held = bits::with_bit(0, colour);
-        let stale = bits::without_bit(self.stale | self.present(), colour);
-        Stepped::to(held, stale, 1, flush, purge)
+        self.step(table::WRITE, colour)
     }
 
     // A device reads the frame's page from memory.
     pub fn device_read(self) -> Stepped
         ensures { λ r. ⌜ ((n : ℕ) → n ≤ width → keepsRules n self ≡ true → r ≡ stepped n deviceRead self) ⌝ }
     {
-        let colour = self.dirty_colour();
-        let flush = self.if_dirty(Op::Flush(colour));
-        Stepped::to(self.present(), self.stale, 0, flush, Op::None)
+        self.step(table::DEVICE_READ, 0)
     }
 
     // A device writes the frame's page in memory.
     pub fn device_write(self) -> Stepped
         ensures { λ r. ⌜ ((n : ℕ) → n ≤ width → keepsRules n self ≡ true → r ≡ stepped n deviceWrite self) ⌝ }
     {
-        let colour = self.dirty_colour();
-        let purge = self.if_dirty(Op::Purge(colour));
-        Stepped::to(0, self.stale | self.present(), 0, Op::None, purge)
+        self.step(table::DEVICE_WRITE, 0)
     }
 
     // A device writes some of the page's words in memory: the dirty colour is flushed, which keeps the others.
     pub fn device_write_part(self) -> Stepped
         ensures { λ r. ⌜ ((n : ℕ) → n ≤ width → keepsRules n self ≡ true → r ≡ stepped n deviceWritePart self) ⌝ }
     {
-        let dirty = self.dirty_colour();
-        let flush = self.if_dirty(Op::Flush(dirty));
-        Stepped::to(0, self.stale | self.present(), 0, flush, Op::None)
+        self.step(table::DEVICE_WRITE_PART, 0)
     }
 
     // Whether a colour is present or dirty, in any record.
@@ -127,58 +113,100 @@ impl FrameRecord {
         self.holds(colour) & (self.dirty == 1)
     }
 
-    // No operation, and the record as it is.
-    fn unchanged(self) -> Stepped
-        ensures { λ r. ⌜ r ≡ steppedTo (self .held) (self .stale) (self .dirty) Op.None Op.None ⌝ }
+    // A step, colour by colour: the cell at each gives its operation and its next state, and these make the answer. Colours that the board does
+    // not have are empty, and stay so. A transfer goes through no colour, and its cells do not look at one.
+    fn step(self, step: u8, colour: usize) -> Stepped
+        ensures { λ r. ⌜ ((n : ℕ) (s : Step) → n ≤ width → step ≡ stepNumber s → colour ≡ ownOf s → reach s ≤ n → keepsRules n self ≡ true → r ≡ stepped n s self) ⌝ }
     {
-        Stepped::to(self.held, self.stale, self.dirty, Op::None, Op::None)
+        let mut next = FrameRecord {
+            held: 0,
+            stale: 0,
+            dirty: 0,
+        };
+        let mut flushes = 0;
+        let mut purges = 0;
+        for k in 0..COLOURS {
+            let case = table::cell(step, colour == k, self.state(k));
+            flushes = including(flushes, k, case.0 == table::FLUSH);
+            purges = including(purges, k, case.0 == table::PURGE);
+            next = next.with_state(k, case.1);
+        }
+        let flush = if_any(flushes, Op::Flush(first_of(flushes)));
+        let purge = if_any(purges, Op::Purge(first_of(purges)));
+        let ops = first_two(flush, purge);
+        Stepped { next, ops }
     }
 
-    // The colours that are present: those held, unless the one held is dirty.
-    fn present(self) -> u32
-        ensures { λ r. ⌜ r ≡ cond (eqb (self .dirty) 1) 0 (self .held) ⌝ }
-    {
-        if self.dirty == 1 { 0 } else { self.held }
-    }
-
-    // The dirty colour: the only one held. Means nothing unless a colour is dirty.
-    fn dirty_colour(self) -> usize
-        ensures { λ r. ⌜ r ≡ trailingZeros width (self .held) ⌝ }
-    {
-        u32::trailing_zeros(self.held) as usize
-    }
-
-    // An operation on the dirty colour, if there is one.
-    fn if_dirty(self, op: Op) -> Op
-        ensures { λ r. ⌜ r ≡ cond (eqb (self .dirty) 1) op Op.None ⌝ }
-    {
-        if self.dirty == 1 { op } else { Op::None }
-    }
-
-    // The purge of a colour, if it is stale.
-    fn purge_stale(self, colour: usize) -> Op
+    // The number of a colour's state, in any record.
+    fn state(self, colour: usize) -> u8
         requires { ⌜ colour < width ⌝ }
-        ensures { λ r. ⌜ r ≡ cond (bit (self .stale) colour) (Op.Purge colour) Op.None ⌝ }
+        ensures { λ r. ⌜ r ≡ stateNumber (stateOf self colour) ⌝ }
     {
         if bits::bit(self.stale, colour) {
-            Op::Purge(colour)
+            return table::STALE;
+        }
+        if bits::bit(self.held, colour) {
+            if self.dirty == 1 {
+                table::DIRTY
+            } else {
+                table::PRESENT
+            }
         } else {
-            Op::None
+            table::EMPTY
+        }
+    }
+
+    // The record with a colour, so far empty, in a state.
+    fn with_state(self, colour: usize, state: u8) -> FrameRecord
+        requires { ⌜ colour < width ⌝ }
+        ensures { λ r. ⌜ r ≡ withState self colour state ⌝ }
+    {
+        match state {
+            table::EMPTY => self,
+            table::PRESENT => FrameRecord {
+                held: bits::with_bit(self.held, colour),
+                stale: self.stale,
+                dirty: self.dirty,
+            },
+            table::DIRTY => FrameRecord {
+                held: bits::with_bit(self.held, colour),
+                stale: self.stale,
+                dirty: 1,
+            },
+            table::STALE => FrameRecord {
+                held: self.held,
+                stale: bits::with_bit(self.stale, colour),
+                dirty: self.dirty,
+            },
+            4..=255 => self,
         }
     }
 }
 
-impl Stepped {
-    // The record of two masks and a flag, after at most a flush and a purge.
-    fn to(held: u32, stale: u32, dirty: u32, flush: Op, purge: Op) -> Stepped
-        ensures { λ r. ⌜ r ≡ steppedTo held stale dirty flush purge ⌝ }
-    {
-        let ops = first_two(flush, purge);
-        Stepped {
-            next: FrameRecord { held, stale, dirty },
-            ops,
-        }
+// The mask with a colour's bit set, if it is picked.
+fn including(mask: u32, colour: usize, picked: bool) -> u32
+    requires { ⌜ colour < width ⌝ }
+    ensures { λ r. ⌜ r ≡ cond picked (withBit mask colour) mask ⌝ }
+{
+    if picked {
+        bits::with_bit(mask, colour)
+    } else {
+        mask
     }
+}
+
+// The first colour of a mask. Means nothing of a mask that has none.
+fn first_of(mask: u32) -> usize
+    ensures { λ r. ⌜ r ≡ trailingZeros width mask ⌝ }
+{
+    u32::trailing_zeros(mask) as usize
+}
+
+// An operation on a colour of a mask, if that has one.
+fn if_any(mask: u32, op: Op) -> Op
+    ensures { λ r. ⌜ r ≡ cond (eqb mask 0) Op.None op ⌝ }
+{
+    if mask == 0 { Op::None } else { op }
 }
 
 // Two operations in order, either of which may be None: a None stands last.

@@ -1,0 +1,63 @@
+-- The numbers that the code's cases go by, in the order of document 01's tables: what each stands for, the cell that they name, and the
+-- record that a colour more in a numbered state makes.
+use mathlib.Core.Bool.{Bool}
+use Prim.Native.Nat.{ℕ, zero, suc}
+use Rattle.bits.specs.Mask.{withBit}
+use Rattle.page_model.specs.declared.FrameRecord.{FrameRecord}
+use Rattle.page_model.specs.declared.table.Case.{Case}
+use Rattle.page_model.specs.Table.{ColourState, empty, present, dirty, stale, Operation, none, flush, purge, Cell, _⇒_, Role, readCell, writeCell, deviceReadCell, deviceWriteCell, deviceWritePartCell, Step, read, write, deviceRead, deviceWrite, deviceWritePart, roleIf}
+
+-- ---- the numbers
+
+abbrev pub stateNumber : ColourState → ℕ
+stateNumber empty = 0
+stateNumber present = 1
+stateNumber dirty = 2
+stateNumber stale = 3
+
+abbrev pub operationNumber : Operation → ℕ
+operationNumber none = 0
+operationNumber flush = 1
+operationNumber purge = 2
+
+abbrev pub stepNumber : Step → ℕ
+stepNumber (read c) = 0
+stepNumber (write c) = 1
+stepNumber deviceRead = 2
+stepNumber deviceWrite = 3
+stepNumber deviceWritePart = 4
+
+-- ---- the cell by numbers
+
+abbrev pub caseOf : Cell → Case
+caseOf x = record { 0 = operationNumber (x .operation); 1 = stateNumber (x .next) }
+
+-- the row of a step's number; that of any other number has no operation and leaves each state as it is
+abbrev pub rowAt : ℕ → Role → ColourState → Cell
+rowAt zero = readCell
+rowAt (suc zero) = writeCell
+rowAt (suc (suc zero)) = λ role. deviceReadCell
+rowAt (suc (suc (suc zero))) = λ role. deviceWriteCell
+rowAt (suc (suc (suc (suc zero)))) = λ role. deviceWritePartCell
+rowAt (suc (suc (suc (suc (suc step))))) = λ role state. none ⇒ state
+
+-- the cell of a state's number in a row; any other number has no operation and is left as it is
+abbrev pub caseIn : (ColourState → Cell) → ℕ → Case
+caseIn row zero = caseOf (row empty)
+caseIn row (suc zero) = caseOf (row present)
+caseIn row (suc (suc zero)) = caseOf (row dirty)
+caseIn row (suc (suc (suc zero))) = caseOf (row stale)
+caseIn row (suc (suc (suc (suc state)))) = record { 0 = operationNumber none; 1 = suc (suc (suc (suc state))) }
+
+unfoldable pub caseAt : ℕ → Bool → ℕ → Case
+caseAt step own state = caseIn (rowAt step (roleIf own)) state
+
+-- ---- a record, colour by colour
+
+-- the record with colour k, so far empty, in the state of a number; any number but a state's leaves it as it is
+abbrev pub withState : FrameRecord → ℕ → ℕ → FrameRecord
+withState r k zero = r
+withState r k (suc zero) = record { held = withBit (r .held) k; stale = r .stale; dirty = r .dirty }
+withState r k (suc (suc zero)) = record { held = withBit (r .held) k; stale = r .stale; dirty = 1 }
+withState r k (suc (suc (suc zero))) = record { held = r .held; stale = withBit (r .stale) k; dirty = r .dirty }
+withState r k (suc (suc (suc (suc state)))) = r

@@ -1,0 +1,103 @@
+// Document 01's two tables and request N3's row, by cases: what a step makes of one colour's state. The steps and, in each, the states stand
+// in the papers' order.
+ghost use mathlib.Core.Path.{_≡_};
+ghost use Rattle.page_model.specs.Cases.{caseAt};
+
+// The states of a colour. Document 01 calls present "held".
+pub const EMPTY: u8 = 0;
+
+pub const PRESENT: u8 = 1;
+
+pub const DIRTY: u8 = 2;
+
+pub const STALE: u8 = 3;
+
+// The operations on a colour, which document 01 calls orders.
+pub const NONE: u8 = 0;
+
+pub const FLUSH: u8 = 1;
+
+pub const PURGE: u8 = 2;
+
+// The steps.
+pub const READ: u8 = 0;
+
+pub const WRITE: u8 = 1;
+
+pub const DEVICE_READ: u8 = 2;
+
+pub const DEVICE_WRITE: u8 = 3;
+
+pub const DEVICE_WRITE_PART: u8 = 4;
+
+// A cell of the tables: an operation, and the state after it.
+pub struct Case(pub u8, pub u8);
+
+// The cell of a step at a colour, its own or another, in a state. A number that stands for no step or no state gives no operation, and
+// leaves the state's number as it is.
+pub fn cell(step: u8, own: bool, state: u8) -> Case
+    ensures { λ r. ⌜ r ≡ caseAt step own state ⌝ }
+{
+    match step {
+        READ => {
+            if own {
+                match state {
+                    EMPTY => Case(NONE, PRESENT),
+                    PRESENT => Case(NONE, PRESENT),
+                    DIRTY => Case(NONE, DIRTY),
+                    STALE => Case(PURGE, PRESENT),
+                    4..=255 => Case(NONE, state),
+                }
+            } else {
+                match state {
+                    EMPTY => Case(NONE, EMPTY),
+                    PRESENT => Case(NONE, PRESENT),
+                    DIRTY => Case(FLUSH, EMPTY),
+                    STALE => Case(NONE, STALE),
+                    4..=255 => Case(NONE, state),
+                }
+            }
+        }
+        WRITE => {
+            if own {
+                match state {
+                    EMPTY => Case(NONE, DIRTY),
+                    PRESENT => Case(NONE, DIRTY),
+                    DIRTY => Case(NONE, DIRTY),
+                    STALE => Case(PURGE, DIRTY),
+                    4..=255 => Case(NONE, state),
+                }
+            } else {
+                match state {
+                    EMPTY => Case(NONE, EMPTY),
+                    PRESENT => Case(NONE, STALE),
+                    DIRTY => Case(FLUSH, EMPTY),
+                    STALE => Case(NONE, STALE),
+                    4..=255 => Case(NONE, state),
+                }
+            }
+        }
+        DEVICE_READ => match state {
+            EMPTY => Case(NONE, EMPTY),
+            PRESENT => Case(NONE, PRESENT),
+            DIRTY => Case(FLUSH, EMPTY),
+            STALE => Case(NONE, STALE),
+            4..=255 => Case(NONE, state),
+        },
+        DEVICE_WRITE => match state {
+            EMPTY => Case(NONE, EMPTY),
+            PRESENT => Case(NONE, STALE),
+            DIRTY => Case(PURGE, EMPTY),
+            STALE => Case(NONE, STALE),
+            4..=255 => Case(NONE, state),
+        },
+        DEVICE_WRITE_PART => match state {
+            EMPTY => Case(NONE, EMPTY),
+            PRESENT => Case(NONE, STALE),
+            DIRTY => Case(FLUSH, EMPTY),
+            STALE => Case(NONE, STALE),
+            4..=255 => Case(NONE, state),
+        },
+        5..=255 => Case(NONE, state),
+    }
+}
