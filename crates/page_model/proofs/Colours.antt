@@ -1,7 +1,7 @@
 -- A step as the code takes it, colour by colour: what it has made of the colours below k, of one more, and of all.
 use mathlib.Core.Path.{_≡_, refl, sym, ap, ap₂, _∙_}
 use mathlib.Core.Bool.{Bool, true, false, _||_, cond, or-true, or-false}
-use mathlib.Core.List.{List, [], _∷_, _++_, map}
+use mathlib.Core.List.{[], _∷_, _++_, map}
 use Prim.Native.Nat.{ℕ, zero, suc, _≤_, _<_}
 use native.Mathlib.Decide.{decLt}
 use native.Mathlib.Omega.{arith}
@@ -9,13 +9,12 @@ use borrow.Author.Tests.{ne-eqb}
 use lib.Count.{trailingZeros}
 use lib.Dec.{eqb}
 use lib.ListN.{length}
-use Rattle.bits.specs.Mask.{withBit, digit, any, maskOf, placesOf}
+use Rattle.bits.specs.Mask.{withBit, digit, any, maskOf}
 use Rattle.bits.proofs.Mask.{bit-past, maskOf-more, any-more, places-only}
 use Rattle.page_model.specs.declared.table.Case.{Case}
 use Rattle.page_model.specs.declared.FrameRecord.{FrameRecord}
 use Rattle.page_model.specs.declared.Op.{Op}
 use Rattle.page_model.specs.declared.Op.the-variants.{None, Flush, Purge}
-use Rattle.page_model.specs.declared.Ops.{Ops}
 use Rattle.page_model.specs.Cases.{stateNumber, operationNumber, stepNumber, caseOf, caseIn, caseAt, withState}
 use Rattle.page_model.specs.Record.{stateOf, encode, isHeld, isDirty, isStale, startRecord}
 use Rattle.page_model.specs.Step.{isFlush, isPurge, cellOf, recordAfter, operations, opList, firstTwo, stepped}

@@ -6,7 +6,7 @@ use Prim.Native.Nat.{ℕ, _^_, _<_}
 use borrow.Author.Tests.{eqb-true}
 use lib.Count.{trailingZeros}
 use lib.Dec.{eqb}
-use Rattle.bits.specs.Mask.{bit, digit, any, placesOf}
+use Rattle.bits.specs.Mask.{bit, digit, any}
 use Rattle.bits.proofs.Mask.{mask-of, bit-one, at-place, any-one, places-none}
 use Rattle.bits.proofs.Tautology.{beq-of, and-left, and-right}
 use Rattle.page_model.specs.declared.FrameRecord.{FrameRecord}

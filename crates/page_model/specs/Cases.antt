@@ -49,6 +49,7 @@ caseIn row (suc (suc zero)) = caseOf (row dirty)
 caseIn row (suc (suc (suc zero))) = caseOf (row stale)
 caseIn row (suc (suc (suc (suc state)))) = record { 0 = operationNumber none; 1 = suc (suc (suc (suc state))) }
 
+-- the case of a step's number at its own colour or another, and of a state's number
 unfoldable pub caseAt : ℕ → Bool → ℕ → Case
 caseAt step own state = caseIn (rowAt step (roleIf own)) state
 

@@ -88,7 +88,7 @@ cellAt deviceRead k s = deviceReadCell s
 cellAt deviceWrite k s = deviceWriteCell s
 cellAt deviceWritePart k s = deviceWritePartCell s
 
--- the colour that a step goes through, of a transfer 0, at which its cells do not look; and how many colours it needs for that
+-- the colour that a step goes through; a transfer goes through none, and 0 stands for that: its cells do not look at it
 abbrev pub ownOf : Step → ℕ
 ownOf (read c) = c
 ownOf (write c) = c
@@ -96,6 +96,7 @@ ownOf deviceRead = 0
 ownOf deviceWrite = 0
 ownOf deviceWritePart = 0
 
+-- how many colours a step asks for, so that the one it goes through is among them
 abbrev pub reach : Step → ℕ
 reach (read c) = suc c
 reach (write c) = suc c

@@ -126,7 +126,7 @@ impl FrameRecord {
         let mut flushes = 0;
         let mut purges = 0;
         for k in 0..COLOURS {
-            let case = table::cell(step, colour == k, self.state(k));
+            let case = table::case_at(step, colour == k, self.state(k));
             flushes = including(flushes, k, case.0 == table::FLUSH);
             purges = including(purges, k, case.0 == table::PURGE);
             next = next.with_state(k, case.1);

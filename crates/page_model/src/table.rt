@@ -1,9 +1,9 @@
-// Document 01's two tables and request N3's row, by cases: what a step makes of one colour's state. The steps and, in each, the states stand
+// Document 01's two tables and request N3's row, by cases: what a step makes of one colour's state, own or other. Steps, rows and states stand
 // in the papers' order.
 ghost use mathlib.Core.Path.{_≡_};
 ghost use Rattle.page_model.specs.Cases.{caseAt};
 
-// The states of a colour. Document 01 calls present "held".
+// The states of a colour, by number. PRESENT is what document 01 calls held.
 pub const EMPTY: u8 = 0;
 
 pub const PRESENT: u8 = 1;
@@ -12,14 +12,14 @@ pub const DIRTY: u8 = 2;
 
 pub const STALE: u8 = 3;
 
-// The operations on a colour, which document 01 calls orders.
+// The operations on a colour, which document 01 calls orders, by number.
 pub const NONE: u8 = 0;
 
 pub const FLUSH: u8 = 1;
 
 pub const PURGE: u8 = 2;
 
-// The steps.
+// The steps, by number.
 pub const READ: u8 = 0;
 
 pub const WRITE: u8 = 1;
@@ -35,12 +35,14 @@ pub struct Case(pub u8, pub u8);
 
 // The cell of a step at a colour, its own or another, in a state. A number that stands for no step or no state gives no operation, and
 // leaves the state's number as it is.
-pub fn cell(step: u8, own: bool, state: u8) -> Case
+pub fn case_at(step: u8, own: bool, state: u8) -> Case
     ensures { λ r. ⌜ r ≡ caseAt step own state ⌝ }
 {
     match step {
+        // processor read
         READ => {
             if own {
+                // own colour
                 match state {
                     EMPTY => Case(NONE, PRESENT),
                     PRESENT => Case(NONE, PRESENT),
@@ -49,6 +51,7 @@ pub fn cell(step: u8, own: bool, state: u8) -> Case
                     4..=255 => Case(NONE, state),
                 }
             } else {
+                // others
                 match state {
                     EMPTY => Case(NONE, EMPTY),
                     PRESENT => Case(NONE, PRESENT),
@@ -58,8 +61,10 @@ pub fn cell(step: u8, own: bool, state: u8) -> Case
                 }
             }
         }
+        // processor write
         WRITE => {
             if own {
+                // own colour
                 match state {
                     EMPTY => Case(NONE, DIRTY),
                     PRESENT => Case(NONE, DIRTY),
@@ -68,6 +73,7 @@ pub fn cell(step: u8, own: bool, state: u8) -> Case
                     4..=255 => Case(NONE, state),
                 }
             } else {
+                // others
                 match state {
                     EMPTY => Case(NONE, EMPTY),
                     PRESENT => Case(NONE, STALE),
@@ -77,6 +83,7 @@ pub fn cell(step: u8, own: bool, state: u8) -> Case
                 }
             }
         }
+        // device read (memory to device), every colour
         DEVICE_READ => match state {
             EMPTY => Case(NONE, EMPTY),
             PRESENT => Case(NONE, PRESENT),
@@ -84,6 +91,7 @@ pub fn cell(step: u8, own: bool, state: u8) -> Case
             STALE => Case(NONE, STALE),
             4..=255 => Case(NONE, state),
         },
+        // device write (device to memory), every colour
         DEVICE_WRITE => match state {
             EMPTY => Case(NONE, EMPTY),
             PRESENT => Case(NONE, STALE),
@@ -91,6 +99,7 @@ pub fn cell(step: u8, own: bool, state: u8) -> Case
             STALE => Case(NONE, STALE),
             4..=255 => Case(NONE, state),
         },
+        // part transfer, every colour
         DEVICE_WRITE_PART => match state {
             EMPTY => Case(NONE, EMPTY),
             PRESENT => Case(NONE, STALE),
@@ -98,6 +107,7 @@ pub fn cell(step: u8, own: bool, state: u8) -> Case
             STALE => Case(NONE, STALE),
             4..=255 => Case(NONE, state),
         },
+        // no step
         5..=255 => Case(NONE, state),
     }
 }

@@ -1,11 +1,12 @@
 -- `page_model::FrameRecord::step` meets its contract. The loop's invariant: record and masks so far are those that the step has made of the
 -- colours below k.
-use mathlib.Core.Path.{_≡_, ap, _∙_}
+use mathlib.Core.Path.{_≡_, _∙_}
 use Prim.Native.Nat.{_≤_, _-_}
 use native.Mathlib.Omega.{arith}
 use native.Mathlib.Numerals.{add-one}
 use borrow.Author.Needs.{needs}
 use lib.Dec.{eqb}
+use Rattle.bits.specs.Mask.{width}
 use Rattle.page_model.specs.Cases.{stepNumber, caseAt}
 use Rattle.page_model.specs.Table.{Step, ownOf}
 use Rattle.page_model.proofs.Rules.{keeps}
@@ -15,20 +16,20 @@ use Rattle.page_model.proofs.FrameRecord.step.Tie as tie
 
 abbrev Inv-loop : tie.InvT-loop
 Inv-loop self step colour next₀ flushes₀ purges₀ k₀ next flushes purges k =
-    (k ≤ 32) × ((s : Step) → step ≡ stepNumber s → colour ≡ ownOf s → Made s self k next flushes purges)
+    (k ≤ width) × ((s : Step) → step ≡ stepNumber s → colour ≡ ownOf s → Made s self k next flushes purges)
 
 abbrev μ-loop : tie.MeasureT-loop
-μ-loop self step colour next₀ flushes₀ purges₀ k₀ next flushes purges k = 32 - k
+μ-loop self step colour next₀ flushes₀ purges₀ k₀ next flushes purges k = width - k
 
 loop-again : tie.Need-loop-again Inv-loop μ-loop
 loop-again c =
     let at-flush = c .before .before .before in
-    let at-cell = at-flush .before .before in
-    let at-loop = at-cell .before .before .before in
+    let at-case = at-flush .before .before in
+    let at-loop = at-case .before .before .before in
     let k = at-loop .loop .k in (
       omega arith,
       λ s step own.
-          let case = at-cell .cell .ensures ∙ (λ i. caseAt (step i) (eqb (own i) k) (at-cell .before .state .ensures i)) in
+          let case = at-case .case-at .ensures ∙ (λ i. caseAt (step i) (eqb (own i) k) (at-case .before .state .ensures i)) in
           rw (add-one, at-flush .including .ensures, c .before .including2 .ensures, c .with-state .ensures) (made-more s (at-loop .before .args .self) k (at-loop .loop .inv .1 s step own) case),
     )
 
@@ -37,10 +38,10 @@ returns c n s few step own reaches rules =
     let at-purge = c .before in
     let at-flush = at-purge .before .before in
     let at-loop = at-flush .before .before .before in
-    let all : at-loop .loop .k ≡ 32 = omega arith in
+    let all : at-loop .loop .k ≡ width = omega arith in
     rw
     (c .first-two .ensures, at-purge .if-any2 .ensures, at-purge .before .first-of2 .ensures, at-flush .if-any .ensures, at-flush .before .first-of .ensures)
-    (made-all n _ (keeps n _ rules) 32 s few reaches (rw all at (at-loop .loop .inv .1 s step own)))
+    (made-all n _ (keeps n _ rules) width s few reaches (rw all at (at-loop .loop .inv .1 s step own)))
 
 pub step-spec : {M : Type 1} → statement M
 step-spec =

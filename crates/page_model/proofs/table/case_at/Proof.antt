@@ -1,12 +1,12 @@
--- `page_model::table::cell` meets its contract: in each arm, the numbers that led there make the table's cell compute.
+-- `page_model::table::case_at` meets its contract: in each arm, the numbers that led there make the table's cell compute.
 use mathlib.Core.Path.{_≡_, refl, sym}
 use mathlib.Core.Bool.{Bool, true, false}
 use Prim.Native.Nat.{ℕ, zero, suc, _-_, _≤_}
 use native.Mathlib.Omega.{arith}
 use Rattle.page_model.specs.Cases.{rowAt, caseIn, caseAt}
 use Rattle.page_model.specs.Table.{none, _⇒_, roleIf}
-use Rattle.page_model.proofs.table.cell.Statement.{statement}
-use Rattle.page_model.proofs.table.cell.Tie as tie
+use Rattle.page_model.proofs.table.case_at.Statement.{statement}
+use Rattle.page_model.proofs.table.case_at.Tie as tie
 
 -- an unused number of a state, and one of a step
 other-state : (step : ℕ) (own : Bool) (s : ℕ) → 4 ≤ s → record { 0 = 0; 1 = s } ≡ caseAt step own s
@@ -30,8 +30,8 @@ at : (step : ℕ) (own : Bool) (state : ℕ) {step′ state′ : ℕ} {own′ : 
 unfolding caseAt
 at step own state e f g = λ i. caseIn (rowAt (sym e i) (roleIf (sym f i))) (sym g i)
 
-pub cell-spec : {M : Type 1} → statement M
-cell-spec =
+pub case-at-spec : {M : Type 1} → statement M
+case-at-spec =
     tie.close
     (tie.spec
     (λ c. at 0 true 0 (omega arith) (c .before .if1 .taken) (omega arith))
