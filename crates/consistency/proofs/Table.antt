@@ -10,8 +10,8 @@ use Rattle.bits.proofs.Tautology.{and-left, and-right}
 use Rattle.page_model.specs.declared.FrameRecord.{FrameRecord}
 use Rattle.page_model.specs.Record.{stateOf, isHeld, isDirty}
 use Rattle.page_model.specs.Step.{isFlush, isPurge, cellOf}
-use Rattle.page_model.specs.Table.{ColourState, empty, present, dirty, stale, Operation, none, Cell, own, other, roleIf, Step, read, write, deviceRead, deviceWrite, deviceWritePart}
-use Rattle.page_model.proofs.Cells.{rowOf, ownOf, row-cell, each-state}
+use Rattle.page_model.specs.Table.{ColourState, empty, present, dirty, stale, Operation, none, Cell, own, other, roleIf, Step, read, write, deviceRead, deviceWrite, deviceWritePart, ownOf}
+use Rattle.page_model.proofs.Cells.{rowOf, row-cell, each-state}
 use Rattle.consistency.proofs.Weaker.{weaker, is-dirty}
 
 -- ---- a law of a row
