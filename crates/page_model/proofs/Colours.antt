@@ -39,15 +39,11 @@ case-cell deviceRead k = state-number deviceReadCell
 case-cell deviceWrite k = state-number deviceWriteCell
 case-cell deviceWritePart k = state-number deviceWritePartCell
 
-flush-number : (o : Operation) → eqb (operationNumber o) 1 ≡ isFlush o
-flush-number none = refl
-flush-number flush = refl
-flush-number purge = refl
-
-purge-number : (o : Operation) → eqb (operationNumber o) 2 ≡ isPurge o
-purge-number none = refl
-purge-number flush = refl
-purge-number purge = refl
+-- an operation's number tells a flush, and a purge
+operation-number : (o : Operation) → (eqb (operationNumber o) 1 ≡ isFlush o) × (eqb (operationNumber o) 2 ≡ isPurge o)
+operation-number none = (refl, refl)
+operation-number flush = (refl, refl)
+operation-number purge = (refl, refl)
 
 -- ---- one colour more
 
@@ -87,11 +83,11 @@ pub made-more : (s : Step) (r : FrameRecord) (k : ℕ) {next : FrameRecord} {fl 
 unfolding recordAfter cellOf
 made-more s r k m e =
     let cell = e ∙ case-cell s k (stateOf r k) in
-    let o = cellAt s k (stateOf r k) .operation in
+    let number = operation-number (cellAt s k (stateOf r k) .operation) in
     record {
       next-is = ap₂ (λ (n : FrameRecord) (y : Case). withState n k (y .1)) (m .next-is) cell ∙ sym (encode-more k _);
-      flush-is = picked isFlush (m .flush-is) (ap (λ (y : Case). eqb (y .0) 1) cell ∙ flush-number o);
-      purge-is = picked isPurge (m .purge-is) (ap (λ (y : Case). eqb (y .0) 2) cell ∙ purge-number o);
+      flush-is = picked isFlush (m .flush-is) (ap (λ (y : Case). eqb (y .0) 1) cell ∙ number .0);
+      purge-is = picked isPurge (m .purge-is) (ap (λ (y : Case). eqb (y .0) 2) cell ∙ number .1);
     }
   where
     picked : (f : Operation → Bool) {mask : ℕ} {b : Bool} → mask ≡ maskWith k s r f → b ≡ f (cellOf s r k .operation) → cond b (withBit mask k) mask ≡ maskWith (suc k) s r f
@@ -130,8 +126,8 @@ module _ (n : ℕ) (r : FrameRecord) (kr : Keeps n r) where
       → record { next = next; ops = firstTwo (opList (cond (eqb fl 0) None (Flush (trailingZeros w fl))) ++ opList (cond (eqb pu 0) None (Purge (trailingZeros w pu)))) } ≡ stepped n s r
   unfolding recordAfter operations
   made-all w s few t m =
-      let next = m .next-is ∙ steady (λ k. encode k (λ j. cellOf s r j .next)) n w few
-      (λ k l. encode-more k (λ j. cellOf s r j .next) ∙ ap (λ (x : Cell). withState (encode k (λ j. cellOf s r j .next)) k (stateNumber (x .next))) (past-cell s t k l)) in
+      let states : ℕ → ColourState = λ j. cellOf s r j .next in
+      let next = m .next-is ∙ steady (λ k. encode k states) n w few (λ k l. encode-more k states ∙ ap (λ (x : Cell). withState (encode k states) k (stateNumber (x .next))) (past-cell s t k l)) in
       let flushes = all Flush (λ k. refl) isFlush refl (few-flushes n r kr s) (m .flush-is) in
       let purges = all Purge (λ k. refl) isPurge refl (few-purges n r kr s) (m .purge-is) in
       λ i. record { next = next i; ops = firstTwo (flushes i ++ purges i) }
@@ -139,6 +135,6 @@ module _ (n : ℕ) (r : FrameRecord) (kr : Keeps n r) where
       all : (op : ℕ → Op) → ((k : ℕ) → opList (op k) ≡ op k ∷ []) → (f : Operation → Bool) → f none ≡ false → length (placesWith n s r f) ≤ 1
           → {mask : ℕ} → mask ≡ maskWith w s r f → opList (cond (eqb mask 0) None (op (trailingZeros w mask))) ≡ map op (placesWith n s r f)
       all op o f z one {mask} e =
-          let narrow = e ∙ steady (λ k. maskWith k s r f) n w few
-          (λ k l. maskOf-more k (λ j. f (cellOf s r j .operation)) ∙ ap (λ (b : Bool). cond b (withBit (maskWith k s r f) k) (maskWith k s r f)) (ap (λ (x : Cell). f (x .operation)) (past-cell s t k l) ∙ z)) in
-          operation-of op o (eqb mask 0) (trailingZeros w mask) ∙ ap (λ (m : ℕ). map op (cond (eqb m 0) [] (trailingZeros w m ∷ []))) narrow ∙ ap (map op) (sym (places-only n w (λ j. f (cellOf s r j .operation)) few one))
+          let p : ℕ → Bool = λ j. f (cellOf s r j .operation) in
+          let narrow = e ∙ steady (λ k. maskOf k p) n w few (λ k l. maskOf-more k p ∙ ap (λ (b : Bool). cond b (withBit (maskOf k p) k) (maskOf k p)) (ap (λ (x : Cell). f (x .operation)) (past-cell s t k l) ∙ z)) in
+          operation-of op o (eqb mask 0) (trailingZeros w mask) ∙ ap (λ (m : ℕ). map op (cond (eqb m 0) [] (trailingZeros w m ∷ []))) narrow ∙ ap (map op) (sym (places-only n w p few one))
