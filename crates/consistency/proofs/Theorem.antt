@@ -72,7 +72,7 @@ module _ (b : Board) (reg : Regular b) where
         subst (λ (x : Bool). Invariant b (afterItems b st items (suc k)) (afterSingle (itemsTaken m items answered k) (mapOf (itemAt items k)) x)) (item-refused k h)
         (serves-single (afterItems b st items k) (itemsTaken m items answered k) (items-kept k (omega arith)) (mapOf (itemAt items k)) .1)
 
-  serves : (st : State) (m : Cacheless) → Invariant b st m → (call : Call) → Serves m call (perform b st call)
+  pub serves : (st : State) (m : Cacheless) → Invariant b st m → (call : Call) → Serves m call (perform b st call)
   serves st m inv (single call) = serves-single st m inv call
   serves st m inv (mapAll items answers) =
       perform-cases b st (mapAll items answers) (Serves m (mapAll items answers)) (λ _. (λ _. tt, items-kept st m inv items (length items) (omega arith)))

@@ -1,0 +1,6 @@
+-- Position hold's proofs: the laws of a look, and the theorems.
+pub mod Told
+pub mod FirstReads
+pub mod Reading
+pub mod Holds
+pub mod Theorems

@@ -1,0 +1,159 @@
+-- `position_hold::read_fix` meets its contract. The loop's invariant: the words and the state are those of the first `offset` reads.
+use mathlib.Core.Path.{_≡_, refl, sym, ap, subst, _∙_}
+use mathlib.Core.List.{List, [], _∷_}
+use Prim.Native.Nat.{ℕ, suc, _≤_, _-_}
+use native.Mathlib.Omega.{arith}
+use borrow.Author.Needs.{needs}
+use lib.ListN.{length, getD, take, length-set}
+use Rattle.board.specs.Board.{board01}
+use Rattle.machine.specs.State.{machineOf}
+use Rattle.position_hold.specs.Look.{Words, words as found-words, reads, firstReads, fixWords}
+use Rattle.position_hold.proofs.FirstReads.{reads-refused, reads-put, reads-fix}
+use Rattle.position_hold.proofs.read_fix.Statement.{statement}
+use Rattle.position_hold.proofs.read_fix.Tie as tie
+
+abbrev Inv-loop : tie.InvT-loop
+Inv-loop list records₀ protections₀ memory₀ words₀ tags₀ space page read₀ offset₀ records protections memory words tags read offset =
+    (offset ≤ fixWords)
+    × (length records ≡ length records₀)
+    × (length protections ≡ length protections₀)
+    × (length memory ≡ length memory₀)
+    × (length words ≡ length words₀)
+    × (length tags ≡ length tags₀)
+    × (length read ≡ fixWords)
+    × (reads (found-words (take offset read)) (machineOf list records protections memory words tags)
+    ≡ firstReads board01 (machineOf list records₀ protections₀ memory₀ words₀ tags₀) space page offset)
+
+abbrev μ-loop : tie.MeasureT-loop
+μ-loop list records₀ protections₀ memory₀ words₀ tags₀ space page read₀ offset₀ records protections memory words tags read offset = fixWords - offset
+
+-- where a word, or a refusal, has been read, and the turn that it was read in
+abbrev after-read : tie.After-slice-known10 Inv-loop μ-loop → tie.After-read Inv-loop μ-loop
+after-read c = c .before .before .before .before .before .before .before .before .before .before
+
+abbrev turn : tie.After-read Inv-loop μ-loop → tie.In-loop Inv-loop μ-loop
+turn c = c .before .before .before .before .before .before
+
+abbrev start : tie.At-loop Inv-loop μ-loop → tie.Start Inv-loop μ-loop
+start c = c .before .before .before .before .before .before
+
+loop-holds : tie.Need-loop-holds Inv-loop μ-loop
+unfolding firstReads
+loop-holds c = (search needs, refl, refl, refl, refl, refl, refl, refl)
+
+read-requires : tie.Need-read-requires Inv-loop μ-loop
+read-requires c κs = search needs
+
+enum-known-number : tie.Need-enum-known-number Inv-loop μ-loop
+enum-known-number c = search needs
+
+same-length : tie.Need-same-length Inv-loop μ-loop
+same-length c = search needs
+
+same-length-2 : tie.Need-same-length-2 Inv-loop μ-loop
+same-length-2 c = search needs
+
+same-length-3 : tie.Need-same-length-3 Inv-loop μ-loop
+same-length-3 c = search needs
+
+same-length-4 : tie.Need-same-length-4 Inv-loop μ-loop
+same-length-4 c = search needs
+
+same-length-5 : tie.Need-same-length-5 Inv-loop μ-loop
+same-length-5 c = search needs
+
+returns : tie.Need-returns Inv-loop μ-loop
+returns c =
+    let told = c .before in
+    let made = after-read (told .before .before) in
+    let l = turn made .before in
+    let a = start l .args in
+    reads-refused board01 _ (a .space) (a .page) (l .loop .offset) fixWords (omega arith) (l .loop .inv .7) (made .read .ensures) (told .number .given .1)
+
+enum-known-word : tie.Need-enum-known-word Inv-loop μ-loop
+enum-known-word c = search needs
+
+mul-read : tie.Need-mul-read Inv-loop μ-loop
+mul-read c = search needs
+
+array-write-read : tie.Need-array-write-read Inv-loop μ-loop
+array-write-read c = search needs
+
+add-offset : tie.Need-add-offset Inv-loop μ-loop
+add-offset c = search needs
+
+loop-less : tie.Need-loop-less Inv-loop μ-loop
+loop-less c = search needs
+
+loop-again : tie.Need-loop-again Inv-loop μ-loop
+loop-again c =
+    let word = c .before in
+    let made = after-read (word .before .before) in
+    let l = turn made .before in
+    let a = start l .args in
+    let same = l .loop .inv in
+    (omega arith, search needs, search needs, search needs, search needs, search needs, simp length-set (same .6), reads-put board01 _ (a .space) (a .page) (l .loop .offset) _ (omega arith) (l .loop .read) (omega arith) (same .7) (made .read .ensures) (word .word .given .1))
+
+array-read-t30 : tie.Need-array-read-t30 Inv-loop μ-loop
+array-read-t30 c = search needs
+
+array-read-t33 : tie.Need-array-read-t33 Inv-loop μ-loop
+array-read-t33 c = search needs
+
+array-read-t36 : tie.Need-array-read-t36 Inv-loop μ-loop
+array-read-t36 c = search needs
+
+array-read-t39 : tie.Need-array-read-t39 Inv-loop μ-loop
+array-read-t39 c = search needs
+
+same-length-6 : tie.Need-same-length-6 Inv-loop μ-loop
+same-length-6 c = search needs
+
+same-length-7 : tie.Need-same-length-7 Inv-loop μ-loop
+same-length-7 c = search needs
+
+same-length-8 : tie.Need-same-length-8 Inv-loop μ-loop
+same-length-8 c = search needs
+
+same-length-9 : tie.Need-same-length-9 Inv-loop μ-loop
+same-length-9 c = search needs
+
+same-length-10 : tie.Need-same-length-10 Inv-loop μ-loop
+same-length-10 c = search needs
+
+returns-2 : tie.Need-returns-2 Inv-loop μ-loop
+returns-2 c =
+    let l = c .before .loop in
+    reads-fix board01 _ _ _ (l .offset) (omega arith) (l .read) (l .inv .6) (l .inv .7)
+
+pub read-fix-spec : {M : Type 1} → statement M
+read-fix-spec =
+    tie.close
+    (tie.spec
+    Inv-loop
+    μ-loop
+    loop-holds
+    read-requires
+    enum-known-number
+    same-length
+    same-length-2
+    same-length-3
+    same-length-4
+    same-length-5
+    returns
+    enum-known-word
+    mul-read
+    array-write-read
+    add-offset
+    loop-less
+    loop-again
+    array-read-t30
+    array-read-t33
+    array-read-t36
+    array-read-t39
+    same-length-6
+    same-length-7
+    same-length-8
+    same-length-9
+    same-length-10
+    returns-2)
