@@ -46,7 +46,7 @@ use Rattle.demands.specs.Demands.{stepOf, ByTable, Modelled, listAfter, 
 
 module _ (b : Board) (st : State) (call : Single) (e : firstRefusal (causes b st call) ≡ 0) where
   -- an accepted call was lent tables of their lengths that keep the rules
-  tables-lent : WellFormed b (st .tables)
+  pub tables-lent : WellFormed b (st .tables)
   tables-lent =
       (and-left (lengthsRight b (st .tables)) (storeLengths b (st .store)) (and-left _ (bufferRight b call) (lengths-clear b st call e)), tables-clear b st call e)
 

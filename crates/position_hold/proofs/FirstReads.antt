@@ -23,7 +23,7 @@ four (x ∷ y ∷ z ∷ []) e = absurd (omega arith)
 four (x ∷ y ∷ z ∷ w ∷ l) e = refl
 
 module _ (b : Board) (st : State) (space page : ℕ) where
-  reads-next : (k : ℕ) {ws : List ℕ} {s after : State} {a : Answer} → reads (words ws) s ≡ firstReads b st space page k
+  pub reads-next : (k : ℕ) {ws : List ℕ} {s after : State} {a : Answer} → reads (words ws) s ≡ firstReads b st space page k
       → result a after ≡ step b s (read space page k)
       → reads (withAnswer ws (a .outcome) (a .word)) after ≡ firstReads b st space page (suc k)
   unfolding firstReads
@@ -32,7 +32,7 @@ module _ (b : Board) (st : State) (space page : ℕ) where
       ∙ ap (λ (r : Reads). readNext b space page k (r .words) (r .after)) e
 
   -- after a refusal none is made
-  reads-stopped : (k n : ℕ) → k ≤ n → {number : ℕ} {s : State} → reads (stopped number) s ≡ firstReads b st space page k
+  pub reads-stopped : (k n : ℕ) → k ≤ n → {number : ℕ} {s : State} → reads (stopped number) s ≡ firstReads b st space page k
       → reads (stopped number) s ≡ firstReads b st space page n
   unfolding firstReads
   reads-stopped k zero h e = let none : k ≡ 0 = omega arith in e ∙ ap (firstReads b st space page) none

@@ -3,4 +3,5 @@ pub mod Told
 pub mod FirstReads
 pub mod Reading
 pub mod Holds
+pub mod Refusals
 pub mod Theorems

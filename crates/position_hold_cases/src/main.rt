@@ -225,11 +225,11 @@ fn two_programs() {
 // A look through each page, and what they left.
 fn both(
     list: MappingList,
-    records: &mut [u32],
-    protections: &mut [u8],
-    memory: &mut [u32],
-    words: &mut [u32],
-    tags: &mut [u8],
+    records: &mut [u32; 192],
+    protections: &mut [u8; 256],
+    memory: &mut [u32; 4096],
+    words: &mut [u32; 512],
+    tags: &mut [u8; 64],
     clock: u32,
     hold: u32,
 ) {
@@ -263,11 +263,11 @@ fn both(
 // Fixes 1 and 2, as twelve words each; the second is held for 2 seconds, passed by one, and held for 30.
 fn delivered(
     list: MappingList,
-    records: &mut [u32],
-    protections: &mut [u8],
-    memory: &mut [u32],
-    words: &mut [u32],
-    tags: &mut [u8],
+    records: &mut [u32; 192],
+    protections: &mut [u8; 256],
+    memory: &mut [u32; 4096],
+    words: &mut [u32; 512],
+    tags: &mut [u8; 64],
 ) {
     let one = show::twelve(1, 1000, NORTH, WEST);
     machine::device_write_part(
@@ -305,11 +305,11 @@ fn delivered(
 // The fix's lines are evicted from both colours.
 fn evicted(
     list: MappingList,
-    records: &mut [u32],
-    protections: &mut [u8],
-    memory: &mut [u32],
-    words: &mut [u32],
-    tags: &mut [u8],
+    records: &mut [u32; 192],
+    protections: &mut [u8; 256],
+    memory: &mut [u32; 4096],
+    words: &mut [u32; 512],
+    tags: &mut [u8; 64],
 ) {
     machine::evict(list, records, protections, memory, words, tags, 0);
     machine::evict(list, records, protections, memory, words, tags, 8);
@@ -320,11 +320,11 @@ fn evicted(
 // A program writes the longitude; a delivery of the whole page comes after it, and one of the longitude alone.
 fn written(
     list: MappingList,
-    records: &mut [u32],
-    protections: &mut [u8],
-    memory: &mut [u32],
-    words: &mut [u32],
-    tags: &mut [u8],
+    records: &mut [u32; 192],
+    protections: &mut [u8; 256],
+    memory: &mut [u32; 4096],
+    words: &mut [u32; 512],
+    tags: &mut [u8; 64],
 ) {
     machine::write(
         list,
@@ -367,11 +367,11 @@ fn written(
 // Twelve words come to a page that is dirty behind them, so it is flushed.
 fn dirty(
     list: MappingList,
-    records: &mut [u32],
-    protections: &mut [u8],
-    memory: &mut [u32],
-    words: &mut [u32],
-    tags: &mut [u8],
+    records: &mut [u32; 192],
+    protections: &mut [u8; 256],
+    memory: &mut [u32; 4096],
+    words: &mut [u32; 512],
+    tags: &mut [u8; 64],
 ) {
     machine::write(list, records, protections, memory, words, tags, 0, 0, 40, 9);
     show::left(records, protections, memory, tags);

@@ -10,7 +10,7 @@ use position_hold::Drawn;
 // Frame 3 behind pages of colours 0 and 1: page 0 of space 0, to read and write, and page 9 of space 1, to read.
 pub fn two_pages() -> MappingList {
     let one = mapping::insert_at(mapping::empty(), 0, entry(0, 0, mapping::READ_WRITE));
-    mapping::insert_at(one, 1, entry(1, 9, mapping::READ))
+    mapping::insert_at(one, 1, entry(1, 9, mapping::READ_ONLY))
 }
 
 fn entry(space: u8, page: u16, rights: u8) -> Mapping {
@@ -30,10 +30,10 @@ pub fn twelve(number: u32, second: u32, latitude: u32, longitude: u32) -> [u32; 
 // The fix that is looked at next.
 pub fn fix(number: u32, second: u32, latitude: u32, longitude: u32) {
     io::write_all(STDOUT_FILENO, b"fix");
-    spaced(number as u64);
-    spaced(second as u64);
-    spaced(latitude as u64);
-    spaced(longitude as u64);
+    word(number);
+    word(second);
+    word(latitude);
+    word(longitude);
     io::write_all(STDOUT_FILENO, b": ");
 }
 
@@ -63,10 +63,10 @@ pub fn look(
         hold,
     );
     io::write_all(STDOUT_FILENO, b"look");
-    spaced(space as u64);
+    byte(space);
     spaced(page as u64);
-    spaced(clock as u64);
-    spaced(hold as u64);
+    word(clock);
+    word(hold);
     answer(drawn);
     end();
 }
@@ -81,7 +81,7 @@ fn answer(drawn: Drawn) {
 
 fn numbered(number: u8) {
     io::write_all(STDOUT_FILENO, b" refused");
-    spaced(number as u64);
+    byte(number);
 }
 
 fn blank() {
@@ -90,36 +90,44 @@ fn blank() {
 
 fn position(latitude: u32, longitude: u32) {
     io::write_all(STDOUT_FILENO, b" position");
-    spaced(latitude as u64);
-    spaced(longitude as u64);
+    word(latitude);
+    word(longitude);
 }
 
 // What the calls left.
 pub fn left(records: &[u32], protections: &[u8], memory: &[u32], tags: &[u8]) {
     io::write_all(STDOUT_FILENO, b"left p");
     if protections.len() > 1 {
-        spaced(protections[0] as u64);
-        spaced(protections[1] as u64);
+        byte(protections[0]);
+        byte(protections[1]);
     }
     io::write_all(STDOUT_FILENO, b" r");
     if records.len() > 11 {
-        spaced(records[9] as u64);
-        spaced(records[10] as u64);
-        spaced(records[11] as u64);
+        word(records[9]);
+        word(records[10]);
+        word(records[11]);
     }
     io::write_all(STDOUT_FILENO, b" t");
     if tags.len() > 8 {
-        spaced(tags[0] as u64);
-        spaced(tags[8] as u64);
+        byte(tags[0]);
+        byte(tags[8]);
     }
     io::write_all(STDOUT_FILENO, b" m");
     if memory.len() > 195 {
-        spaced(memory[192] as u64);
-        spaced(memory[193] as u64);
-        spaced(memory[194] as u64);
-        spaced(memory[195] as u64);
+        word(memory[192]);
+        word(memory[193]);
+        word(memory[194]);
+        word(memory[195]);
     }
     end();
+}
+
+fn byte(b: u8) {
+    spaced(b as u64);
+}
+
+fn word(w: u32) {
+    spaced(w as u64);
 }
 
 fn spaced(n: u64) {

@@ -1,0 +1,114 @@
+-- Demand 1 of a look: once its first read is accepted, so are the others.
+use mathlib.Core.Path.{_≡_, refl, sym, ap, ap₂, subst, subst⁻¹, _∙_}
+use mathlib.Core.Bool.{Bool, true, false, not, cond, _&&_}
+use mathlib.Core.List.{List, []}
+use mathlib.Core.Logic.{_⊎_, inl, inr}
+use mathlib.Core.Option.{none}
+use Prim.Native.Nat.{ℕ, zero, suc, _≤_, _<_}
+use native.Mathlib.Omega.{arith}
+use borrow.Author.Tests.{lt-leb}
+use Rattle.board.specs.declared.Board.{Board}
+use Rattle.board.specs.Board.{Regular}
+use Rattle.mapping.specs.declared.MappingList.{MappingList}
+use Rattle.manager.specs.Answers as answered
+use Rattle.manager.specs.Refusals.{firstRefusal, spaceCause, unmappedCause}
+use Rattle.manager.specs.Theorems.{WellFormed}
+use Rattle.cache.specs.Store as hardware
+use Rattle.machine.specs.Call.{callCauses}
+use Rattle.machine.specs.Refusals.{lentCauses, ownCauses, causes}
+use Rattle.machine.specs.State.{State, read, single}
+use Rattle.machine.specs.Step.{accept, answer, result, step}
+use Rattle.machine.proofs.StepLaws.{clear, store-clear, step-accepted, step-refused}
+use Rattle.machine.proofs.StoreLaws as store
+use Rattle.consistency.proofs.Refused.{none-refused}
+use Rattle.demands.proofs.Answers.{no-cause, first-cause}
+use Rattle.demands.proofs.Kept.{tables-lent, left}
+use Rattle.position_hold.specs.Fix.{Fix, Display, refused, blank, position, holdRefused, isBlank, judged}
+use Rattle.position_hold.specs.Look.{words, stopped, Reads, reads, firstReads, fixWords, fixOf, Look, looked, drawnFrom, look}
+use Rattle.position_hold.specs.Refusals.{NotRefused, ByHold, ByFirstRead, Answered, LookRefusals}
+use Rattle.position_hold.proofs.FirstReads.{reads-next, reads-stopped}
+use Rattle.position_hold.proofs.Holds.{look-refused, look-accepted}
+
+module _ (b : Board) (reg : Regular b) (space page : ℕ) where
+  -- what a read of the page is lent where it is not refused, but by its offset
+  record Ready (st : State) : Type 0 where
+    pub tables-kept : WellFormed b (st .tables)
+    pub store-kept : hardware.WellFormed b (st .store)
+    pub in-space : spaceCause space page .applies ≡ false
+    pub mapped : unmappedCause (st .tables .list) space page .applies ≡ false
+
+  read-clear : (st : State) (k : ℕ) → Ready st → k < b .page → firstRefusal (causes b st (read space page k)) ≡ 0
+  unfolding causes lentCauses ownCauses
+  read-clear st k r h =
+      let w = r .store-kept in
+      none-refused (causes b st (read space page k)) (
+        ap not (ap₂ _&&_ (ap₂ _&&_ (r .tables-kept .0) (store.lengths-right b (st .store) (w .memory-length) (w .words-length) (w .tags-length))) refl),
+        (ap not (ap₂ _&&_ (r .tables-kept .1) (w .tags-rules)), (r .in-space, (lt-leb (b .page) k h, (r .mapped, tt)))),
+      )
+
+  first-ready : (st : State) (k : ℕ) → firstRefusal (causes b st (read space page k)) ≡ 0 → Ready st
+  unfolding causes lentCauses ownCauses
+  first-ready st k e =
+      let n = clear b st (read space page k) e in
+      record { tables-kept = tables-lent b st (read space page k) e; store-kept = store-clear b st (read space page k) e; in-space = n .1 .1 .0; mapped = n .1 .1 .1 .1 .0 }
+
+  -- an accepted read leaves the next one ready
+  next-ready : (st : State) (k : ℕ) → Ready st → firstRefusal (causes b st (read space page k)) ≡ 0 → Ready (accept b st (read space page k) .after)
+  next-ready st k r e =
+      let l = left b reg st (read space page k) e in
+      record {
+        tables-kept = l .tables-kept;
+        store-kept = l .store-kept;
+        in-space = r .in-space;
+        mapped = subst⁻¹ (λ (list : MappingList). unmappedCause list space page .applies ≡ false) (l .listed) (r .mapped);
+      }
+
+  -- the first k reads are accepted
+  record Accepted (st : State) (k : ℕ) : Type 0 where
+    pub found : List ℕ
+    pub after : State
+    pub reads-are : reads (words found) after ≡ firstReads b st space page k
+    pub ready : Ready after
+
+  accepted : (st : State) → Ready st → (k : ℕ) → k ≤ b .page → Accepted st k
+  unfolding firstReads accept
+  accepted st r zero h = record { found = []; after = st; reads-are = refl; ready = r }
+  accepted st r (suc k) h =
+      let before = accepted st r k (omega arith) in
+      let e = read-clear (before .after) k (before .ready) (omega arith) in
+      record {
+        found = _;
+        after = _;
+        reads-are = reads-next b st space page k (before .reads-are) (step-accepted b (before .after) (read space page k) e);
+        ready = next-ready (before .after) k (before .ready) e;
+      }
+
+judged-not-refused : (clock hold : ℕ) (fix : Fix) → NotRefused (judged clock hold fix)
+unfolding judged
+judged-not-refused clock hold fix = go (isBlank clock hold fix)
+  where
+    go : (t : Bool) → NotRefused (cond t blank (position (fix .latitude) (fix .longitude)))
+    go true = tt
+    go false = tt
+
+pub look-refusals : LookRefusals
+unfolding firstReads callCauses
+look-refusals b reg room st space page clock hold = go (holdRefused hold) (firstRefusal (causes b st (read space page 0))) refl refl
+  where
+    stopped-first : (n : ℕ) → firstRefusal (causes b st (read space page 0)) ≡ suc n → reads (stopped (suc n)) st ≡ firstReads b st space page fixWords
+    stopped-first n e =
+        reads-stopped b st space page 1 fixWords (omega arith)
+        (reads-next b st space page 0 {ws = []} {s = st} refl (step-refused b st (read space page 0) (suc n) (e, λ z. omega arith)))
+
+    go : (t : Bool) (n : ℕ) → holdRefused hold ≡ t → firstRefusal (causes b st (read space page 0)) ≡ n
+        → ByHold b st space page clock hold ⊎ (((n : ℕ) × ByFirstRead b st space page clock hold n) ⊎ Answered b st space page clock hold)
+    go true n et en = inl (et, sym (look-refused b st space page clock hold et))
+    go false (suc n) et en =
+        inr (inl (suc n, (et, first-cause b st (single (read space page 0)) n en, sym (look-accepted b st space page clock hold et (stopped-first n en)))))
+    go false zero et en =
+        let a = accepted b reg space page st (first-ready b reg space page st 0 en) fixWords room in
+        inr (inr (
+          et,
+          no-cause b st (single (read space page 0)) en,
+          subst (λ (x : Look). NotRefused (x .display)) (look-accepted b st space page clock hold et (a .reads-are)) (judged-not-refused clock hold (fixOf (a .found))),
+        ))
