@@ -13,7 +13,7 @@ use Rattle.machine.specs.declared.Loaded.the-variants.{Refused, Word}
 use Rattle.machine.specs.Plans.{loaded as answered}
 use Rattle.machine.specs.State.{State, read, Answer, Result}
 use Rattle.machine.specs.Step.{result, step}
-use Rattle.position_hold.specs.Look.{stopped, words, Reads, reads, withAnswer, readNext, firstReads, fixWords}
+use Rattle.position_hold.specs.Look.{stopped, words, Reads, reads, withAnswer, readNext, firstReads, fixWords, fixReads}
 
 four : (l : List ℕ) → length l ≡ fixWords → getD l 0 0 ∷ getD l 1 0 ∷ getD l 2 0 ∷ getD l 3 0 ∷ [] ≡ take fixWords l
 four [] e = absurd (omega arith)
@@ -43,11 +43,12 @@ module _ (b : Board) (st : State) (space page : ℕ) where
       go before (no z) = ap (λ (r : Reads). readNext b space page n (r .words) (r .after)) (before (omega arith))
 
   -- read k is refused
-  pub reads-refused : (k n : ℕ) → k < n → {ws : List ℕ} {s after : State} {loaded : Loaded} {number : ℕ} → reads (words ws) s ≡ firstReads b st space page k
+  pub reads-refused : (k : ℕ) → k < fixWords → {ws : List ℕ} {s after : State} {loaded : Loaded} {number : ℕ} → reads (words ws) s ≡ firstReads b st space page k
       → result (answered loaded) after ≡ step b s (read space page k) → loaded ≡ Refused number
-      → reads (stopped number) after ≡ firstReads b st space page n
-  reads-refused k n h {after = after} e made known =
-      reads-stopped (suc k) n h (reads-next k e (ap (λ (r : Loaded). result (answered r) after) (sym known) ∙ made))
+      → reads (stopped number) after ≡ fixReads b st space page
+  unfolding fixReads
+  reads-refused k h {after = after} e made known =
+      reads-stopped (suc k) fixWords h (reads-next k e (ap (λ (r : Loaded). result (answered r) after) (sym known) ∙ made))
 
   -- it finds a word, which is put behind those before it
   pub reads-put : (k n : ℕ) → n ≡ suc k → (found : List ℕ) {s after : State} {loaded : Loaded} {ops : FrameOps} {w : ℕ} → k < length found
@@ -60,6 +61,7 @@ module _ (b : Board) (st : State) (space page : ℕ) where
 
   -- the words of a fix, one by one
   pub reads-fix : (k : ℕ) → k ≡ fixWords → (found : List ℕ) {s : State} → length found ≡ fixWords → reads (words (take k found)) s ≡ firstReads b st space page k
-      → reads (words (getD found 0 0 ∷ getD found 1 0 ∷ getD found 2 0 ∷ getD found 3 0 ∷ [])) s ≡ firstReads b st space page fixWords
+      → reads (words (getD found 0 0 ∷ getD found 1 0 ∷ getD found 2 0 ∷ getD found 3 0 ∷ [])) s ≡ fixReads b st space page
+  unfolding fixReads
   reads-fix k all found {s} long e =
       ap (λ (ws : List ℕ). reads (words ws) s) (four found long) ∙ subst (λ (j : ℕ). reads (words (take j found)) s ≡ firstReads b st space page j) all e

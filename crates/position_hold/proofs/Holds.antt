@@ -12,7 +12,7 @@ use Rattle.machine.specs.State.{State}
 use Rattle.position_hold.specs.declared.Found.{Found}
 use Rattle.position_hold.specs.declared.Found.the-variants as found-by
 use Rattle.position_hold.specs.Fix.{Fix, Display, refused, blank, position, shortestHold, longestHold, holdRefused, isOutside, isBlank, judged}
-use Rattle.position_hold.specs.Look.{Words, stopped, words, Reads, reads, firstReads, fixWords, fixOf, Look, looked, drawnFrom, look, wordsFound}
+use Rattle.position_hold.specs.Look.{Words, stopped, words, Reads, reads, fixReads, fixOf, Look, looked, drawnFrom, look, wordsFound}
 
 pub hold-accepted : (hold : ℕ) → shortestHold ≤ hold → hold ≤ longestHold → holdRefused hold ≡ false
 unfolding holdRefused
@@ -34,13 +34,13 @@ module _ (b : Board) (st : State) (space page clock hold : ℕ) where
   look-refused e = rw e
 
   -- an accepted hold: what was read is judged
-  pub look-accepted : {r : Reads} → holdRefused hold ≡ false → r ≡ firstReads b st space page fixWords
+  pub look-accepted : {r : Reads} → holdRefused hold ≡ false → r ≡ fixReads b st space page
       → looked (drawnFrom clock hold (r .words)) (r .after) ≡ look b st space page clock hold
   unfolding look
   look-accepted e reads-are = rw (e, reads-are)
 
   -- by what the code has found
-  module _ (e : holdRefused hold ≡ false) {found : Found} {after : State} (reads-are : reads (wordsFound found) after ≡ firstReads b st space page fixWords) where
+  module _ (e : holdRefused hold ≡ false) {found : Found} {after : State} (reads-are : reads (wordsFound found) after ≡ fixReads b st space page) where
     pub look-handed-on : {number : ℕ} → found ≡ found-by.Refused number → looked (refused number) after ≡ look b st space page clock hold
     look-handed-on known = ap (λ (f : Found). looked (drawnFrom clock hold (wordsFound f)) after) (sym known) ∙ look-accepted e reads-are
 
@@ -67,7 +67,7 @@ not-blank-longer clock short long fix h = go (eqb (fix .number) 0) (ltb clock (f
 -- what is drawn at the shorter is drawn at the longer, and where they differ the shorter is blank
 pub record SameDrawn (short long : Display) : Type 0 where
   pub same : (latitude longitude : ℕ) → short ≡ position latitude longitude → long ≡ position latitude longitude
-  pub but-blank : (short ≡ long) ⊎ (short ≡ blank)
+  pub but-blank : (short ≡ long) ⊎ ((short ≡ blank) × ((latitude : ℕ) × (longitude : ℕ) × (long ≡ position latitude longitude)))
 
 same-as : (d : Display) → SameDrawn d d
 same-as d = record { same = λ latitude longitude e. e; but-blank = inl refl }
@@ -77,14 +77,14 @@ blank-drawn e = let z : _≡_ {A = ℕ} 0 1 = cc in omega arith
 
 judged-same : (clock short long : ℕ) (fix : Fix) → short ≤ long → SameDrawn (judged clock short fix) (judged clock long fix)
 unfolding judged
-judged-same clock short long fix h = go (isBlank clock short fix) refl
+judged-same clock short long fix h = go (isBlank clock short fix) (isBlank clock long fix) (not-blank-longer clock short long fix h)
   where
-    go : (t : Bool) → isBlank clock short fix ≡ t
-        → SameDrawn (cond t blank (position (fix .latitude) (fix .longitude))) (cond (isBlank clock long fix) blank (position (fix .latitude) (fix .longitude)))
-    go true e = record { same = λ latitude longitude z. absurd (blank-drawn z); but-blank = inr refl }
-    go false e =
-        subst (λ (t : Bool). SameDrawn (position (fix .latitude) (fix .longitude)) (cond t blank (position (fix .latitude) (fix .longitude))))
-        (sym (not-blank-longer clock short long fix h e)) (same-as (position (fix .latitude) (fix .longitude)))
+    go : (s l : Bool) → (s ≡ false → l ≡ false)
+        → SameDrawn (cond s blank (position (fix .latitude) (fix .longitude))) (cond l blank (position (fix .latitude) (fix .longitude)))
+    go true true h = same-as blank
+    go true false h = record { same = λ latitude longitude z. absurd (blank-drawn z); but-blank = inr (refl, (fix .latitude, fix .longitude, refl)) }
+    go false true h = absurd (true≢false (h refl))
+    go false false h = same-as (position (fix .latitude) (fix .longitude))
 
 pub drawn-same : (clock short long : ℕ) (ws : Words) → short ≤ long → SameDrawn (drawnFrom clock short ws) (drawnFrom clock long ws)
 drawn-same clock short long (stopped n) h = same-as (refused n)
@@ -114,13 +114,13 @@ words-drawn clock hold latitude longitude (stopped n) e = absurd (refused-drawn 
 words-drawn clock hold latitude longitude (words ws) e = let d = judged-drawn clock hold latitude longitude (fixOf ws) e in (ws, refl, d .0, d .1)
 
 pub look-drawn : (b : Board) (st : State) (space page clock hold latitude longitude : ℕ) → look b st space page clock hold .display ≡ position latitude longitude
-    → DrawnOf (firstReads b st space page fixWords .words) latitude longitude
+    → DrawnOf (fixReads b st space page .words) latitude longitude
 unfolding look
 look-drawn b st space page clock hold latitude longitude = go (holdRefused hold)
   where
     go : (t : Bool)
-        → cond {A = Look} t (looked (refused 14) st) (looked (drawnFrom clock hold (firstReads b st space page fixWords .words)) (firstReads b st space page fixWords .after)) .display
+        → cond {A = Look} t (looked (refused 14) st) (looked (drawnFrom clock hold (fixReads b st space page .words)) (fixReads b st space page .after)) .display
         ≡ position latitude longitude
-        → DrawnOf (firstReads b st space page fixWords .words) latitude longitude
+        → DrawnOf (fixReads b st space page .words) latitude longitude
     go true e = absurd (refused-drawn e)
-    go false e = words-drawn clock hold latitude longitude (firstReads b st space page fixWords .words) e
+    go false e = words-drawn clock hold latitude longitude (fixReads b st space page .words) e

@@ -24,7 +24,7 @@ use Rattle.consistency.specs.Demand3.{pageWord}
 use Rattle.consistency.proofs.Invariant.{frameIn, Invariant}
 use Rattle.consistency.proofs.Processor.{read-taken}
 use Rattle.position_hold.specs.Fix.{holdRefused, refused}
-use Rattle.position_hold.specs.Look.{Words, stopped, words, Reads, reads, withAnswer, readNext, firstReads, fixWords, looked, drawnFrom, look, Look}
+use Rattle.position_hold.specs.Look.{Words, stopped, words, Reads, reads, withAnswer, readNext, firstReads, fixWords, fixReads, looked, drawnFrom, look, Look}
 use Rattle.position_hold.proofs.Told.{no-word}
 
 module _ (b : Board) (reg : Regular b) (m : Cacheless) (space page : ℕ) where
@@ -67,11 +67,11 @@ module _ (b : Board) (reg : Regular b) (m : Cacheless) (space page : ℕ) where
 
   -- so does a look
   pub look-kept : (st : State) → Invariant b st m → (clock hold : ℕ) → Invariant b (look b st space page clock hold .after) m
-  unfolding look
+  unfolding look fixReads
   look-kept st inv clock hold = go (holdRefused hold)
     where
       go : (t : Bool)
-          → let r : Reads = firstReads b st space page fixWords in
+          → let r : Reads = fixReads b st space page in
           Invariant b (cond {A = Look} t (looked (refused 14) st) (looked (drawnFrom clock hold (r .words)) (r .after)) .after) m
       go true = inv
       go false = first-reads st inv fixWords .invariant

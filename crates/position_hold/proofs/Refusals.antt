@@ -24,7 +24,7 @@ use Rattle.consistency.proofs.Refused.{none-refused}
 use Rattle.demands.proofs.Answers.{no-cause, first-cause}
 use Rattle.demands.proofs.Kept.{tables-lent, left}
 use Rattle.position_hold.specs.Fix.{Fix, Display, refused, blank, position, holdRefused, isBlank, judged}
-use Rattle.position_hold.specs.Look.{words, stopped, Reads, reads, firstReads, fixWords, fixOf, Look, looked, drawnFrom, look}
+use Rattle.position_hold.specs.Look.{words, stopped, Reads, reads, firstReads, fixWords, fixReads, fixOf, Look, looked, drawnFrom, look}
 use Rattle.position_hold.specs.Refusals.{NotRefused, ByHold, ByFirstRead, Answered, LookRefusals}
 use Rattle.position_hold.proofs.FirstReads.{reads-next, reads-stopped}
 use Rattle.position_hold.proofs.Holds.{look-refused, look-accepted}
@@ -92,10 +92,10 @@ judged-not-refused clock hold fix = go (isBlank clock hold fix)
     go false = tt
 
 pub look-refusals : LookRefusals
-unfolding firstReads callCauses
+unfolding fixReads callCauses
 look-refusals b reg room st space page clock hold = go (holdRefused hold) (firstRefusal (causes b st (read space page 0))) refl refl
   where
-    stopped-first : (n : ℕ) → firstRefusal (causes b st (read space page 0)) ≡ suc n → reads (stopped (suc n)) st ≡ firstReads b st space page fixWords
+    stopped-first : (n : ℕ) → firstRefusal (causes b st (read space page 0)) ≡ suc n → reads (stopped (suc n)) st ≡ fixReads b st space page
     stopped-first n e =
         reads-stopped b st space page 1 fixWords (omega arith)
         (reads-next b st space page 0 {ws = []} {s = st} refl (step-refused b st (read space page 0) (suc n) (e, λ z. omega arith)))

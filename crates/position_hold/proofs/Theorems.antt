@@ -13,7 +13,7 @@ use Rattle.consistency.proofs.Invariant.{Invariant}
 use Rattle.consistency.proofs.Start.{start-invariant}
 use Rattle.consistency.proofs.Theorem.{serves}
 use Rattle.position_hold.specs.Look as position-hold
-use Rattle.position_hold.specs.Look.{firstReads, fixWords, Look, looked, drawnFrom}
+use Rattle.position_hold.specs.Look.{fixWords, fixReads, Look, looked, drawnFrom}
 use Rattle.position_hold.specs.Theorems.{Act, call, look, stateAfter, acceptedIn, LastDelivered, SameButBlank, Shorter, DrawnDelivered, SameOnlyShorter, EveryBoard}
 use Rattle.position_hold.proofs.Holds.{hold-accepted, look-accepted, drawn-same, look-drawn}
 use Rattle.position_hold.proofs.Reading.{FoundIn, first-reads, look-kept, word-behind}
@@ -44,6 +44,7 @@ module _ (b : Board) (reg : Regular b) where
       acts
 
   pub last-delivered : LastDelivered b
+  unfolding fixReads
   last-delivered memory cache protections acts full wide long space page ws e k sent lk es =
       let st₀ = startState b memory cache protections in
       let f = followed st₀ [] (record { memory = start b memory; invariant = start-invariant b reg memory cache protections full wide long; told = told-start b memory }) acts in
@@ -53,13 +54,13 @@ module _ (b : Board) (reg : Regular b) where
 
   shorter : Shorter b
   shorter st space page clock short long low h high =
-      let r = firstReads b st space page fixWords in
+      let r = fixReads b st space page in
       let s = drawn-same clock short long (r .words) h in
       subst (λ (x : Look). SameButBlank x (position-hold.look b st space page clock long))
       (look-accepted b st space page clock short (hold-accepted short low (omega arith)) refl)
       (subst (SameButBlank (looked (drawnFrom clock short (r .words)) (r .after)))
       (look-accepted b st space page clock long (hold-accepted long (omega arith) high) refl)
-      (record { drawn = s .same; otherwise = s .but-blank; left = refl }))
+      (record { drawn = s .same; but-blank = s .but-blank; left = refl }))
 
   drawn-delivered : DrawnDelivered b
   drawn-delivered memory cache protections acts full wide long space page clock hold latitude longitude e =

@@ -28,7 +28,7 @@ pub record Reads : Type 0 where
 abbrev pub reads : Words → State → Reads
 reads ws st = record { words = ws; after = st }
 
--- a word more, or the refusal
+-- a word more, which every accepted read has, or the refusal
 abbrev pub withAnswer : List ℕ → Outcome → Option ℕ → Words
 withAnswer ws (outcome.refused n) word = stopped n
 withAnswer ws (outcome.accepted f ops) none = words ws
@@ -46,11 +46,15 @@ firstReads b st space page zero = reads (words []) st
 firstReads b st space page (suc k) =
     let r : Reads = firstReads b st space page k in readNext b space page k (r .words) (r .after)
 
--- ---- the look
-
--- the words of a fix
+-- the four of a look, which depend on neither clock nor hold
 abbrev pub fixWords : ℕ
 fixWords = 4
+
+unfoldable pub fixReads : Board → State → ℕ → ℕ → Reads
+unfolding firstReads
+fixReads b st space page = firstReads b st space page fixWords
+
+-- ---- the look
 
 abbrev pub fixOf : List ℕ → Fix
 fixOf ws = record { number = getD ws 0 0; second = getD ws 1 0; latitude = getD ws 2 0; longitude = getD ws 3 0 }
@@ -70,9 +74,9 @@ drawnFrom clock hold (words ws) = judged clock hold (fixOf ws)
 
 -- space, page, clock, hold
 unfoldable pub look : Board → State → ℕ → ℕ → ℕ → ℕ → Look
-unfolding firstReads judged holdRefused
+unfolding fixReads judged holdRefused
 look b st space page clock hold =
-    let r : Reads = firstReads b st space page fixWords in
+    let r : Reads = fixReads b st space page in
     cond (holdRefused hold) (looked (refused 14) st) (looked (drawnFrom clock hold (r .words)) (r .after))
 
 -- ---- what the code's reads found

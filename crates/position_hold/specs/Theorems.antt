@@ -16,7 +16,7 @@ use Rattle.machine.specs.Step.{pageFrame}
 use Rattle.consistency.specs.Demand3.{startState}
 use Rattle.position_hold.specs.Fix.{blank, position, shortestHold, longestHold}
 use Rattle.position_hold.specs.Look as position-hold
-use Rattle.position_hold.specs.Look.{words, firstReads, fixWords, fixOf, Look}
+use Rattle.position_hold.specs.Look.{words, fixWords, fixReads, fixOf, Look}
 use Rattle.position_hold.specs.Sent.{acceptedAnd, lastSent}
 
 -- ---- any list of calls: of the machine, and looks at the position by space, page, clock and hold
@@ -52,14 +52,16 @@ Delivered calls frame ws = (k sent : ℕ) → k < fixWords → lastSent calls fr
 abbrev pub LastDelivered : Board → Type 0
 LastDelivered b =
     FromStart b
-    (λ st calls. (space page : ℕ) (ws : List ℕ) → firstReads b st space page fixWords .words ≡ words ws → Delivered calls (pageFrame st space page) ws)
+    (λ st calls. (space page : ℕ) (ws : List ℕ) → fixReads b st space page .words ≡ words ws → Delivered calls (pageFrame st space page) ws)
 
 -- ---- whenever a short hold draws a position, a longer one draws the same, and everything lent is left the same; what hold changes is only when
 -- it is blank
 
 pub record SameButBlank (short long : Look) : Type 0 where
   pub drawn : (latitude longitude : ℕ) → short .display ≡ position latitude longitude → long .display ≡ position latitude longitude
-  pub otherwise : (short .display ≡ long .display) ⊎ (short .display ≡ blank)
+  pub but-blank :
+      (short .display ≡ long .display)
+      ⊎ ((short .display ≡ blank) × ((latitude : ℕ) × (longitude : ℕ) × (long .display ≡ position latitude longitude)))
   pub left : short .after ≡ long .after
 
 abbrev pub Shorter : Board → Type 0
@@ -73,7 +75,7 @@ DrawnDelivered b =
     FromStart b
     (λ st calls. (space page clock hold latitude longitude : ℕ) → position-hold.look b st space page clock hold .display ≡ position latitude longitude
     → (ws : List ℕ)
-    × (firstReads b st space page fixWords .words ≡ words ws)
+    × (fixReads b st space page .words ≡ words ws)
     × (fixOf ws .latitude ≡ latitude)
     × (fixOf ws .longitude ≡ longitude)
     × Delivered calls (pageFrame st space page) ws)

@@ -1,12 +1,11 @@
 // Position hold: a look at the fix page through a mapping, which draws the position of the last fix, or blank.
 mod fix;
 
-ghost use mathlib.Core.Bool.{Bool};
 ghost use mathlib.Core.Path.{_≡_};
 ghost use Rattle.board.specs.Board.{board01};
 ghost use Rattle.machine.specs.State.{machineOf};
-ghost use Rattle.position_hold.specs.Fix.{displayed, holdRefused};
-ghost use Rattle.position_hold.specs.Look.{firstReads, fixWords, look, looked, reads, wordsFound};
+ghost use Rattle.position_hold.specs.Fix.{displayed};
+ghost use Rattle.position_hold.specs.Look.{fixReads, look, looked, reads, wordsFound};
 use fix::Fix;
 use machine::Loaded;
 use mapping::MappingList;
@@ -77,9 +76,9 @@ fn read_fix(
 ) -> Found
     ensures { λ r. ⌜ reads (wordsFound r)
         (machineOf list (now (records .exit)) (now (protections .exit)) (now (memory .exit)) (now (words .exit)) (now (tags .exit)))
-        ≡ firstReads board01
+        ≡ fixReads board01
         (machineOf list (now (records .entry)) (now (protections .entry)) (now (memory .entry)) (now (words .entry)) (now (tags .entry)))
-        space page fixWords ⌝ }
+        space page ⌝ }
 {
     let mut read = [0u32; FIX_WORDS];
     let mut offset = 0;

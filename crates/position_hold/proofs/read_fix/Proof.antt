@@ -68,7 +68,7 @@ returns c =
     let made = after-read (told .before .before) in
     let l = turn made .before in
     let a = start l .args in
-    reads-refused board01 _ (a .space) (a .page) (l .loop .offset) fixWords (omega arith) (l .loop .inv .7) (made .read .ensures) (told .number .given .1)
+    reads-refused board01 _ (a .space) (a .page) (l .loop .offset) (omega arith) (l .loop .inv .7) (made .read .ensures) (told .number .given .1)
 
 enum-known-word : tie.Need-enum-known-word Inv-loop μ-loop
 enum-known-word c = search needs
