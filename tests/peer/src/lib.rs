@@ -1,6 +1,6 @@
 //! Runs a run sheet as document 01 describes, on a machine written from documents 01 and 02 alone (of
-//! 02 the requests N1 to N3), with a cacheless memory beside it that every accepted read and the
-//! memory at the end must equal.
+//! 02 the requests N1 to N5), with a cacheless memory beside it that every accepted read and the
+//! memory at the end must equal. Of N5 no sheet has a step.
 
 pub mod board;
 pub mod cacheless;
@@ -8,6 +8,7 @@ pub mod call;
 pub mod hardware;
 pub mod machine;
 pub mod manager;
+pub mod position;
 pub mod record;
 mod refusal;
 pub mod sheet;

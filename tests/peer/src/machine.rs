@@ -1,7 +1,7 @@
 //! The machine: each call asks the manager, has the cache do what it says, then makes the access.
 //! A call tests its numbers in the order of their refusals, so that the first in that order is given.
 
-use crate::board::{Frame, Line, Offset, Part, Place};
+use crate::board::{Frame, Line, Offset, Part, Place, PAGE_WORDS};
 use crate::call::{number, sent, Accepted, Answer, Call, Found, Mapping, Operations};
 use crate::hardware::Hardware;
 use crate::manager::Manager;
@@ -73,7 +73,8 @@ impl Machine {
                 })
             }
             Call::DeviceWrite { frame, first } => {
-                Ok(self.device_write(Frame::new(frame)?, Part::WHOLE, first))
+                let words = sent(first, PAGE_WORDS);
+                Ok(self.device_write(Frame::new(frame)?, Part::WHOLE, &words))
             }
             Call::DeviceWritePart {
                 frame,
@@ -82,7 +83,7 @@ impl Machine {
                 first,
             } => {
                 let (frame, part) = (Frame::new(frame)?, Part::new(offset, count)?);
-                Ok(self.device_write(frame, part, first))
+                Ok(self.device_write(frame, part, &sent(first, count)))
             }
             Call::Evict { line } => {
                 self.hardware.evict(Line::new(line)?);
@@ -103,12 +104,11 @@ impl Machine {
         Ok(())
     }
 
-    /// The device sends words into a part of the frame's. The others stay.
-    fn device_write(&mut self, frame: Frame, part: Part, first: u32) -> Accepted {
+    /// The device sends these words, as many as the part has, into it. The frame's others stay.
+    pub fn device_write(&mut self, frame: Frame, part: Part, words: &[u32]) -> Accepted {
         let operations = self.manager.transfer(Transfer::write(part), frame);
         self.perform(operations);
-        let words = &mut self.hardware.page_mut(frame)[part.offsets()];
-        words.copy_from_slice(&sent(first, words.len()));
+        self.hardware.page_mut(frame)[part.offsets()].copy_from_slice(words);
         Accepted {
             operations,
             found: Found::Nothing,

@@ -4,6 +4,9 @@
 /// that its request gives it.
 #[derive(Clone, Copy, Debug, PartialEq, Eq)]
 pub enum Refusal {
+    /// A position's hold under 2 or over 30. It is tested before the reads and so before all that they
+    /// test.
+    Hold = 14,
     /// A lent buffer of another length. No call of the peer meets it, since nothing that it is lent can
     /// have another; those of `tests/duties` do.
     Length = 1,
