@@ -156,7 +156,7 @@ impl fmt::Display for Tally {
         }
         by_number.insert(11, self.broken.values().sum::<u64>());
         writeln!(f, "refusals    {}", counts(&by_number))?;
-        writeln!(f, "              (no sheet can meet 1, 2, 9 or 12)")?;
+        writeln!(f, "              (no sheet can meet 1, 2, 9, 12 or 14)")?;
         writeln!(f, "broken by   {}", counts(&self.broken))?;
         let (lists, steps) = (self.full_lists, self.full_steps);
         write!(
