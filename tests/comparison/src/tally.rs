@@ -26,7 +26,7 @@ const fn kind(name: &'static str, orders: &'static [usize], refusals: &'static [
 
 /// The mappings, then the steps by their number, parts by how they lie to their page. No sheet meets
 /// refusal 1 or 2, since the program's own buffers have their lengths and keep the rules, 9, since no
-/// mapping follows the 256th, or 12, since no step is a list of mappings.
+/// mapping follows the 256th, or 12 or 14, since no step is a list of mappings or a look at the position.
 const KINDS: [Kind; 15] = [
     kind("map", &[0], &[3, 4, 5, 7]),
     kind("read", &[0, 1, 2, 3], &[3, 6, 8]),
