@@ -2,8 +2,7 @@
 use mathlib.Core.Path.{_≡_, refl, sym, ap, _∙_}
 use mathlib.Core.Bool.{Bool, true, false, cond}
 use mathlib.Core.List.{List, [], _∷_, _++_}
-use mathlib.Core.Logic.{⊎-elim}
-use mathlib.Core.Option.{Option, none, some}
+use mathlib.Core.Option.{Option, some}
 use Prim.Native.Nat.{ℕ, zero, suc, _+_, _<_}
 use native.Mathlib.Decide.{ℕ-discrete}
 use native.Mathlib.Omega.{arith}
@@ -16,8 +15,8 @@ use Rattle.mapping.specs.declared.Found.the-variants.{At, Nothing}
 use Rattle.mapping.specs.Entry.{mappingAt}
 use Rattle.mapping.specs.Lookup.{lookup, mappingFound, mappingOf, placeOf}
 use Rattle.machine.specs.Call.{callCauses, perform}
-use Rattle.machine.specs.State.{State, read, single, Result}
-use Rattle.machine.specs.Step.{accept, pageFrame, step}
+use Rattle.machine.specs.State.{State, read, single}
+use Rattle.machine.specs.Step.{accept, pageFrame}
 use Rattle.machine.proofs.CallLaws.{perform-cases}
 use Rattle.consistency.specs.Cacheless.{Cacheless, afterAccepted}
 use Rattle.consistency.specs.Demand3.{pageWord}

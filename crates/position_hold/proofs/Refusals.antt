@@ -1,30 +1,28 @@
 -- Demand 1 of a look: once its first read is accepted, so are the others.
-use mathlib.Core.Path.{_≡_, refl, sym, ap, ap₂, subst, subst⁻¹, _∙_}
+use mathlib.Core.Path.{_≡_, refl, sym, ap, ap₂, subst, subst⁻¹}
 use mathlib.Core.Bool.{Bool, true, false, not, cond, _&&_}
 use mathlib.Core.List.{List, []}
 use mathlib.Core.Logic.{_⊎_, inl, inr}
-use mathlib.Core.Option.{none}
 use Prim.Native.Nat.{ℕ, zero, suc, _≤_, _<_}
 use native.Mathlib.Omega.{arith}
 use borrow.Author.Tests.{lt-leb}
 use Rattle.board.specs.declared.Board.{Board}
 use Rattle.board.specs.Board.{Regular}
 use Rattle.mapping.specs.declared.MappingList.{MappingList}
-use Rattle.manager.specs.Answers as answered
 use Rattle.manager.specs.Refusals.{firstRefusal, spaceCause, unmappedCause}
 use Rattle.manager.specs.Theorems.{WellFormed}
 use Rattle.cache.specs.Store as hardware
 use Rattle.machine.specs.Call.{callCauses}
 use Rattle.machine.specs.Refusals.{lentCauses, ownCauses, causes}
 use Rattle.machine.specs.State.{State, read, single}
-use Rattle.machine.specs.Step.{accept, answer, result, step}
+use Rattle.machine.specs.Step.{accept}
 use Rattle.machine.proofs.StepLaws.{clear, store-clear, step-accepted, step-refused}
 use Rattle.machine.proofs.StoreLaws as store
 use Rattle.consistency.proofs.Refused.{none-refused}
 use Rattle.demands.proofs.Answers.{no-cause, first-cause}
 use Rattle.demands.proofs.Kept.{tables-lent, left}
-use Rattle.position_hold.specs.Fix.{Fix, Display, refused, blank, position, holdRefused, isBlank, judged}
-use Rattle.position_hold.specs.Look.{words, stopped, Reads, reads, firstReads, fixWords, fixReads, fixOf, Look, looked, drawnFrom, look}
+use Rattle.position_hold.specs.Fix.{Fix, blank, position, holdRefused, isBlank, judged}
+use Rattle.position_hold.specs.Look.{words, stopped, reads, firstReads, fixWords, fixReads, fixOf, Look}
 use Rattle.position_hold.specs.Refusals.{NotRefused, ByHold, ByFirstRead, Answered, LookRefusals}
 use Rattle.position_hold.proofs.FirstReads.{reads-next, reads-stopped}
 use Rattle.position_hold.proofs.Holds.{look-refused, look-accepted}

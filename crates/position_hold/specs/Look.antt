@@ -7,7 +7,7 @@ use lib.ListN.{getD}
 use Rattle.board.specs.declared.Board.{Board}
 use Rattle.manager.specs.Answers as outcome
 use Rattle.manager.specs.Answers.{Outcome}
-use Rattle.machine.specs.State.{State, read, Answer, Result}
+use Rattle.machine.specs.State.{State, read, Result}
 use Rattle.machine.specs.Step.{step}
 use Rattle.position_hold.specs.declared.Found.{Found}
 use Rattle.position_hold.specs.declared.Found.the-variants as found

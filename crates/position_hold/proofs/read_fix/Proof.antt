@@ -1,13 +1,12 @@
 -- `position_hold::read_fix` meets its contract. The loop's invariant: the words and the state are those of the first `offset` reads.
-use mathlib.Core.Path.{_≡_, refl, sym, ap, subst, _∙_}
-use mathlib.Core.List.{List, [], _∷_}
-use Prim.Native.Nat.{ℕ, suc, _≤_, _-_}
+use mathlib.Core.Path.{_≡_, refl}
+use Prim.Native.Nat.{_≤_, _-_}
 use native.Mathlib.Omega.{arith}
 use borrow.Author.Needs.{needs}
-use lib.ListN.{length, getD, take, length-set}
+use lib.ListN.{length, take, length-set}
 use Rattle.board.specs.Board.{board01}
 use Rattle.machine.specs.State.{machineOf}
-use Rattle.position_hold.specs.Look.{Words, words as found-words, reads, firstReads, fixWords}
+use Rattle.position_hold.specs.Look.{words as found-words, reads, firstReads, fixWords}
 use Rattle.position_hold.proofs.FirstReads.{reads-refused, reads-put, reads-fix}
 use Rattle.position_hold.proofs.read_fix.Statement.{statement}
 use Rattle.position_hold.proofs.read_fix.Tie as tie
@@ -41,27 +40,6 @@ loop-holds : tie.Need-loop-holds Inv-loop μ-loop
 unfolding firstReads
 loop-holds c = (search needs, refl, refl, refl, refl, refl, refl, refl)
 
-read-requires : tie.Need-read-requires Inv-loop μ-loop
-read-requires c κs = search needs
-
-enum-known-number : tie.Need-enum-known-number Inv-loop μ-loop
-enum-known-number c = search needs
-
-same-length : tie.Need-same-length Inv-loop μ-loop
-same-length c = search needs
-
-same-length-2 : tie.Need-same-length-2 Inv-loop μ-loop
-same-length-2 c = search needs
-
-same-length-3 : tie.Need-same-length-3 Inv-loop μ-loop
-same-length-3 c = search needs
-
-same-length-4 : tie.Need-same-length-4 Inv-loop μ-loop
-same-length-4 c = search needs
-
-same-length-5 : tie.Need-same-length-5 Inv-loop μ-loop
-same-length-5 c = search needs
-
 returns : tie.Need-returns Inv-loop μ-loop
 returns c =
     let told = c .before in
@@ -70,56 +48,22 @@ returns c =
     let a = start l .args in
     reads-refused board01 _ (a .space) (a .page) (l .loop .offset) (omega arith) (l .loop .inv .7) (made .read .ensures) (told .number .given .1)
 
-enum-known-word : tie.Need-enum-known-word Inv-loop μ-loop
-enum-known-word c = search needs
-
-mul-read : tie.Need-mul-read Inv-loop μ-loop
-mul-read c = search needs
-
-array-write-read : tie.Need-array-write-read Inv-loop μ-loop
-array-write-read c = search needs
-
-add-offset : tie.Need-add-offset Inv-loop μ-loop
-add-offset c = search needs
-
-loop-less : tie.Need-loop-less Inv-loop μ-loop
-loop-less c = search needs
-
 loop-again : tie.Need-loop-again Inv-loop μ-loop
 loop-again c =
     let word = c .before in
     let made = after-read (word .before .before) in
     let l = turn made .before in
     let a = start l .args in
-    let same = l .loop .inv in
-    (omega arith, search needs, search needs, search needs, search needs, search needs, simp length-set (same .6), reads-put board01 _ (a .space) (a .page) (l .loop .offset) _ (omega arith) (l .loop .read) (omega arith) (same .7) (made .read .ensures) (word .word .given .1))
-
-array-read-t30 : tie.Need-array-read-t30 Inv-loop μ-loop
-array-read-t30 c = search needs
-
-array-read-t33 : tie.Need-array-read-t33 Inv-loop μ-loop
-array-read-t33 c = search needs
-
-array-read-t36 : tie.Need-array-read-t36 Inv-loop μ-loop
-array-read-t36 c = search needs
-
-array-read-t39 : tie.Need-array-read-t39 Inv-loop μ-loop
-array-read-t39 c = search needs
-
-same-length-6 : tie.Need-same-length-6 Inv-loop μ-loop
-same-length-6 c = search needs
-
-same-length-7 : tie.Need-same-length-7 Inv-loop μ-loop
-same-length-7 c = search needs
-
-same-length-8 : tie.Need-same-length-8 Inv-loop μ-loop
-same-length-8 c = search needs
-
-same-length-9 : tie.Need-same-length-9 Inv-loop μ-loop
-same-length-9 c = search needs
-
-same-length-10 : tie.Need-same-length-10 Inv-loop μ-loop
-same-length-10 c = search needs
+    let same = l .loop .inv in (
+      omega arith,
+      search needs,
+      search needs,
+      search needs,
+      search needs,
+      search needs,
+      simp length-set (same .6),
+      reads-put board01 _ (a .space) (a .page) (l .loop .offset) _ (omega arith) (l .loop .read) (omega arith) (same .7) (made .read .ensures) (word .word .given .1),
+    )
 
 returns-2 : tie.Need-returns-2 Inv-loop μ-loop
 returns-2 c =
@@ -129,31 +73,7 @@ returns-2 c =
 pub read-fix-spec : {M : Type 1} → statement M
 read-fix-spec =
     tie.close
-    (tie.spec
-    Inv-loop
-    μ-loop
-    loop-holds
-    read-requires
-    enum-known-number
-    same-length
-    same-length-2
-    same-length-3
-    same-length-4
-    same-length-5
-    returns
-    enum-known-word
-    mul-read
-    array-write-read
-    add-offset
-    loop-less
-    loop-again
-    array-read-t30
-    array-read-t33
-    array-read-t36
-    array-read-t39
-    same-length-6
-    same-length-7
-    same-length-8
-    same-length-9
-    same-length-10
-    returns-2)
+    (tie.spec Inv-loop μ-loop loop-holds (λ c κs. search needs) (λ c. search needs) (λ c. search needs) (λ c. search needs) (λ c. search needs) (λ c. search needs) (λ c. search needs) returns
+    (λ c. search needs) (λ c. search needs) (λ c. search needs) (λ c. search needs) (λ c. search needs) loop-again
+    (λ c. search needs) (λ c. search needs) (λ c. search needs) (λ c. search needs)
+    (λ c. search needs) (λ c. search needs) (λ c. search needs) (λ c. search needs) (λ c. search needs) returns-2)

@@ -5,7 +5,7 @@ use Prim.Native.Nat.{ℕ, _-_, _<_, _≤_}
 use borrow.Author.Needs.{needs}
 use borrow.Author.Tests.{lt-ltb, le-ltb, eq-eqb, ne-eqb}
 use lib.Dec.{eqb, ltb}
-use Rattle.position_hold.specs.Fix.{Fix, Display, blank, position, degrees, magnitude, isOutside, isBlank, judged}
+use Rattle.position_hold.specs.Fix.{Fix, blank, position, degrees, magnitude, isOutside, judged}
 use Rattle.position_hold.proofs.fix.judge.Statement.{statement}
 use Rattle.position_hold.proofs.fix.judge.Tie as tie
 
