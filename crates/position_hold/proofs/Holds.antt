@@ -2,7 +2,7 @@
 use mathlib.Core.Path.{_≡_, refl, sym, ap, _∙_}
 use mathlib.Core.Bool.{Bool, true, false, cond, _||_, true≢false}
 use mathlib.Core.List.{List}
-use mathlib.Core.Logic.{_⊎_, inl, inr}
+use mathlib.Core.Logic.{inl, inr}
 use Prim.Native.Nat.{ℕ, _-_, _≤_, _<_}
 use native.Mathlib.Omega.{arith}
 use borrow.Author.Tests.{lt-ltb, le-ltb, ltb-false}
@@ -12,6 +12,7 @@ use Rattle.machine.specs.State.{State}
 use Rattle.position_hold.specs.declared.Found.{Found}
 use Rattle.position_hold.specs.declared.Found.the-variants as found-by
 use Rattle.position_hold.specs.Fix.{Fix, Display, refused, blank, position, shortestHold, longestHold, holdRefused, isOutside, isBlank, judged}
+use Rattle.position_hold.specs.Theorems.{SameButBlank}
 use Rattle.position_hold.specs.Look.{Words, stopped, words, Reads, reads, fixReads, fixOf, Look, looked, drawnFrom, look, wordsFound}
 
 pub hold-accepted : (hold : ℕ) → shortestHold ≤ hold → hold ≤ longestHold → holdRefused hold ≡ false
@@ -64,29 +65,24 @@ not-blank-longer clock short long fix h = go (eqb (fix .number) 0) (ltb clock (f
 
 -- ---- two holds
 
--- what is drawn at the shorter is drawn at the longer, and where they differ the shorter is blank
-pub record SameDrawn (short long : Display) : Type 0 where
-  pub same : (latitude longitude : ℕ) → short ≡ position latitude longitude → long ≡ position latitude longitude
-  pub but-blank : (short ≡ long) ⊎ ((short ≡ blank) × ((latitude : ℕ) × (longitude : ℕ) × (long ≡ position latitude longitude)))
-
-same-as : (d : Display) → SameDrawn d d
-same-as d = record { same = λ latitude longitude e. e; but-blank = inl refl }
+same-as : (d : Display) → SameButBlank d d
+same-as d = record { drawn = λ latitude longitude e. e; but-blank = inl refl }
 
 blank-drawn : {latitude longitude : ℕ} → blank ≡ position latitude longitude → ⊥
 blank-drawn e = let z : _≡_ {A = ℕ} 0 1 = cc in omega arith
 
-judged-same : (clock short long : ℕ) (fix : Fix) → short ≤ long → SameDrawn (judged clock short fix) (judged clock long fix)
+judged-same : (clock short long : ℕ) (fix : Fix) → short ≤ long → SameButBlank (judged clock short fix) (judged clock long fix)
 unfolding judged
 judged-same clock short long fix h = go (isBlank clock short fix) (isBlank clock long fix) (not-blank-longer clock short long fix h)
   where
     go : (s l : Bool) → (s ≡ false → l ≡ false)
-        → SameDrawn (cond s blank (position (fix .latitude) (fix .longitude))) (cond l blank (position (fix .latitude) (fix .longitude)))
+        → SameButBlank (cond s blank (position (fix .latitude) (fix .longitude))) (cond l blank (position (fix .latitude) (fix .longitude)))
     go true true h = same-as blank
-    go true false h = record { same = λ latitude longitude z. absurd (blank-drawn z); but-blank = inr (refl, (fix .latitude, fix .longitude, refl)) }
+    go true false h = record { drawn = λ latitude longitude z. absurd (blank-drawn z); but-blank = inr (refl, (fix .latitude, fix .longitude, refl)) }
     go false true h = absurd (true≢false (h refl))
     go false false h = same-as (position (fix .latitude) (fix .longitude))
 
-pub drawn-same : (clock short long : ℕ) (ws : Words) → short ≤ long → SameDrawn (drawnFrom clock short ws) (drawnFrom clock long ws)
+pub drawn-same : (clock short long : ℕ) (ws : Words) → short ≤ long → SameButBlank (drawnFrom clock short ws) (drawnFrom clock long ws)
 drawn-same clock short long (stopped n) h = same-as (refused n)
 drawn-same clock short long (words ws) h = judged-same clock short long (fixOf ws) h
 

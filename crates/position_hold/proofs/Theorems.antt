@@ -12,8 +12,8 @@ use Rattle.consistency.proofs.Invariant.{Invariant}
 use Rattle.consistency.proofs.Start.{start-invariant}
 use Rattle.consistency.proofs.Theorem.{serves}
 use Rattle.position_hold.specs.Look as position-hold
-use Rattle.position_hold.specs.Look.{fixWords, fixReads, Look, looked, drawnFrom}
-use Rattle.position_hold.specs.Theorems.{Act, call, look, stateAfter, acceptedIn, LastDelivered, SameButBlank, Shorter, DrawnDelivered, SameOnlyShorter, EveryBoard}
+use Rattle.position_hold.specs.Look.{fixWords, fixReads}
+use Rattle.position_hold.specs.Theorems.{Act, call, look, stateAfter, acceptedIn, LastDelivered, Shorter, DrawnDelivered, SameOnlyShorter, EveryBoard}
 use Rattle.position_hold.proofs.Holds.{hold-accepted, look-accepted, drawn-same, look-drawn}
 use Rattle.position_hold.proofs.Reading.{FoundIn, first-reads, look-kept, word-behind}
 use Rattle.position_hold.proofs.Told.{Told, told-start, told-call}
@@ -53,13 +53,9 @@ module _ (b : Board) (reg : Regular b) where
 
   shorter : Shorter b
   shorter st space page clock short long low h high =
-      let r = fixReads b st space page in
-      let s = drawn-same clock short long (r .words) h in
-      subst (λ (x : Look). SameButBlank x (position-hold.look b st space page clock long))
-      (look-accepted b st space page clock short (hold-accepted short low (omega arith)) refl)
-      (subst (SameButBlank (looked (drawnFrom clock short (r .words)) (r .after)))
-      (look-accepted b st space page clock long (hold-accepted long (omega arith) high) refl)
-      (record { drawn = s .same; but-blank = s .but-blank; left = refl }))
+      let es = look-accepted b st space page clock short (hold-accepted short low (omega arith)) refl in
+      let el = look-accepted b st space page clock long (hold-accepted long (omega arith) high) refl in
+      rw (sym es, sym el) (drawn-same clock short long (fixReads b st space page .words) h, refl)
 
   drawn-delivered : DrawnDelivered b
   drawn-delivered memory cache protections acts full wide long space page clock hold latitude longitude e =

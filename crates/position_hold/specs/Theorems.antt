@@ -14,7 +14,7 @@ use Rattle.machine.specs.Call.{perform}
 use Rattle.machine.specs.State.{State, Single, Call}
 use Rattle.machine.specs.Step.{pageFrame}
 use Rattle.consistency.specs.Demand3.{startState}
-use Rattle.position_hold.specs.Fix.{blank, position, shortestHold, longestHold}
+use Rattle.position_hold.specs.Fix.{Display, blank, position, shortestHold, longestHold}
 use Rattle.position_hold.specs.Look as position-hold
 use Rattle.position_hold.specs.Look.{words, fixWords, fixReads, fixOf, Look}
 use Rattle.position_hold.specs.Sent.{acceptedAnd, lastSent}
@@ -57,17 +57,15 @@ LastDelivered b =
 -- ---- whenever a short hold draws a position, a longer one draws the same, and everything lent is left the same; what hold changes is only when
 -- it is blank
 
-pub record SameButBlank (short long : Look) : Type 0 where
-  pub drawn : (latitude longitude : ℕ) → short .display ≡ position latitude longitude → long .display ≡ position latitude longitude
-  pub but-blank :
-      (short .display ≡ long .display)
-      ⊎ ((short .display ≡ blank) × ((latitude : ℕ) × (longitude : ℕ) × (long .display ≡ position latitude longitude)))
-  pub left : short .after ≡ long .after
+pub record SameButBlank (short long : Display) : Type 0 where
+  pub drawn : (latitude longitude : ℕ) → short ≡ position latitude longitude → long ≡ position latitude longitude
+  pub but-blank : (short ≡ long) ⊎ ((short ≡ blank) × ((latitude : ℕ) × (longitude : ℕ) × (long ≡ position latitude longitude)))
 
 abbrev pub Shorter : Board → Type 0
 Shorter b =
     (st : State) (space page clock short long : ℕ) → shortestHold ≤ short → short ≤ long → long ≤ longestHold
-    → SameButBlank (position-hold.look b st space page clock short) (position-hold.look b st space page clock long)
+    → let at : ℕ → Look = position-hold.look b st space page clock in
+    SameButBlank (at short .display) (at long .display) × (at short .after ≡ at long .after)
 
 -- and a position drawn, at any hold, is latitude and longitude of the words read, each of which is the last delivered
 abbrev pub DrawnDelivered : Board → Type 0
