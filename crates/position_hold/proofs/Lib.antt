@@ -4,4 +4,6 @@ pub mod FirstReads
 pub mod Reading
 pub mod Holds
 pub mod Refusals
+pub mod Demand3
+pub mod Rows
 pub mod Theorems

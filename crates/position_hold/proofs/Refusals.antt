@@ -1,6 +1,6 @@
 -- Demand 1 of a look: once its first read is accepted, so are the others.
-use mathlib.Core.Path.{_≡_, refl, sym, ap, ap₂, subst, subst⁻¹}
-use mathlib.Core.Bool.{Bool, true, false, not, cond, _&&_}
+use mathlib.Core.Path.{_≡_, refl, sym, ap, ap₂, subst⁻¹}
+use mathlib.Core.Bool.{Bool, true, false, not, _&&_}
 use mathlib.Core.List.{List, []}
 use mathlib.Core.Logic.{_⊎_, inl, inr}
 use Prim.Native.Nat.{ℕ, zero, suc, _≤_, _<_}
@@ -21,9 +21,9 @@ use Rattle.machine.proofs.StoreLaws as store
 use Rattle.consistency.proofs.Refused.{none-refused}
 use Rattle.demands.proofs.Answers.{no-cause, first-cause}
 use Rattle.demands.proofs.Kept.{tables-lent, left}
-use Rattle.position_hold.specs.Fix.{Fix, blank, position, holdRefused, isBlank, judged}
-use Rattle.position_hold.specs.Look.{words, stopped, reads, firstReads, fixWords, fixReads, fixOf, Look}
-use Rattle.position_hold.specs.Refusals.{NotRefused, ByHold, ByFirstRead, Answered, LookRefusals}
+use Rattle.position_hold.specs.Fix.{holdRefused}
+use Rattle.position_hold.specs.Look.{words, stopped, reads, firstReads, fixWords, fixReads}
+use Rattle.position_hold.specs.Refusals.{ByHold, ByFirstRead, Answered, LookRefusals}
 use Rattle.position_hold.proofs.FirstReads.{reads-next, reads-stopped}
 use Rattle.position_hold.proofs.Holds.{look-refused, look-accepted}
 
@@ -81,14 +81,6 @@ module _ (b : Board) (reg : Regular b) (space page : ℕ) where
         ready = next-ready (before .after) k (before .ready) e;
       }
 
-judged-not-refused : (clock hold : ℕ) (fix : Fix) → NotRefused (judged clock hold fix)
-unfolding judged
-judged-not-refused clock hold fix = go (isBlank clock hold fix)
-  where
-    go : (t : Bool) → NotRefused (cond t blank (position (fix .latitude) (fix .longitude)))
-    go true = tt
-    go false = tt
-
 pub look-refusals : LookRefusals
 unfolding fixReads callCauses
 look-refusals b reg room st space page clock hold = go (holdRefused hold) (firstRefusal (causes b st (read space page 0))) refl refl
@@ -108,5 +100,5 @@ look-refusals b reg room st space page clock hold = go (holdRefused hold) (first
         inr (inr (
           et,
           no-cause b st (single (read space page 0)) en,
-          subst (λ (x : Look). NotRefused (x .display)) (look-accepted b st space page clock hold et (a .reads-are)) (judged-not-refused clock hold (fixOf (a .found))),
+          (a .found, a .after, sym (a .reads-are), sym (look-accepted b st space page clock hold et (a .reads-are))),
         ))

@@ -1,6 +1,9 @@
--- Position hold: a fix and its judgement, a look at the position, what transfers last sent, and the skipper's two theorems.
+-- Position hold: a fix and its judgement, a look at the position and its refusals, what transfers last sent, the skipper's two theorems, and demand 3 with
+-- looks among the calls.
 pub mod Fix
 pub mod Look
 pub mod Sent
 pub mod Refusals
 pub mod Theorems
+pub mod Demand3
+pub mod Rows

@@ -31,7 +31,7 @@ reads ws st = record { words = ws; after = st }
 -- a word more, which every accepted read has, or the refusal
 abbrev pub withAnswer : List ℕ → Outcome → Option ℕ → Words
 withAnswer ws (outcome.refused n) word = stopped n
-withAnswer ws (outcome.accepted f ops) none = words ws
+withAnswer ws (outcome.accepted f ops) none = stopped 0
 withAnswer ws (outcome.accepted f ops) (some w) = words (ws ++ w ∷ [])
 
 -- one more read: none is made after a refusal

@@ -1,6 +1,7 @@
 -- Demand 1 of a look: 14 by its hold, else the refusal that the conditions of its first read and their order give; a refused look leaves everything
 -- lent as it was. Once the first read is accepted the others are, where a page has room for a fix.
 use mathlib.Core.Bool.{true, false}
+use mathlib.Core.List.{List}
 use mathlib.Core.Logic.{_⊎_}
 use mathlib.Core.Path.{_≡_}
 use Prim.Native.Nat.{ℕ, _≤_}
@@ -10,13 +11,8 @@ use Rattle.manager.specs.Theorems.{First}
 use Rattle.machine.specs.Refusals.{causes}
 use Rattle.machine.specs.State.{State, read}
 use Rattle.demands.specs.Demands.{Clear}
-use Rattle.position_hold.specs.Fix.{Display, refused, blank, position, holdRefused}
-use Rattle.position_hold.specs.Look.{fixWords, looked, look}
-
-abbrev pub NotRefused : Display → Type 0
-NotRefused (refused n) = ⊥
-NotRefused blank = Unit {0}
-NotRefused (position latitude longitude) = Unit {0}
+use Rattle.position_hold.specs.Fix.{refused, holdRefused, judged}
+use Rattle.position_hold.specs.Look.{words, reads, fixWords, fixReads, fixOf, looked, look}
 
 -- a hold out of its range
 abbrev pub ByHold : Board → State → ℕ → ℕ → ℕ → ℕ → Type 0
@@ -27,10 +23,12 @@ abbrev pub ByFirstRead : Board → State → ℕ → ℕ → ℕ → ℕ → ℕ
 ByFirstRead b st space page clock hold n =
     (holdRefused hold ≡ false) × First (causes b st (read space page 0)) n × (look b st space page clock hold ≡ looked (refused n) st)
 
--- or no cause
+-- or no cause: all words are read, and judged
 abbrev pub Answered : Board → State → ℕ → ℕ → ℕ → ℕ → Type 0
 Answered b st space page clock hold =
-    (holdRefused hold ≡ false) × Clear (causes b st (read space page 0)) × NotRefused (look b st space page clock hold .display)
+    (holdRefused hold ≡ false) × Clear (causes b st (read space page 0))
+    × ((ws : List ℕ) × (after : State) × (fixReads b st space page ≡ reads (words ws) after)
+    × (look b st space page clock hold ≡ looked (judged clock hold (fixOf ws)) after))
 
 abbrev pub LookRefusals : Type 0
 LookRefusals =

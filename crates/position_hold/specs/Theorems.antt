@@ -1,6 +1,6 @@
--- The skipper's question: is the position drawn the last one delivered, and does a short hold draw another than a long one? Both theorems are
--- over any list of calls from the start, any clock and any regular board. Evictions stand anywhere in the list, so neither depends on which lines
--- were evicted between, at whatever zoom.
+-- The skipper's question: is the position drawn the last one delivered, and does a short hold draw another than a long one? What is said of deliveries
+-- is over any list of calls from the start, what is said of two holds over any state; both are for any clock and any regular board. Evictions stand
+-- anywhere in the list, so neither depends on which lines were evicted between, at whatever zoom.
 use mathlib.Core.List.{List, [], _∷_}
 use mathlib.Core.Logic.{_⊎_}
 use mathlib.Core.Option.{some}
@@ -8,7 +8,7 @@ use mathlib.Core.Path.{_≡_}
 use Prim.Native.Nat.{ℕ, _≤_, _<_}
 use lib.ListN.{length, getD}
 use Rattle.board.specs.declared.Board.{Board}
-use Rattle.board.specs.Board.{Regular, memoryWords, cacheWords}
+use Rattle.board.specs.Board.{Regular, board01, memoryWords, cacheWords}
 use Rattle.mapping.specs.Entry.{capacity}
 use Rattle.machine.specs.Call.{perform}
 use Rattle.machine.specs.State.{State, Single, Call}
@@ -81,7 +81,10 @@ DrawnDelivered b =
 abbrev pub SameOnlyShorter : Board → Type 0
 SameOnlyShorter b = Shorter b × DrawnDelivered b
 
--- ---- of every regular board
+-- ---- of every regular board, and so of document 01's
 
 abbrev pub EveryBoard : Type 0
 EveryBoard = (b : Board) → Regular b → LastDelivered b × SameOnlyShorter b
+
+abbrev pub Board01 : Type 0
+Board01 = LastDelivered board01 × SameOnlyShorter board01

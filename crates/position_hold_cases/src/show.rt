@@ -1,7 +1,7 @@
 // Calls on a machine whose fix page is frame 3, and text on each. A look's line is its space, page, clock and hold, then what is drawn: `position` with
 // latitude and longitude as words, `blank`, or `refused` with its number.
 // `left` is a line with parts of what the calls left: p the first two protections, r the record of frame 3, t the tags of lines 0 and 8, where the
-// fix lies in colours 0 and 1, m its four words in memory.
+// fix lies in colours 0 and 1, m its four words in memory and the word at offset 40.
 use libc::STDOUT_FILENO;
 use mapping::Mapping;
 use mapping::MappingList;
@@ -113,11 +113,12 @@ pub fn left(records: &[u32], protections: &[u8], memory: &[u32], tags: &[u8]) {
         byte(tags[8]);
     }
     io::write_all(STDOUT_FILENO, b" m");
-    if memory.len() > 195 {
+    if memory.len() > 232 {
         word(memory[192]);
         word(memory[193]);
         word(memory[194]);
         word(memory[195]);
+        word(memory[232]);
     }
     end();
 }
