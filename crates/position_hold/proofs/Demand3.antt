@@ -2,7 +2,8 @@
 use mathlib.Core.List.{List, [], _∷_}
 use Prim.Native.Nat.{ℕ}
 use Rattle.board.specs.declared.Board.{Board}
-use Rattle.board.specs.Board.{Regular}
+use Rattle.board.specs.Board.{Regular, board01}
+use Rattle.board.proofs.Geometry.{board01-regular}
 use Rattle.machine.specs.Call.{perform}
 use Rattle.machine.specs.State.{State}
 use Rattle.consistency.specs.Cacheless.{Cacheless, start, fed}
@@ -11,7 +12,7 @@ use Rattle.consistency.proofs.Evicted.{all-evicted}
 use Rattle.consistency.proofs.Invariant.{Invariant}
 use Rattle.consistency.proofs.Start.{start-invariant}
 use Rattle.consistency.proofs.Theorem.{serves}
-use Rattle.position_hold.specs.Demand3.{LookFinds, AllFind, cachelessAfter, Demand3}
+use Rattle.position_hold.specs.Demand3.{LookFinds, AllFind, cachelessAfter, Demand3, EveryBoard, Board01}
 use Rattle.position_hold.specs.Look as position-hold
 use Rattle.position_hold.specs.Look.{Words, stopped, words, fixWords, fixReads}
 use Rattle.position_hold.specs.Theorems.{Act, call, look, stateAfter}
@@ -40,7 +41,7 @@ module _ (b : Board) (reg : Regular b) where
   invariant-after st m inv (look space page clock hold ∷ acts) =
       invariant-after (position-hold.look b st space page clock hold .after) m (look-kept b reg m space page st inv clock hold) acts
 
-  pub demand3 : Demand3 b
+  demand3 : Demand3 b
   demand3 memory cache protections acts full wide long =
       let st = startState b memory cache protections in
       let inv = start-invariant b reg memory cache protections full wide long in
@@ -48,3 +49,9 @@ module _ (b : Board) (reg : Regular b) where
         finds = all-find st (start b memory) inv acts;
         evicted = all-evicted b reg (cachelessAfter b st (start b memory) acts) (stateAfter b st acts) (invariant-after st (start b memory) inv acts);
       }
+
+pub every-board : EveryBoard
+every-board = demand3
+
+pub board-01 : Board01
+board-01 = demand3 board01 board01-regular

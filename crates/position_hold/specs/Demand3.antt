@@ -6,7 +6,7 @@ use mathlib.Core.Path.{_≡_}
 use Prim.Native.Nat.{ℕ, _<_}
 use lib.ListN.{length, getD}
 use Rattle.board.specs.declared.Board.{Board}
-use Rattle.board.specs.Board.{memoryWords, cacheWords, lines}
+use Rattle.board.specs.Board.{Regular, board01, memoryWords, cacheWords, lines}
 use Rattle.mapping.specs.Entry.{capacity}
 use Rattle.machine.specs.Call.{perform}
 use Rattle.machine.specs.State.{State}
@@ -17,12 +17,12 @@ use Rattle.position_hold.specs.Look as position-hold
 use Rattle.position_hold.specs.Look.{Words, stopped, words, fixWords, fixReads}
 use Rattle.position_hold.specs.Theorems.{Act, call, look, stateAfter}
 
--- what a look finds, where none of its reads is refused
+-- the words that a look reads, and judges, where none of its reads is refused
 abbrev pub LookFinds : Cacheless → ℕ → ℕ → Words → Type 0
 LookFinds m space page (stopped n) = Unit {0}
 LookFinds m space page (words ws) = (k : ℕ) → k < fixWords → pageWord m (m .frame space page) k ≡ some (getD ws k 0)
 
--- every accepted read of the list finds its words, those of its looks too
+-- every accepted read of the list finds its words, and every look whose four reads are accepted
 abbrev pub AllFind : Board → State → Cacheless → List Act → Type 0
 AllFind b st m [] = Unit {0}
 AllFind b st m (call c ∷ acts) =
@@ -47,3 +47,11 @@ abbrev pub Demand3 : Board → Type 0
 Demand3 b =
     (memory cache protections : List ℕ) (acts : List Act) → length memory ≡ memoryWords b → length cache ≡ cacheWords b → length protections ≡ capacity
     → Holds b (startState b memory cache protections) (start b memory) acts
+
+-- ---- of every regular board, and so of document 01's
+
+abbrev pub EveryBoard : Type 0
+EveryBoard = (b : Board) → Regular b → Demand3 b
+
+abbrev pub Board01 : Type 0
+Board01 = Demand3 board01

@@ -1,72 +1,95 @@
--- What was last sent, computed: accepted calls, the latest first, then frame and offset, and the word, if any.
+-- What was last sent, computed on document 01's board: calls from the start in their order, then a frame and an offset, and the word, if any.
 use mathlib.Core.List.{List, [], _∷_}
 use mathlib.Core.Option.{Option, none, some}
 use mathlib.Core.Path.{_≡_}
 use Prim.Native.Nat.{ℕ}
+use lib.ListN.{replicate}
+use Rattle.board.specs.Board.{board01, memoryWords, cacheWords}
 use Rattle.mapping.specs.declared.Mapping.{Mapping}
-use Rattle.manager.specs.Answers.{refused, accepted}
-use Rattle.manager.specs.Calls.{noOps}
-use Rattle.machine.specs.State.{Single, map, unmap, read, write, deviceRead, deviceWrite, deviceWritePart, evict, single, mapAll}
-use Rattle.machine.specs.Step.{answer}
-use Rattle.position_hold.specs.Sent.{lastSent, acceptedAnd}
+use Rattle.mapping.specs.Entry.{capacity}
+use Rattle.machine.specs.State.{State, Single, map, unmap, read, write, deviceRead, deviceWrite, deviceWritePart, evict, single, mapAll}
+use Rattle.consistency.specs.Demand3.{startState}
+use Rattle.position_hold.specs.Sent.{lastSent}
+use Rattle.position_hold.specs.Theorems.{Act, call, look, acceptedIn}
 
 pub record Row : Type 0 where
-  pub calls : List Single
+  pub acts : List Act
   pub frame : ℕ
   pub offset : ℕ
   pub sent : Option ℕ
 
-abbrev pub row : List Single → ℕ → ℕ → Option ℕ → Row
-row calls frame offset sent = record { calls = calls; frame = frame; offset = offset; sent = sent }
+abbrev pub start01 : State
+start01 = startState board01 (replicate (memoryWords board01) 0) (replicate (cacheWords board01) 0) (replicate capacity 0)
 
 abbrev pub EveryRowHolds : List Row → Type 0
 EveryRowHolds [] = Unit {0}
-EveryRowHolds (r ∷ rows) = (lastSent (r .calls) (r .frame) (r .offset) ≡ r .sent) × EveryRowHolds rows
+EveryRowHolds (r ∷ rows) = (lastSent (acceptedIn board01 start01 (r .acts) []) (r .frame) (r .offset) ≡ r .sent) × EveryRowHolds rows
 
--- frame 3 behind two pages; four words to it, and two from offset 2 on
-abbrev maps : List Single
-maps = map 1 9 3 1 ∷ map 0 0 3 2 ∷ []
+abbrev pub row : List Act → ℕ → ℕ → Option ℕ → Row
+row acts frame offset sent = record { acts = acts; frame = frame; offset = offset; sent = sent }
 
-abbrev four : Single
-four = deviceWritePart 3 0 4 (1 ∷ 1000 ∷ 5 ∷ 6 ∷ [])
+-- a single call
+abbrev one : Single → Act
+one c = call (single c)
 
-abbrev two : Single
-two = deviceWritePart 3 2 2 (50 ∷ 60 ∷ [])
+-- frame 3 behind two pages
+abbrev chart : Act
+chart = one (map 0 0 3 2)
 
--- a list of two mappings, of which the first is refused
+abbrev alarm : Act
+alarm = one (map 1 9 3 2)
+
+-- transfers to frame 3: four words, two from offset 2 on, and a whole page
+abbrev four : Act
+four = one (deviceWritePart 3 0 4 (1 ∷ 1000 ∷ 5 ∷ 6 ∷ []))
+
+abbrev two : Act
+two = one (deviceWritePart 3 2 2 (50 ∷ 60 ∷ []))
+
+abbrev page : Act
+page = one (deviceWrite 3 (1 ∷ 1000 ∷ 5 ∷ 6 ∷ replicate 60 7))
+
+-- pages 0 and 1 of space 0 at once
 abbrev item : ℕ → Mapping
-item page = record { space = 0; page = page; frame = 3; rights = 2 }
+item p = record { space = 0; page = p; frame = 3; rights = 2 }
 
-abbrev listed : List Single
-listed = acceptedAnd (mapAll (item 0 ∷ item 1 ∷ []) (0 ∷ 0 ∷ [])) (answer (accepted 0 noOps) none (7 ∷ 0 ∷ [])) []
+abbrev both : List ℕ → Act
+both answers = call (mapAll (item 0 ∷ item 1 ∷ []) answers)
 
 abbrev pub rows : List Row
 rows =
-    -- a part sends its words, and no others
-    row (four ∷ maps) 3 3 (some 6)
-    ∷ row (four ∷ maps) 3 4 none
-    ∷ row (four ∷ maps) 4 3 none
-    ∷ row (two ∷ maps) 3 1 none
-    -- a whole page sends from offset 0 on
-    ∷ row (deviceWrite 3 (1 ∷ 1000 ∷ 5 ∷ 6 ∷ []) ∷ maps) 3 0 (some 1)
-    -- of two transfers the latest that reaches the word
-    ∷ row (two ∷ four ∷ maps) 3 1 (some 1000)
-    ∷ row (two ∷ four ∷ maps) 3 2 (some 50)
-    ∷ row (four ∷ two ∷ maps) 3 2 (some 5)
-    -- a program's write through either page, and a transfer after it
-    ∷ row (write 0 0 3 100 ∷ four ∷ maps) 3 3 none
-    ∷ row (write 1 9 3 100 ∷ four ∷ maps) 3 3 none
-    ∷ row (write 0 0 3 100 ∷ four ∷ maps) 3 2 (some 5)
-    ∷ row (two ∷ write 0 0 3 100 ∷ four ∷ maps) 3 3 (some 60)
+    -- a part sends its words, to its frame, and no others
+    row (chart ∷ four ∷ []) 3 0 (some 1)
+    ∷ row (chart ∷ four ∷ []) 3 3 (some 6)
+    ∷ row (chart ∷ four ∷ []) 3 4 none
+    ∷ row (chart ∷ two ∷ []) 3 1 none
+    ∷ row (one (deviceWritePart 63 0 2 (8 ∷ 9 ∷ [])) ∷ []) 63 1 (some 9)
+    ∷ row (one (deviceWritePart 63 0 2 (8 ∷ 9 ∷ [])) ∷ []) 3 1 none
+    -- a page sends all of them
+    ∷ row (chart ∷ page ∷ []) 3 0 (some 1)
+    ∷ row (chart ∷ page ∷ []) 3 3 (some 6)
+    ∷ row (chart ∷ page ∷ []) 3 63 (some 7)
+    -- of two transfers the later that reaches the word
+    ∷ row (chart ∷ four ∷ two ∷ []) 3 1 (some 1000)
+    ∷ row (chart ∷ four ∷ two ∷ []) 3 2 (some 50)
+    ∷ row (chart ∷ two ∷ four ∷ []) 3 2 (some 5)
+    -- a program's write, through either page, and a transfer after it
+    ∷ row (chart ∷ four ∷ one (write 0 0 3 100) ∷ []) 3 3 none
+    ∷ row (chart ∷ four ∷ one (write 0 0 3 100) ∷ []) 3 2 (some 5)
+    ∷ row (chart ∷ alarm ∷ four ∷ one (write 1 9 3 100) ∷ []) 3 3 none
+    ∷ row (chart ∷ four ∷ one (write 0 0 3 100) ∷ two ∷ []) 3 3 (some 60)
     -- a page that is mapped to another frame, after the write and before it
-    ∷ row (map 0 0 4 2 ∷ unmap 0 0 ∷ write 0 0 3 100 ∷ four ∷ maps) 3 3 none
-    ∷ row (write 0 0 3 100 ∷ map 0 0 4 2 ∷ unmap 0 0 ∷ four ∷ maps) 3 3 (some 6)
-    -- evictions, reads, device reads and unmaps send nothing and write nothing
-    ∷ row (evict 0 ∷ read 0 0 3 ∷ deviceRead 3 [] ∷ unmap 1 9 ∷ four ∷ maps) 3 3 (some 6)
-    -- a refused transfer does not count, nor does a refused item of a list
-    ∷ row (acceptedAnd (single two) (answer (refused 4) none []) (four ∷ maps)) 3 3 (some 6)
-    ∷ row (write 0 0 3 100 ∷ four ∷ listed) 3 3 (some 6)
-    ∷ row (write 0 1 3 100 ∷ four ∷ listed) 3 3 none
+    ∷ row (chart ∷ four ∷ one (write 0 0 3 100) ∷ one (unmap 0 0) ∷ one (map 0 0 4 2) ∷ []) 3 3 none
+    ∷ row (chart ∷ four ∷ one (unmap 0 0) ∷ one (map 0 0 4 2) ∷ one (write 0 0 3 100) ∷ []) 3 3 (some 6)
+    -- maps, unmaps, reads, device reads, evictions and looks send nothing and write nothing
+    ∷ row (chart ∷ four ∷ one (read 0 0 3) ∷ look 0 0 1000 2 ∷ one (evict 0) ∷ one (deviceRead 3 (replicate 64 0)) ∷ alarm ∷ one (unmap 0 0) ∷ []) 3 3 (some 6)
+    -- refused: a transfer by its buffer, a write by its rights
+    ∷ row (chart ∷ four ∷ one (deviceWritePart 3 2 3 (50 ∷ 60 ∷ [])) ∷ []) 3 3 (some 6)
+    ∷ row (one (map 0 0 3 1) ∷ four ∷ one (write 0 0 3 100) ∷ []) 3 3 (some 6)
+    -- of a list of mappings the first item is refused, so page 0 stays frame 4's; or the whole is
+    ∷ row (one (map 0 0 4 2) ∷ four ∷ both (0 ∷ 0 ∷ []) ∷ one (write 0 0 3 100) ∷ []) 3 3 (some 6)
+    ∷ row (one (map 0 0 4 2) ∷ four ∷ both (0 ∷ 0 ∷ []) ∷ one (write 0 1 3 100) ∷ []) 3 3 none
+    ∷ row (four ∷ both [] ∷ one (write 0 1 3 100) ∷ []) 3 3 (some 6)
     ∷ []
 
 abbrev pub LastSentRows : Type 0

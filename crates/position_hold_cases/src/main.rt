@@ -179,7 +179,7 @@ fn refusals() {
 
 // ---- two programs on the fix page
 
-// Each delivery is looked at through both pages, so that the next finds both colours held.
+// Each delivery is looked at through both pages.
 fn two_programs() {
     io::write_all(STDOUT_FILENO, b"two programs\n");
     let list = show::two_pages();
