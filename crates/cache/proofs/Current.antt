@@ -3,3 +3,4 @@ pub mod Line
 pub mod Purge
 pub mod Write
 pub mod Device
+pub mod Word

@@ -106,3 +106,8 @@ deviceRead b f s = part (s .memory) (frameAt b f) (b .page)
 unfoldable pub deviceWrite : Board → ℕ → ℕ → List ℕ → Store → Store
 unfolding overlay memoryAt
 deviceWrite b f first buffer s = withMemory (overlay (s .memory) (memoryAt b f first) buffer) s
+
+-- memory with one word of the frame replaced, which a device brings (request N6); the one that it takes is `memoryWord`
+unfoldable pub bringWord : Board → ℕ → ℕ → ℕ → Store → Store
+unfolding memoryAt
+bringWord b f o v s = withMemory (set (s .memory) (memoryAt b f o) v) s

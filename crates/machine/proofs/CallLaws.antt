@@ -14,7 +14,7 @@ use Rattle.manager.specs.Refusals.{firstRefusal}
 use Rattle.manager.specs.Tables.{tabulate}
 use Rattle.machine.specs.Call.{afterItems, answerAt, callCauses, callBuffer, perform}
 use Rattle.machine.specs.Refusals.{causes}
-use Rattle.machine.specs.State.{State, Single, map, unmap, read, write, deviceRead, deviceWrite, deviceWritePart, evict, Call, single, mapAll, Result, lentBuffer}
+use Rattle.machine.specs.State.{State, Single, map, unmap, read, write, deviceRead, deviceWrite, deviceWritePart, evict, beginRead, beginWrite, bringWord, takeWord, endTransfer, Call, single, mapAll, Result, lentBuffer}
 use Rattle.machine.specs.Step.{answer, result, accept, step}
 
 -- what a call is where it is accepted
@@ -60,6 +60,11 @@ accept-accepted b st (single (deviceRead frame buffer)) = refl
 accept-accepted b st (single (deviceWrite frame buffer)) = refl
 accept-accepted b st (single (deviceWritePart frame first number buffer)) = refl
 accept-accepted b st (single (evict line)) = refl
+accept-accepted b st (single (beginRead frame)) = refl
+accept-accepted b st (single (beginWrite frame)) = refl
+accept-accepted b st (single (bringWord frame offset word)) = refl
+accept-accepted b st (single (takeWord frame offset)) = refl
+accept-accepted b st (single (endTransfer frame)) = refl
 accept-accepted b st (mapAll items answers) = refl
 
 -- ---- a single call's number

@@ -24,15 +24,15 @@ use Rattle.manager.specs.declared.ListPlan.{ListPlan}
 use Rattle.manager.specs.declared.ListPlan.the-variants as list-plan
 use Rattle.manager.specs.Answers.{Outcome, refused, accepted}
 use Rattle.manager.specs.Calls.{noOps, planned, placed, changeOf, writeStep, commitChange}
-use Rattle.manager.specs.Refusals.{Cause, firstRefusal, outOfPage, spaceCause, frameCause, unmappedCause}
+use Rattle.manager.specs.Refusals.{Cause, firstRefusal, outOfPage, spaceCause, frameCause, offsetCause, unmappedCause}
 use Rattle.manager.specs.Tables.{Tables, tables, lengthsRight, rulesKept, recordAt}
 use Rattle.manager.proofs.CauseLaws.{NoneApplies, numbered, none-applies, mapped-range}
 use Rattle.cache.specs.Store.{Store, WellFormed}
 use Rattle.cache.specs.Tag.{tagsKeepRules}
-use Rattle.machine.specs.Ready.{AccessReady, TransferReady, PartReady}
-use Rattle.machine.specs.Refusals.{storeLengths, bufferRight, lentCauses, offsetCause, ownCauses, causes}
-use Rattle.machine.specs.State.{State, state, Single, map, unmap, read, write, deviceRead, deviceWrite, deviceWritePart, evict, Result, lentBuffer}
-use Rattle.machine.specs.Step.{answer, result, carryOut, listed, stepped, pageFrame, accept, step}
+use Rattle.machine.specs.Ready.{OperationsReady, AccessReady, TransferReady, PartReady}
+use Rattle.machine.specs.Refusals.{storeLengths, bufferRight, lentCauses, ownCauses, causes}
+use Rattle.machine.specs.State.{State, state, Single, map, unmap, read, write, deviceRead, deviceWrite, deviceWritePart, evict, beginRead, beginWrite, bringWord, takeWord, endTransfer, Result, lentBuffer}
+use Rattle.machine.specs.Step.{answer, result, carryOut, plain, listed, stepped, pageFrame, accept, step}
 use Rattle.machine.specs.Plans.{planStep, planPlace, refusalOf, placeRefusal}
 use Rattle.machine.proofs.StoreLaws.{well-formed}
 
@@ -86,6 +86,11 @@ module _ (b : Board) (st : State) (call : Single) where
       go (deviceWrite frame buffer) = refl
       go (deviceWritePart frame first number buffer) = refl
       go (evict line) = refl
+      go (beginRead frame) = refl
+      go (beginWrite frame) = refl
+      go (bringWord frame offset word) = refl
+      go (takeWord frame offset) = refl
+      go (endTransfer frame) = refl
 
   -- no refusal: no cause applies
   pub clear : firstRefusal (causes b st call) ≡ 0 → NoneApplies (lentCauses b st call ++ ownCauses b st call)
@@ -143,17 +148,42 @@ access-requires b st call s space page offset rest {change} reg p own e =
     let r = subst (λ (m : Change). Ready b st m × (offset < b .page)) (q .1) (access-ready b st call s space page offset rest own (q .0)) in
     (r .0 .0, r .0 .1, r .0 .2, r .0 .3, subst⁻¹ (λ (k : ℕ). k < b .colours) e (colourOf-lt b reg page), r .1, reg)
 
--- a transfer of a frame: any call whose own causes begin with the frame's, and of which a buffer of so many words is tested
+-- a step of a frame that the call names: any call whose own causes begin with the frame's
+pub frame-ready : (b : Board) (st : State) (call : Single) (s : table.Step) (frame : ℕ) (rest : List Cause) → ownCauses b st call ≡ frameCause b frame ∷ rest
+    → firstRefusal (causes b st call) ≡ 0 → Ready b st (changeOf b (st .tables) frame s)
+unfolding lentCauses
+frame-ready b st call s frame rest own e =
+    let n = subst (λ (cs : List Cause). NoneApplies (lentCauses b st call ++ cs)) own (clear b st call e) in
+    ready b st frame s (store-clear b st call e) (leb-false (b .frames) frame (n .1 .1 .0))
+
+-- so the change that is told is what `carry_out` requires
+pub frame-requires : (b : Board) (st : State) (call : Single) (s : table.Step) (frame : ℕ) (rest : List Cause) {change : Change} → Regular b
+    → planStep b st call (changeOf b (st .tables) frame s) ≡ step-plan.Step change
+    → ownCauses b st call ≡ frameCause b frame ∷ rest
+    → OperationsReady b (st .store) (change .frame) (change .ops)
+frame-requires b st call s frame rest {change} reg p own =
+    let q = planned-step _ _ change p in
+    let r = subst (Ready b st) (q .1) (frame-ready b st call s frame rest own (q .0)) in
+    (r .0, r .1, r .2, r .3, reg)
+
+-- a word at an offset of a frame: any call whose own causes begin with those of both
+pub word-ready : (b : Board) (st : State) (call : Single) (frame offset : ℕ) (rest : List Cause)
+    → ownCauses b st call ≡ frameCause b frame ∷ offsetCause (b .page) offset ∷ rest
+    → firstRefusal (causes b st call) ≡ 0 → WellFormed b (st .store) × (frame < b .frames) × (offset < b .page)
+unfolding lentCauses
+word-ready b st call frame offset rest own e =
+    let n = subst (λ (cs : List Cause). NoneApplies (lentCauses b st call ++ cs)) own (clear b st call e) in
+    (store-clear b st call e, leb-false (b .frames) frame (n .1 .1 .0), leb-false (b .page) offset (n .1 .1 .1 .0))
+
+-- a transfer of a frame: one of which a buffer of so many words is tested
 pub transfer-ready : (b : Board) (st : State) (call : Single) (s : table.Step) (frame number : ℕ) (buffer : List ℕ) (rest : List Cause)
     → ownCauses b st call ≡ frameCause b frame ∷ rest
     → bufferRight b call ≡ eqb (length buffer) number
     → firstRefusal (causes b st call) ≡ 0
     → Ready b st (changeOf b (st .tables) frame s) × (length buffer ≡ number)
-unfolding lentCauses
 transfer-ready b st call s frame number buffer rest own tested e =
-    let n = subst (λ (cs : List Cause). NoneApplies (lentCauses b st call ++ cs)) own (clear b st call e) in
     let l = and-right (lengthsRight b (st .tables) && storeLengths b (st .store)) _ (lengths-clear b st call e) in
-    (ready b st frame s (store-clear b st call e) (leb-false (b .frames) frame (n .1 .1 .0)), eqb-true (length buffer) number (sym tested ∙ l))
+    (frame-ready b st call s frame rest own e, eqb-true (length buffer) number (sym tested ∙ l))
 
 -- so the change that is told is what `send` requires
 pub transfer-requires : (b : Board) (st : State) (call : Single) (s : table.Step) (frame : ℕ) (buffer : List ℕ) (rest : List Cause) {change : Change} → Regular b
@@ -180,7 +210,7 @@ module _ (b : Board) (st : State) where
   pub read-ready : (space page offset : ℕ) → firstRefusal (causes b st (read space page offset)) ≡ 0
       → Ready b st (changeOf b (st .tables) (pageFrame st space page) (table.read (colourOf b page))) × (offset < b .page)
   unfolding ownCauses
-  read-ready space page offset = access-ready b st (read space page offset) (table.read (colourOf b page)) space page offset [] refl
+  read-ready space page offset = access-ready b st (read space page offset) (table.read (colourOf b page)) space page offset _ refl
 
   pub write-ready : (space page offset word : ℕ) → firstRefusal (causes b st (write space page offset word)) ≡ 0
       → Ready b st (changeOf b (st .tables) (pageFrame st space page) (table.write (colourOf b page))) × (offset < b .page)
@@ -190,12 +220,12 @@ module _ (b : Board) (st : State) where
   pub deviceRead-ready : (frame : ℕ) (buffer : List ℕ) → firstRefusal (causes b st (deviceRead frame buffer)) ≡ 0
       → Ready b st (changeOf b (st .tables) frame table.deviceRead) × (length buffer ≡ b .page)
   unfolding ownCauses
-  deviceRead-ready frame buffer = transfer-ready b st (deviceRead frame buffer) table.deviceRead frame (b .page) buffer [] refl refl
+  deviceRead-ready frame buffer = transfer-ready b st (deviceRead frame buffer) table.deviceRead frame (b .page) buffer _ refl refl
 
   pub deviceWrite-ready : (frame : ℕ) (buffer : List ℕ) → firstRefusal (causes b st (deviceWrite frame buffer)) ≡ 0
       → Ready b st (changeOf b (st .tables) frame table.deviceWrite) × (length buffer ≡ b .page)
   unfolding ownCauses
-  deviceWrite-ready frame buffer = transfer-ready b st (deviceWrite frame buffer) table.deviceWrite frame (b .page) buffer [] refl refl
+  deviceWrite-ready frame buffer = transfer-ready b st (deviceWrite frame buffer) table.deviceWrite frame (b .page) buffer _ refl refl
 
   -- of a part there are words, and all are in the page
   pub deviceWritePart-ready : (frame first number : ℕ) (buffer : List ℕ) → firstRefusal (causes b st (deviceWritePart frame first number buffer)) ≡ 0
@@ -280,9 +310,14 @@ module _ (b : Board) (st : State) (call : Single) where
       ∙ step-refused b st call k (placed-refusal _ k place (sym p ∙ e ∙ ap list-plan.Refused (sym (ek ∙ ap placeRefusal e))))
 
   -- an accepted call without orders
+  pub plain-made : firstRefusal (causes b st call) ≡ 0 → (word : Option ℕ) (t : Tables) (s : Store) → accept b st call ≡ plain word t s
+      → {o : Outcome} {w : Option ℕ} {t′ : Tables} {s′ : Store} → o ≡ accepted 0 noOps → w ≡ word → t′ ≡ t → s′ ≡ s
+      → result (answer o w []) (state t′ s′) ≡ step b st call
+  plain-made e word t s a eo ew et es = made eo ew refl et es ∙ sym a ∙ step-accepted b st call e
+
   pub listed-made : firstRefusal (causes b st call) ≡ 0 → (t : Tables) (s : Store) → accept b st call ≡ listed t s
       → {o : Outcome} {t′ : Tables} {s′ : Store} → o ≡ accepted 0 noOps → t′ ≡ t → s′ ≡ s → result (answer o none []) (state t′ s′) ≡ step b st call
-  listed-made e t s a eo et es = made eo refl refl et es ∙ sym a ∙ step-accepted b st call e
+  listed-made e t s a eo et es = plain-made e none t s a eo refl et es
 
   -- the plan of the list was a place, at which the tables change
   pub placed-made : (place : ℕ) {told : ℕ} → planPlace b st call place ≡ list-plan.Place told

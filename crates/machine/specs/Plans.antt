@@ -1,6 +1,7 @@
 -- How a single call is planned: the machine's own refusal beside the manager's plan, of which the number that stands earlier is given.
-use mathlib.Core.Bool.{Bool, true, not, cond, _&&_}
+use mathlib.Core.Bool.{Bool, true, false, not, cond, _&&_}
 use mathlib.Core.List.{List, [], _∷_, _++_}
+use mathlib.Core.Path.{_≡_}
 use mathlib.Core.Option.{none, some}
 use Prim.Native.Nat.{ℕ, zero, suc}
 use lib.Dec.{leb}
@@ -12,13 +13,13 @@ use Rattle.manager.specs.declared.ListPlan.the-variants as list-plan
 use Rattle.manager.specs.Answers.{refused, accepted}
 use Rattle.manager.specs.declared.Change.{Change}
 use Rattle.manager.specs.Calls.{planned, placed}
-use Rattle.manager.specs.Refusals.{Cause, _if_, firstRefusal, refusalPlace}
+use Rattle.manager.specs.Refusals.{Cause, _if_, firstRefusal, frameCause, offsetCause, wordCause, refusalPlace}
 use Rattle.cache.specs.Store.{Store}
 use Rattle.cache.specs.Tag.{tagsKeepRules}
 use Rattle.machine.specs.declared.Loaded.{Loaded}
 use Rattle.machine.specs.declared.Loaded.the-variants.{Refused, Word}
-use Rattle.machine.specs.Refusals.{storeLengths, offsetCause, causes}
-use Rattle.machine.specs.State.{State, Single, Answer}
+use Rattle.machine.specs.Refusals.{storeLengths, bufferRight, ownCauses, causes}
+use Rattle.machine.specs.State.{State, Single, beginRead, beginWrite, Answer}
 use Rattle.machine.specs.Step.{answer}
 
 -- the causes in memory, cache words and tags, and whether a device's buffer has its length
@@ -55,6 +56,16 @@ planStep b st call change = planned (firstRefusal (causes b st call)) change
 
 abbrev pub planPlace : Board → State → Single → ℕ → ListPlan
 planPlace b st call place = placed (firstRefusal (causes b st call)) place
+
+-- the call that begins a device's transfer, a write or a read
+abbrev pub begins : Bool → ℕ → Single
+begins true frame = beginWrite frame
+begins false frame = beginRead frame
+
+-- a call that moves a word at an offset, of a transfer that has this mark: what it tests of its own
+pub record MovesWord (b : Board) (st : State) (call : Single) (frame offset mark : ℕ) : Type 0 where
+  pub no-buffer : bufferRight b call ≡ true
+  pub tests : ownCauses b st call ≡ frameCause b frame ∷ offsetCause (b .page) offset ∷ wordCause (st .tables .records) frame mark ∷ []
 
 -- the number of a plan that is a refusal, else 0
 abbrev pub refusalOf : Plan → ℕ

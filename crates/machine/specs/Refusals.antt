@@ -5,12 +5,15 @@ use Prim.Native.Nat.{ℕ}
 use lib.Dec.{eqb, leb}
 use lib.ListN.{length}
 use Rattle.board.specs.declared.Board.{Board}
-use Rattle.board.specs.Board.{memoryWords, cacheWords, lines}
-use Rattle.manager.specs.Refusals.{Cause, _if_, spaceCause, frameCause, partCause, unmappedCause, readOnlyCause, mappingCauses}
+use Rattle.board.specs.Board.{memoryWords, cacheWords, lines, colourOf}
+use Rattle.page_model.specs.Busy.{reading, writing}
+use Rattle.page_model.specs.Table as table
+use Rattle.mapping.specs.Lookup.{listedMapping}
+use Rattle.manager.specs.Refusals.{Cause, _if_, spaceCause, frameCause, offsetCause, partCause, unmappedCause, readOnlyCause, busyCause, wordCause, endCause, mappingCauses}
 use Rattle.manager.specs.Tables.{lengthsRight, rulesKept}
 use Rattle.cache.specs.Store.{Store}
 use Rattle.cache.specs.Tag.{tagsKeepRules}
-use Rattle.machine.specs.State.{State, Single, map, unmap, read, write, deviceRead, deviceWrite, deviceWritePart, evict}
+use Rattle.machine.specs.State.{State, Single, map, unmap, read, write, deviceRead, deviceWrite, deviceWritePart, evict, beginRead, beginWrite, bringWord, takeWord, endTransfer}
 
 -- memory, cache words and tags have their lengths
 unfoldable pub storeLengths : Board → Store → Bool
@@ -26,6 +29,11 @@ bufferRight b (deviceRead frame buffer) = eqb (length buffer) (b .page)
 bufferRight b (deviceWrite frame buffer) = eqb (length buffer) (b .page)
 bufferRight b (deviceWritePart frame first number buffer) = eqb (length buffer) number
 bufferRight b (evict line) = true
+bufferRight b (beginRead frame) = true
+bufferRight b (beginWrite frame) = true
+bufferRight b (bringWord frame offset word) = true
+bufferRight b (takeWord frame offset) = true
+bufferRight b (endTransfer frame) = true
 
 -- what each tests of all that it is lent
 unfoldable pub lentCauses : Board → State → Single → List Cause
@@ -35,11 +43,11 @@ lentCauses b st call =
     ∷ (2 if not (rulesKept b (st .tables) && tagsKeepRules b (st .store .tags)))
     ∷ []
 
--- an offset in a page, or a line, past its limit
-abbrev pub offsetCause : ℕ → ℕ → Cause
-offsetCause limit offset = 6 if leb limit offset
+-- the mark of a page's frame bars this step
+abbrev pub pageBusy : State → ℕ → ℕ → table.Step → Cause
+pageBusy st space page s = busyCause (st .tables .records) (listedMapping (st .tables .list) space page .frame) s
 
--- and of its own numbers
+-- and of its own numbers, and of the frame's mark
 unfoldable pub ownCauses : Board → State → Single → List Cause
 ownCauses b st (map space page frame rights) = mappingCauses b (st .tables .list) space page frame rights
 ownCauses b st (unmap space page) = spaceCause space page ∷ unmappedCause (st .tables .list) space page ∷ []
@@ -47,17 +55,36 @@ ownCauses b st (read space page offset) =
     spaceCause space page
     ∷ offsetCause (b .page) offset
     ∷ unmappedCause (st .tables .list) space page
+    ∷ pageBusy st space page (table.read (colourOf b page))
     ∷ []
 ownCauses b st (write space page offset word) =
     spaceCause space page
     ∷ offsetCause (b .page) offset
     ∷ unmappedCause (st .tables .list) space page
     ∷ readOnlyCause (st .tables .list) space page
+    ∷ pageBusy st space page (table.write (colourOf b page))
     ∷ []
-ownCauses b st (deviceRead frame buffer) = frameCause b frame ∷ []
-ownCauses b st (deviceWrite frame buffer) = frameCause b frame ∷ []
-ownCauses b st (deviceWritePart frame first number buffer) = frameCause b frame ∷ partCause b first number ∷ []
+ownCauses b st (deviceRead frame buffer) = frameCause b frame ∷ busyCause (st .tables .records) frame table.deviceRead ∷ []
+ownCauses b st (deviceWrite frame buffer) = frameCause b frame ∷ busyCause (st .tables .records) frame table.deviceWrite ∷ []
+ownCauses b st (deviceWritePart frame first number buffer) =
+    frameCause b frame
+    ∷ partCause b first number
+    ∷ busyCause (st .tables .records) frame table.deviceWritePart
+    ∷ []
 ownCauses b st (evict line) = offsetCause (lines b) line ∷ []
+ownCauses b st (beginRead frame) = frameCause b frame ∷ busyCause (st .tables .records) frame table.beginRead ∷ []
+ownCauses b st (beginWrite frame) = frameCause b frame ∷ busyCause (st .tables .records) frame table.beginWrite ∷ []
+ownCauses b st (bringWord frame offset word) =
+    frameCause b frame
+    ∷ offsetCause (b .page) offset
+    ∷ wordCause (st .tables .records) frame writing
+    ∷ []
+ownCauses b st (takeWord frame offset) =
+    frameCause b frame
+    ∷ offsetCause (b .page) offset
+    ∷ wordCause (st .tables .records) frame reading
+    ∷ []
+ownCauses b st (endTransfer frame) = frameCause b frame ∷ endCause (st .tables .records) frame ∷ []
 
 unfoldable pub causes : Board → State → Single → List Cause
 unfolding lentCauses ownCauses

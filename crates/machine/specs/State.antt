@@ -35,6 +35,11 @@ pub data Single : Type 0 where
   deviceWritePart : ℕ → ℕ → ℕ → List ℕ → Single
   -- line
   evict : ℕ → Single
+  -- request N6, a transfer that takes a while: frame
+  beginRead beginWrite endTransfer : ℕ → Single
+  -- frame, offset; the word that a device brings
+  bringWord : ℕ → ℕ → ℕ → Single
+  takeWord : ℕ → ℕ → Single
 
 -- A call is a single one, or a list of mappings (request N1).
 pub data Call : Type 0 where
@@ -42,7 +47,7 @@ pub data Call : Type 0 where
   -- the items, and the list of answers as it is lent
   mapAll : List Mapping → List ℕ → Call
 
--- The refusal or the orders, the word of a processor's read, and what the call leaves in the buffer that it is lent for a device or for answers.
+-- The refusal or the orders, the word that a processor reads or a device takes, and what the call leaves in the buffer that it is lent for a device or for answers.
 pub record Answer : Type 0 where
   pub outcome : Outcome
   pub word : Option ℕ
@@ -62,3 +67,8 @@ lentBuffer (deviceRead frame buffer) = buffer
 lentBuffer (deviceWrite frame buffer) = []
 lentBuffer (deviceWritePart frame first number buffer) = []
 lentBuffer (evict line) = []
+lentBuffer (beginRead frame) = []
+lentBuffer (beginWrite frame) = []
+lentBuffer (bringWord frame offset word) = []
+lentBuffer (takeWord frame offset) = []
+lentBuffer (endTransfer frame) = []

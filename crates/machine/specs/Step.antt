@@ -10,12 +10,12 @@ use Rattle.mapping.specs.Lookup.{lookup, placeOf, listedMapping, placeFor}
 use Rattle.manager.specs.declared.Change.{Change}
 use Rattle.manager.specs.Answers as operation
 use Rattle.manager.specs.Answers.{Outcome, refused, accepted, FrameOperation, firstOperation, secondOperation}
-use Rattle.manager.specs.Calls.{noOps, changeOf, writeStep, commitChange, commitMap, commitUnmap}
+use Rattle.manager.specs.Calls.{noOps, changeOf, writeStep, commitChange, commitMap, commitUnmap, endedTables}
 use Rattle.manager.specs.Refusals.{firstRefusal}
 use Rattle.manager.specs.Tables.{Tables, refill}
 use Rattle.cache.specs.Cache as hardware
-use Rattle.cache.specs.Store.{Store}
-use Rattle.machine.specs.State.{State, state, Single, map, unmap, read, write, deviceRead, deviceWrite, deviceWritePart, evict, Answer, Result, lentBuffer}
+use Rattle.cache.specs.Store.{Store, memoryWord}
+use Rattle.machine.specs.State.{State, state, Single, map, unmap, read, write, deviceRead, deviceWrite, deviceWritePart, evict, beginRead, beginWrite, bringWord, takeWord, endTransfer, Answer, Result, lentBuffer}
 use Rattle.machine.specs.Refusals.{causes}
 
 -- ---- the orders
@@ -40,9 +40,12 @@ result a st = record { answer = a; after = st }
 
 -- ---- accepted calls
 
--- no order, no word
+-- no order, and a word or none
+abbrev pub plain : Option ℕ → Tables → Store → Result
+plain word t s = result (answer (accepted 0 noOps) word []) (state t s)
+
 abbrev pub listed : Tables → Store → Result
-listed t s = result (answer (accepted 0 noOps) none []) (state t s)
+listed t s = plain none t s
 
 -- a step of a frame's record: the tables are the manager's, and the access is made in the store after the orders
 abbrev pub stepped : Board → State → Change → (Store → Option ℕ) → (Store → List ℕ) → (Store → Store) → Result
@@ -74,6 +77,11 @@ accept b st (deviceWrite frame buffer) =
 accept b st (deviceWritePart frame first number buffer) =
     stepped b st (changeOf b (st .tables) frame (writeStep b number)) (λ s. none) (λ s. []) (hardware.deviceWrite b frame first buffer)
 accept b st (evict line) = listed (refill b (st .tables)) (hardware.evict b line (st .store))
+accept b st (beginRead frame) = stepped b st (changeOf b (st .tables) frame table.beginRead) (λ s. none) (λ s. []) (λ s. s)
+accept b st (beginWrite frame) = stepped b st (changeOf b (st .tables) frame table.beginWrite) (λ s. none) (λ s. []) (λ s. s)
+accept b st (bringWord frame offset word) = listed (refill b (st .tables)) (hardware.bringWord b frame offset word (st .store))
+accept b st (takeWord frame offset) = plain (some (memoryWord b (st .store) frame offset)) (refill b (st .tables)) (st .store)
+accept b st (endTransfer frame) = listed (endedTables b (st .tables) frame) (st .store)
 
 -- ---- a single call
 

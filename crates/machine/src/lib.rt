@@ -12,7 +12,7 @@ ghost use Rattle.machine.specs.State.{machineOf};
 ghost use Rattle.machine.specs.Step.{answer, result, step};
 ghost use Rattle.machine.specs.Call.{perform};
 ghost use Rattle.mapping.specs.Batch.{itemsOf};
-ghost use Rattle.machine.specs.Plans.{loaded, refusalOf, placeRefusal};
+ghost use Rattle.machine.specs.Plans.{loaded, refusalOf, placeRefusal, begins};
 use board::BOARD01;
 use manager::Answer;
 use manager::FrameOps;
@@ -22,6 +22,7 @@ use manager::Plan;
 use mapping::Batch;
 use mapping::Mapping;
 use mapping::MappingList;
+use page_model::busy;
 
 // The colours of the board, as a number by itself: see the manager's.
 const COLOURS: usize = BOARD01.colours;
@@ -368,6 +369,201 @@ pub fn evict(
     manager::records::refill(COLOURS, list, records, protections);
     cache::line::evict(BOARD01, memory, words, tags, line);
     manager::no_operations()
+}
+
+// A device begins to read a frame, word by word.
+pub fn begin_read(
+    list: MappingList,
+    records: &mut [u32],
+    protections: &mut [u8],
+    memory: &mut [u32],
+    words: &[u32],
+    tags: &mut [u8],
+    frame: u8,
+) -> Answer
+    ensures { λ r. ⌜ result (answer (outcome r) none [])
+        (machineOf list (now (records .exit)) (now (protections .exit)) (now (memory .exit)) (now (words .entry)) (now (tags .exit)))
+        ≡ step board01
+        (machineOf list (now (records .entry)) (now (protections .entry)) (now (memory .entry)) (now (words .entry)) (now (tags .entry)))
+        (call.beginRead frame) ⌝ }
+{
+    begin(
+        list,
+        records,
+        protections,
+        memory,
+        words,
+        tags,
+        frame,
+        false,
+    )
+}
+
+// A device begins to write a frame, word by word.
+pub fn begin_write(
+    list: MappingList,
+    records: &mut [u32],
+    protections: &mut [u8],
+    memory: &mut [u32],
+    words: &[u32],
+    tags: &mut [u8],
+    frame: u8,
+) -> Answer
+    ensures { λ r. ⌜ result (answer (outcome r) none [])
+        (machineOf list (now (records .exit)) (now (protections .exit)) (now (memory .exit)) (now (words .entry)) (now (tags .exit)))
+        ≡ step board01
+        (machineOf list (now (records .entry)) (now (protections .entry)) (now (memory .entry)) (now (words .entry)) (now (tags .entry)))
+        (call.beginWrite frame) ⌝ }
+{
+    begin(list, records, protections, memory, words, tags, frame, true)
+}
+
+// A device that writes a frame brings a word to an offset of it.
+pub fn bring_word(
+    list: MappingList,
+    records: &[u32],
+    protections: &mut [u8],
+    memory: &mut [u32],
+    words: &[u32],
+    tags: &[u8],
+    frame: u8,
+    offset: usize,
+    word: u32,
+) -> Answer
+    ensures { λ r. ⌜ result (answer (outcome r) none [])
+        (machineOf list (now (records .entry)) (now (protections .exit)) (now (memory .exit)) (now (words .entry)) (now (tags .entry)))
+        ≡ step board01
+        (machineOf list (now (records .entry)) (now (protections .entry)) (now (memory .entry)) (now (words .entry)) (now (tags .entry)))
+        (call.bringWord frame offset word) ⌝ }
+{
+    let refusal = plans::word_refusal(
+        BOARD01,
+        list,
+        records,
+        protections,
+        memory,
+        words,
+        tags,
+        frame,
+        offset,
+        busy::WRITING,
+    );
+    if refusal != 0 {
+        return Answer::Refused(refusal);
+    }
+    manager::records::refill(COLOURS, list, records, protections);
+    cache::device::bring_word(BOARD01, memory, frame as usize, offset, word);
+    manager::no_operations()
+}
+
+// A device that reads a frame takes the word at an offset of it.
+pub fn take_word(
+    list: MappingList,
+    records: &[u32],
+    protections: &mut [u8],
+    memory: &[u32],
+    words: &[u32],
+    tags: &[u8],
+    frame: u8,
+    offset: usize,
+) -> Loaded
+    ensures { λ r. ⌜ result (loaded r)
+        (machineOf list (now (records .entry)) (now (protections .exit)) (now (memory .entry)) (now (words .entry)) (now (tags .entry)))
+        ≡ step board01
+        (machineOf list (now (records .entry)) (now (protections .entry)) (now (memory .entry)) (now (words .entry)) (now (tags .entry)))
+        (call.takeWord frame offset) ⌝ }
+{
+    let refusal = plans::word_refusal(
+        BOARD01,
+        list,
+        records,
+        protections,
+        memory,
+        words,
+        tags,
+        frame,
+        offset,
+        busy::READING,
+    );
+    if refusal != 0 {
+        return Loaded::Refused(refusal);
+    }
+    manager::records::refill(COLOURS, list, records, protections);
+    let word = cache::device::take_word(BOARD01, memory, frame as usize, offset);
+    Loaded::Word(manager::nothing(), word)
+}
+
+// A device ends its transfer.
+pub fn end_transfer(
+    list: MappingList,
+    records: &mut [u32],
+    protections: &mut [u8],
+    memory: &[u32],
+    words: &[u32],
+    tags: &[u8],
+    frame: u8,
+) -> Answer
+    ensures { λ r. ⌜ result (answer (outcome r) none [])
+        (machineOf list (now (records .exit)) (now (protections .exit)) (now (memory .entry)) (now (words .entry)) (now (tags .entry)))
+        ≡ step board01
+        (machineOf list (now (records .entry)) (now (protections .entry)) (now (memory .entry)) (now (words .entry)) (now (tags .entry)))
+        (call.endTransfer frame) ⌝ }
+{
+    let refusal = plans::end_refusal(
+        BOARD01,
+        list,
+        records,
+        protections,
+        memory,
+        words,
+        tags,
+        frame,
+    );
+    if refusal != 0 {
+        return Answer::Refused(refusal);
+    }
+    let next = manager::records::record_at(records, frame).end();
+    manager::commit_change(COLOURS, list, records, protections, frame, next);
+    manager::no_operations()
+}
+
+// A device begins a transfer, a write or a read.
+fn begin(
+    list: MappingList,
+    records: &mut [u32],
+    protections: &mut [u8],
+    memory: &mut [u32],
+    words: &[u32],
+    tags: &mut [u8],
+    frame: u8,
+    writes: bool,
+) -> Answer
+    ensures { λ r. ⌜ result (answer (outcome r) none [])
+        (machineOf list (now (records .exit)) (now (protections .exit)) (now (memory .exit)) (now (words .entry)) (now (tags .exit)))
+        ≡ step board01
+        (machineOf list (now (records .entry)) (now (protections .entry)) (now (memory .entry)) (now (words .entry)) (now (tags .entry)))
+        (begins writes frame) ⌝ }
+{
+    let plan = plans::plan_begin(
+        BOARD01,
+        list,
+        records,
+        protections,
+        memory,
+        words,
+        tags,
+        frame,
+        writes,
+    );
+    let Plan::Step(change) = plan else {
+        return Answer::Refused(refusal_of(plan));
+    };
+    let frame = change.frame;
+    let next = change.next;
+    let ops = change.ops;
+    manager::commit_change(COLOURS, list, records, protections, frame, next);
+    operations::carry_out(BOARD01, memory, words, tags, frame as usize, ops);
+    Answer::Accepted(FrameOps { frame, ops })
 }
 
 // The number of a plan that is a refusal, else 0.

@@ -6,14 +6,14 @@ ghost use lib.ListN.{length};
 ghost use Rattle.board.specs.Board.{Regular, colourOf};
 ghost use Rattle.page_model.specs.Table as step;
 ghost use Rattle.mapping.specs.Lookup.{lookup, placeOf, listedMapping, placeFor};
-ghost use Rattle.manager.specs.Calls.{changeOf, writeStep};
+ghost use Rattle.manager.specs.Calls.{changeOf, writeStep, beginStep};
 ghost use Rattle.manager.specs.Tables.{tables};
 ghost use Rattle.manager.specs.Refusals.{firstRefusal, tableCauses};
 ghost use Rattle.cache.specs.Store.{store};
 ghost use Rattle.machine.specs.Refusals.{causes};
 ghost use Rattle.machine.specs.State as call;
 ghost use Rattle.machine.specs.State.{machineOf};
-ghost use Rattle.machine.specs.Plans.{planStep, planPlace, storeCauses, accessCauses, earlier, withStep, withPlace};
+ghost use Rattle.machine.specs.Plans.{planStep, planPlace, storeCauses, accessCauses, earlier, withStep, withPlace, begins, MovesWord};
 use board::Board;
 use manager::ListPlan;
 use manager::Plan;
@@ -166,6 +166,84 @@ pub fn plan_device_write_part(
         number,
     );
     with_step(own, plan)
+}
+
+// What `begin_write` or `begin_read` would do.
+pub fn plan_begin(
+    board: Board,
+    list: MappingList,
+    records: &[u32],
+    protections: &[u8],
+    memory: &[u32],
+    words: &[u32],
+    tags: &[u8],
+    frame: u8,
+    writes: bool,
+) -> Plan
+    requires { ⌜ Regular board ⌝ }
+    ensures { λ r. ⌜ r ≡ planStep board
+        (machineOf list (now (records .entry)) (now (protections .entry)) (now (memory .entry)) (now (words .entry)) (now (tags .entry)))
+        (begins writes frame)
+        (changeOf board (tables list (now (records .entry)) (now (protections .entry))) frame (beginStep writes)) ⌝ }
+{
+    let own = store_refusal(board, memory, words, tags);
+    let plan = manager::plan_begin(board, list, records, protections, frame, writes);
+    with_step(own, plan)
+}
+
+// The refusal of a word at an offset of a transfer that has this mark, or 0.
+pub fn word_refusal(
+    board: Board,
+    list: MappingList,
+    records: &[u32],
+    protections: &[u8],
+    memory: &[u32],
+    words: &[u32],
+    tags: &[u8],
+    frame: u8,
+    offset: usize,
+    mark: u32,
+) -> u8
+    requires { ⌜ Regular board ⌝ }
+    ensures { λ r. ⌜ ((moves : call.Single)
+        → MovesWord board (machineOf list (now (records .entry)) (now (protections .entry)) (now (memory .entry)) (now (words .entry)) (now (tags .entry))) moves frame offset mark
+        → r ≡ firstRefusal (causes board
+        (machineOf list (now (records .entry)) (now (protections .entry)) (now (memory .entry)) (now (words .entry)) (now (tags .entry))) moves)) ⌝ }
+{
+    let own = store_refusal(board, memory, words, tags);
+    let kept = mapping::keeps_rules(board, list);
+    let managers = manager::refusals::word_refusal(
+        board,
+        kept,
+        records,
+        protections,
+        frame,
+        offset,
+        mark,
+    );
+    earlier(own, managers)
+}
+
+// The refusal of `end_transfer`, or 0.
+pub fn end_refusal(
+    board: Board,
+    list: MappingList,
+    records: &[u32],
+    protections: &[u8],
+    memory: &[u32],
+    words: &[u32],
+    tags: &[u8],
+    frame: u8,
+) -> u8
+    requires { ⌜ Regular board ⌝ }
+    ensures { λ r. ⌜ r ≡ firstRefusal (causes board
+        (machineOf list (now (records .entry)) (now (protections .entry)) (now (memory .entry)) (now (words .entry)) (now (tags .entry)))
+        (call.endTransfer frame)) ⌝ }
+{
+    let own = store_refusal(board, memory, words, tags);
+    let kept = mapping::keeps_rules(board, list);
+    let managers = manager::refusals::end_refusal(board, kept, records, protections, frame);
+    earlier(own, managers)
 }
 
 // The refusal of `evict`, or 0.

@@ -21,7 +21,7 @@ use Rattle.mapping.specs.Look.{find, look}
 use Rattle.mapping.specs.Lookup.{lookup, found, isMapped, placeOf, listedMapping, placeFor}
 use Rattle.mapping.specs.Rules as list-of
 use Rattle.mapping.proofs.Laws.{keepsRules-true, lookup-at, found-place, look-kept, look-broken}
-use Rattle.manager.specs.Refusals.{Cause, firstRefusal, tableCauses, pageCauses, writeCauses, frameCause, toldTables, toldMapping, toldPage, outOfSpace, isRight}
+use Rattle.manager.specs.Refusals.{Cause, firstRefusal, tableCauses, pageCauses, frameCause, toldTables, toldMapping, toldPage, outOfSpace, isRight}
 use Rattle.manager.specs.Tables.{Tables, tables, recordWords, recordAt, recordsKeepRules, lengthsRight, rulesKept}
 
 -- ---- the lent tables
@@ -192,20 +192,12 @@ told-own b l rs ps own long e = rw (eq-eqb _ _ long, e)
 -- ---- an accepted step: the record that it is made of keeps the rules
 
 module _ (b : Board) (t : Tables) (space page : ℕ) where
-  -- the causes that a write shares with a read
-  page-rules′ : not (rulesKept b t) ≡ false → not (isMapped (t .list) space page) ≡ false
-      → record-of.keepsRules (b .colours) (recordAt (t .records) (listedMapping (t .list) space page .frame)) ≡ true
-  page-rules′ r m = mapped-rules b t (not-false _ r) space page (not-false _ m)
-
-  pub page-rules : firstRefusal (pageCauses b t space page) ≡ 0
+  pub page-rules : (rest : List Cause) → numbered rest ≡ true → firstRefusal (pageCauses b t space page ++ rest) ≡ 0
       → record-of.keepsRules (b .colours) (recordAt (t .records) (listedMapping (t .list) space page .frame)) ≡ true
   unfolding pageCauses
-  page-rules e = let n = none-applies (pageCauses b t space page) refl e in page-rules′ (n .1 .0) (n .1 .1 .1 .0)
-
-  pub write-rules : firstRefusal (writeCauses b t space page) ≡ 0
-      → record-of.keepsRules (b .colours) (recordAt (t .records) (listedMapping (t .list) space page .frame)) ≡ true
-  unfolding writeCauses
-  write-rules e = let n = none-applies (writeCauses b t space page) refl e in page-rules′ (n .1 .0) (n .1 .1 .1 .0)
+  page-rules rest z e =
+      let n = none-applies (pageCauses b t space page ++ rest) z e in
+      mapped-rules b t (not-false _ (n .1 .0)) space page (not-false _ (n .1 .1 .1 .0))
 
 pub transfer-rules : (b : Board) (t : Tables) (f : ℕ) (rest : List Cause) → numbered rest ≡ true → firstRefusal (tableCauses b t ++ frameCause b f ∷ rest) ≡ 0
     → record-of.keepsRules (b .colours) (recordAt (t .records) f) ≡ true

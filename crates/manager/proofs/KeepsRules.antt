@@ -1,12 +1,15 @@
--- What an accepted call leaves keeps the tables' rules: a mapping listed or taken off, and a frame's record after a step.
+-- What an accepted call leaves keeps the tables' rules: a mapping listed or taken off, and a frame's record after a step or the end of a transfer.
 use mathlib.Core.Path.{_≡_, _∙_}
-use mathlib.Core.Bool.{true}
+use mathlib.Core.Bool.{true, false}
 use Prim.Native.Nat.{ℕ, _*_, _<_}
 use lib.ListN.{length}
 use Rattle.board.specs.declared.Board.{Board}
+use Rattle.page_model.specs.declared.FrameRecord.{FrameRecord}
+use Rattle.page_model.specs.Busy.{bars}
+use Rattle.page_model.specs.Record.{keepsRules}
 use Rattle.page_model.specs.Step.{stepped}
 use Rattle.page_model.specs.Table as step
-use Rattle.page_model.proofs.Theorems.{step-keeps-rules}
+use Rattle.page_model.proofs.Theorems.{step-keeps-rules, ended-record}
 use Rattle.mapping.specs.declared.Found.the-variants.{Nothing}
 use Rattle.mapping.specs.declared.Mapping.{Mapping}
 use Rattle.mapping.specs.Change.{insert, remove}
@@ -14,7 +17,7 @@ use Rattle.mapping.specs.Entry.{capacity}
 use Rattle.mapping.specs.Facts.{InRange, Rules}
 use Rattle.mapping.specs.Lookup.{lookup, isMapped, placeOf, listedMapping, placeFor}
 use Rattle.mapping.proofs.Laws.{rules-keepsRules, inserted-length, inserted-rules, remove-length, remove-rules}
-use Rattle.manager.specs.Calls.{commitMap, commitUnmap, commitChange}
+use Rattle.manager.specs.Calls.{commitMap, commitUnmap, commitChange, endedTables}
 use Rattle.manager.specs.Tables.{Tables, tables, recordWords, recordAt, putRecord, recordsKeepRules, refill}
 use Rattle.manager.specs.Theorems.{WellFormed}
 use Rattle.manager.proofs.CauseLaws.{lengths-right, rules-kept, list-rules, record-rules, mapped-found, mapped-range}
@@ -32,17 +35,27 @@ refill-keeps b t l r p rules kept =
 -- ---- what an accepted call leaves
 
 module _ (b : Board) (t : Tables) (w : WellFormed b t) where
-  pub step-keeps : (f : ℕ) (s : step.Step) → f < b .frames → WellFormed b (commitChange b t f (stepped (b .colours) s (recordAt (t .records) f) .next))
-  step-keeps f s h =
+  -- a record that keeps the rules in the place of a frame's
+  commit-keeps : (f : ℕ) (next : FrameRecord) → f < b .frames → keepsRules (b .colours) next ≡ true → WellFormed b (commitChange b t f next)
+  commit-keeps f next h kept =
       let n = lengths-known b t (w .0) in
-      refill-keeps b (tables (t .list) (putRecord (t .records) f (stepped (b .colours) s (recordAt (t .records) f) .next)) (t .protections))
-      (n .0) (length-putRecord _ _ _ ∙ n .1) (n .2) (list-rules b t (w .1))
-      (putRecord-rules b _ f _ (n .1) h (records-rules b t (w .1)) (step-keeps-rules (b .colours) s _ (record-rules b t (w .1) f h)))
+      refill-keeps b (tables (t .list) (putRecord (t .records) f next) (t .protections)) (n .0) (length-putRecord _ _ _ ∙ n .1) (n .2) (list-rules b t (w .1))
+      (putRecord-rules b _ f next (n .1) h (records-rules b t (w .1)) kept)
+
+  -- a step that the frame's mark does not bar
+  pub step-keeps : (f : ℕ) (s : step.Step) → f < b .frames → bars (recordAt (t .records) f .busy) s ≡ false
+      → WellFormed b (commitChange b t f (stepped (b .colours) s (recordAt (t .records) f) .next))
+  step-keeps f s h free = commit-keeps f _ h (step-keeps-rules (b .colours) s _ (record-rules b t (w .1) f h) free)
 
   -- a step through a page that is mapped
   pub page-keeps : (space page : ℕ) (s : step.Step) → isMapped (t .list) space page ≡ true
+      → bars (recordAt (t .records) (listedMapping (t .list) space page .frame) .busy) s ≡ false
       → WellFormed b (commitChange b t (listedMapping (t .list) space page .frame) (stepped (b .colours) s (recordAt (t .records) (listedMapping (t .list) space page .frame)) .next))
   page-keeps space page s m = step-keeps _ s (mapped-range b t (w .1) space page m .frame-lt)
+
+  -- the end of a transfer
+  pub end-keeps : (f : ℕ) → f < b .frames → WellFormed b (endedTables b t f)
+  end-keeps f h = commit-keeps f _ h (ended-record (b .colours) _ (record-rules b t (w .1) f h) .0)
 
   pub map-keeps : (m : Mapping) → InRange b m → lookup (t .list) (m .space) (m .page) ≡ Nothing → t .list .count < capacity → WellFormed b (commitMap b t (placeFor (t .list) (m .space) (m .page)) m)
   map-keeps m range fresh room =

@@ -18,10 +18,8 @@ use Rattle.page_model.specs.Record.{stateOf, isHeld, isDirty}
 use Rattle.page_model.specs.Table.{ColourState, empty, present, dirty, stale}
 use Rattle.mapping.specs.declared.Mapping.{Mapping}
 use Rattle.mapping.specs.Entry.{readWrite}
-use Rattle.manager.specs.declared.Change.{Change}
-use Rattle.manager.specs.declared.Plan.the-variants as step-plan
 use Rattle.manager.specs.declared.ListPlan.the-variants as list-plan
-use Rattle.manager.specs.Calls.{planned, placed}
+use Rattle.manager.specs.Calls.{placed}
 use Rattle.manager.specs.Tables.{recordAt, protection, mappingState, tabulate}
 
 -- ---- f at each place below n
@@ -70,13 +68,9 @@ pub state-at : (b : Board) (rs : List ℕ) (m : Mapping) {r : FrameRecord} {k : 
 unfolding mappingState
 state-at b rs m er ek = ap₂ stateOf er ek
 
--- ---- plans
+-- ---- plans of the list
 
 -- a refusal's number is not 0
-pub planned-refused : (n : ℕ) (change : Change) → (n ≡ 0 → ⊥) → step-plan.Refused n ≡ planned n change
-planned-refused zero change h = absurd (h refl)
-planned-refused (suc n) change h = refl
-
 pub placed-refused : (n place : ℕ) → (n ≡ 0 → ⊥) → list-plan.Refused n ≡ placed n place
 placed-refused zero place h = absurd (h refl)
 placed-refused (suc n) place h = refl

@@ -4,6 +4,7 @@ pub mod BatchLaws
 pub mod Singly
 pub mod Parts
 pub mod CauseLaws
+pub mod PlanLaws
 pub mod RecordLaws
 pub mod AcceptedLaws
 pub mod KeepsRules

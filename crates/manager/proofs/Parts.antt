@@ -6,7 +6,7 @@ use native.Mathlib.Omega.{arith}
 use borrow.Author.Tests.{ne-eqb, le-ltb}
 use Rattle.board.specs.declared.Board.{Board}
 use Rattle.page_model.specs.Table.{Step, deviceWrite, deviceWritePart}
-use Rattle.manager.specs.Calls.{changeOf, planned, planDeviceWrite, writeStep, planDeviceWritePart}
+use Rattle.manager.specs.Calls.{changeOf, planned, planTransfer, writeStep, planDeviceWritePart}
 use Rattle.manager.specs.Refusals.{firstRefusal, outOfPage, transferCauses, partCauses}
 use Rattle.manager.specs.Tables.{Tables}
 
@@ -17,9 +17,9 @@ module _ (b : Board) (some : 0 < b .page) where
   pub whole-step : writeStep b (b .page) ≡ deviceWrite
   whole-step = ap (λ (t : Bool). cond t deviceWritePart deviceWrite) (le-ltb (b .page) (b .page) (omega arith))
 
-  whole-refusal : (t : Tables) (frame : ℕ) → firstRefusal (partCauses b t frame 0 (b .page)) ≡ firstRefusal (transferCauses b t frame)
+  whole-refusal : (t : Tables) (frame : ℕ) → firstRefusal (partCauses b t frame 0 (b .page)) ≡ firstRefusal (transferCauses b t frame deviceWrite)
   unfolding firstRefusal partCauses transferCauses
   whole-refusal t frame = rw whole-inside
 
-  pub whole-plan : (t : Tables) (frame : ℕ) → planDeviceWritePart b t frame 0 (b .page) ≡ planDeviceWrite b t frame
+  pub whole-plan : (t : Tables) (frame : ℕ) → planDeviceWritePart b t frame 0 (b .page) ≡ planTransfer b t frame deviceWrite
   whole-plan t frame = ap₂ (λ (n : ℕ) (s : Step). planned n (changeOf b t frame s)) (whole-refusal t frame) whole-step

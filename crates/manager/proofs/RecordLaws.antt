@@ -20,29 +20,40 @@ module _ (rs : List ℕ) (f : ℕ) (r : FrameRecord) where
   unfolding putRecord
   length-putRecord = simp length-set
 
-  pub recordAt-putRecord-same : f * recordWords + 2 < length rs → recordAt (putRecord rs f r) f ≡ r
+  pub recordAt-putRecord-same : f * recordWords + 3 < length rs → recordAt (putRecord rs f r) f ≡ r
   unfolding recordAt putRecord
   recordAt-putRecord-same h =
       let a = f * recordWords in
       let one = set rs a (r .held) in
       let two = set one (a + 1) (r .stale) in
-      let held = getD-set-other two (a + 2) a (r .dirty) 0 (omega arith) ∙ getD-set-other one (a + 1) a (r .stale) 0 (omega arith) ∙ getD-set-same rs a (r .held) 0 (omega arith) in
-      let stale = getD-set-other two (a + 2) (a + 1) (r .dirty) 0 (omega arith) ∙ getD-set-same one (a + 1) (r .stale) 0 (simp length-set (omega arith)) in
-      let dirty = getD-set-same two (a + 2) (r .dirty) 0 (simp length-set (omega arith)) in
-      rw (held, stale, dirty)
+      let three = set two (a + 2) (r .dirty) in
+      let held =
+      getD-set-other three (a + 3) a (r .busy) 0 (omega arith)
+      ∙ getD-set-other two (a + 2) a (r .dirty) 0 (omega arith)
+      ∙ getD-set-other one (a + 1) a (r .stale) 0 (omega arith)
+      ∙ getD-set-same rs a (r .held) 0 (omega arith) in
+      let stale =
+      getD-set-other three (a + 3) (a + 1) (r .busy) 0 (omega arith)
+      ∙ getD-set-other two (a + 2) (a + 1) (r .dirty) 0 (omega arith)
+      ∙ getD-set-same one (a + 1) (r .stale) 0 (simp length-set (omega arith)) in
+      let dirty = getD-set-other three (a + 3) (a + 2) (r .busy) 0 (omega arith) ∙ getD-set-same two (a + 2) (r .dirty) 0 (simp length-set (omega arith)) in
+      let busy = getD-set-same three (a + 3) (r .busy) 0 (simp length-set (omega arith)) in
+      rw (held, stale, dirty, busy)
 
   -- a word that is none of the record's
-  word-other : (i : ℕ) → i ≢ f * recordWords → i ≢ f * recordWords + 1 → i ≢ f * recordWords + 2 → getD (putRecord rs f r) i 0 ≡ getD rs i 0
+  word-other : (i : ℕ) → i ≢ f * recordWords → i ≢ f * recordWords + 1 → i ≢ f * recordWords + 2 → i ≢ f * recordWords + 3
+      → getD (putRecord rs f r) i 0 ≡ getD rs i 0
   unfolding putRecord
-  word-other i h k l = rw (getD-set-other, getD-set-other, getD-set-other)
+  word-other i h k l m = rw (getD-set-other, getD-set-other, getD-set-other, getD-set-other)
 
   pub recordAt-putRecord-other : (g : ℕ) → g ≢ f → recordAt (putRecord rs f r) g ≡ recordAt rs g
   unfolding recordAt
   recordAt-putRecord-other g h =
-      let held = word-other (g * recordWords) (omega arith) (omega arith) (omega arith) in
-      let stale = word-other (g * recordWords + 1) (omega arith) (omega arith) (omega arith) in
-      let dirty = word-other (g * recordWords + 2) (omega arith) (omega arith) (omega arith) in
-      rw (held, stale, dirty)
+      let held = word-other (g * recordWords) (omega arith) (omega arith) (omega arith) (omega arith) in
+      let stale = word-other (g * recordWords + 1) (omega arith) (omega arith) (omega arith) (omega arith) in
+      let dirty = word-other (g * recordWords + 2) (omega arith) (omega arith) (omega arith) (omega arith) in
+      let busy = word-other (g * recordWords + 3) (omega arith) (omega arith) (omega arith) (omega arith) in
+      rw (held, stale, dirty, busy)
 
 -- records that keep the rules still do with one that keeps them in the place of another
 pub putRecord-rules : (b : Board) (rs : List ℕ) (f : ℕ) (r : FrameRecord) → length rs ≡ b .frames * recordWords → f < b .frames
@@ -61,4 +72,5 @@ recordAt-start frames f h =
     let held = getD-replicate {A = ℕ} (frames * recordWords) (f * recordWords) 0 0 (omega arith) in
     let stale = getD-replicate {A = ℕ} (frames * recordWords) (f * recordWords + 1) 0 0 (omega arith) in
     let dirty = getD-replicate {A = ℕ} (frames * recordWords) (f * recordWords + 2) 0 0 (omega arith) in
-    rw (held, stale, dirty)
+    let busy = getD-replicate {A = ℕ} (frames * recordWords) (f * recordWords + 3) 0 0 (omega arith) in
+    rw (held, stale, dirty, busy)

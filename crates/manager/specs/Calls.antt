@@ -1,5 +1,5 @@
 -- What each call plans, answers and leaves in the tables. A plan changes nothing; where it is no refusal, a commit carries it out.
-use mathlib.Core.Bool.{cond}
+use mathlib.Core.Bool.{Bool, cond}
 use Prim.Native.Nat.{ℕ, zero, suc}
 use lib.Dec.{ltb}
 use Rattle.board.specs.declared.Board.{Board}
@@ -8,7 +8,9 @@ use Rattle.page_model.specs.declared.FrameRecord.{FrameRecord}
 use Rattle.page_model.specs.declared.Op.the-variants.{None}
 use Rattle.page_model.specs.declared.Ops.{Ops}
 use Rattle.page_model.specs.Step.{stepped}
-use Rattle.page_model.specs.Table.{Step, read, write, deviceRead, deviceWrite, deviceWritePart}
+use Rattle.page_model.specs.Busy.{reading, writing}
+use Rattle.page_model.specs.Record.{ended}
+use Rattle.page_model.specs.Table.{Step, read, write, deviceRead, deviceWrite, deviceWritePart, beginRead, beginWrite}
 use Rattle.mapping.specs.declared.Mapping.{Mapping}
 use Rattle.mapping.specs.Change.{insertAt, remove}
 use Rattle.mapping.specs.Lookup.{lookup, placeOf, listedMapping, placeFor}
@@ -18,7 +20,7 @@ use Rattle.manager.specs.declared.Plan.the-variants as step-plan
 use Rattle.manager.specs.declared.ListPlan.{ListPlan}
 use Rattle.manager.specs.declared.ListPlan.the-variants as list-plan
 use Rattle.manager.specs.Answers.{Outcome, refused, accepted}
-use Rattle.manager.specs.Refusals.{firstRefusal, mapCauses, pageCauses, writeCauses, transferCauses, partCauses}
+use Rattle.manager.specs.Refusals.{firstRefusal, mapCauses, pageCauses, readCauses, writeCauses, transferCauses, partCauses, wordCauses, endCauses}
 use Rattle.manager.specs.Tables.{Tables, tables, recordAt, putRecord, refill}
 
 -- ---- steps of a frame's record
@@ -35,17 +37,15 @@ planned (suc n) change = step-plan.Refused (suc n)
 
 abbrev pub planRead : Board → Tables → ℕ → ℕ → Plan
 planRead b t space page =
-    planned (firstRefusal (pageCauses b t space page)) (changeOf b t (listedMapping (t .list) space page .frame) (read (colourOf b page)))
+    planned (firstRefusal (readCauses b t space page)) (changeOf b t (listedMapping (t .list) space page .frame) (read (colourOf b page)))
 
 abbrev pub planWrite : Board → Tables → ℕ → ℕ → Plan
 planWrite b t space page =
     planned (firstRefusal (writeCauses b t space page)) (changeOf b t (listedMapping (t .list) space page .frame) (write (colourOf b page)))
 
-abbrev pub planDeviceRead : Board → Tables → ℕ → Plan
-planDeviceRead b t frame = planned (firstRefusal (transferCauses b t frame)) (changeOf b t frame deviceRead)
-
-abbrev pub planDeviceWrite : Board → Tables → ℕ → Plan
-planDeviceWrite b t frame = planned (firstRefusal (transferCauses b t frame)) (changeOf b t frame deviceWrite)
+-- a transfer of a page, or the beginning of one
+abbrev pub planTransfer : Board → Tables → ℕ → Step → Plan
+planTransfer b t frame s = planned (firstRefusal (transferCauses b t frame s)) (changeOf b t frame s)
 
 -- the step of a device's write of so many words: fewer than a page has, or all of them
 abbrev pub writeStep : Board → ℕ → Step
@@ -53,6 +53,10 @@ writeStep b number = cond (ltb number (b .page)) deviceWritePart deviceWrite
 
 abbrev pub planDeviceWritePart : Board → Tables → ℕ → ℕ → ℕ → Plan
 planDeviceWritePart b t frame first number = planned (firstRefusal (partCauses b t frame first number)) (changeOf b t frame (writeStep b number))
+
+-- the step that begins a device's transfer, a write or a read
+abbrev pub beginStep : Bool → Step
+beginStep writes = cond writes beginWrite beginRead
 
 -- the tables with a frame's next record, and the protections that agree with it
 abbrev pub commitChange : Board → Tables → ℕ → FrameRecord → Tables
@@ -107,13 +111,41 @@ abbrev pub writeCall : Board → Tables → ℕ → ℕ → Result
 writeCall b t space page = stepResult b t (planWrite b t space page)
 
 abbrev pub deviceReadCall : Board → Tables → ℕ → Result
-deviceReadCall b t frame = stepResult b t (planDeviceRead b t frame)
+deviceReadCall b t frame = stepResult b t (planTransfer b t frame deviceRead)
 
 abbrev pub deviceWriteCall : Board → Tables → ℕ → Result
-deviceWriteCall b t frame = stepResult b t (planDeviceWrite b t frame)
+deviceWriteCall b t frame = stepResult b t (planTransfer b t frame deviceWrite)
 
 abbrev pub deviceWritePartCall : Board → Tables → ℕ → ℕ → ℕ → Result
 deviceWritePartCall b t frame first number = stepResult b t (planDeviceWritePart b t frame first number)
+
+abbrev pub beginReadCall : Board → Tables → ℕ → Result
+beginReadCall b t frame = stepResult b t (planTransfer b t frame beginRead)
+
+abbrev pub beginWriteCall : Board → Tables → ℕ → Result
+beginWriteCall b t frame = stepResult b t (planTransfer b t frame beginWrite)
+
+-- a call without orders: its refusal, or the tables after it
+abbrev pub plainResult : ℕ → Tables → Tables → Result
+plainResult zero t next = result (accepted 0 noOps) next
+plainResult (suc n) t next = result (refused (suc n)) t
+
+-- a word changes no record: the protections are filled, since every accepted call leaves them so
+abbrev pub wordCall : Board → Tables → ℕ → ℕ → ℕ → Result
+wordCall b t frame offset mark = plainResult (firstRefusal (wordCauses b t frame offset mark)) t (refill b t)
+
+abbrev pub bringWordCall : Board → Tables → ℕ → ℕ → Result
+bringWordCall b t frame offset = wordCall b t frame offset writing
+
+abbrev pub takeWordCall : Board → Tables → ℕ → ℕ → Result
+takeWordCall b t frame offset = wordCall b t frame offset reading
+
+-- the tables once a frame's transfer has ended
+abbrev pub endedTables : Board → Tables → ℕ → Tables
+endedTables b t frame = commitChange b t frame (ended (recordAt (t .records) frame))
+
+abbrev pub endTransferCall : Board → Tables → ℕ → Result
+endTransferCall b t frame = plainResult (firstRefusal (endCauses b t frame)) t (endedTables b t frame)
 
 abbrev pub mapCall : Board → Tables → ℕ → ℕ → ℕ → ℕ → Result
 mapCall b t space page frame rights =

@@ -5,13 +5,15 @@ use Prim.Native.Nat.{ℕ, suc, _+_, _*_}
 use lib.Dec.{eqb, leb, ltb}
 use lib.ListN.{length}
 use Rattle.board.specs.declared.Board.{Board}
-use Rattle.board.specs.Board.{spaces, pages}
+use Rattle.board.specs.Board.{spaces, pages, colourOf}
+use Rattle.page_model.specs.Busy.{free, bars}
+use Rattle.page_model.specs.Table.{Step, read, write, deviceWritePart}
 use Rattle.mapping.specs.declared.MappingList.{MappingList}
 use Rattle.mapping.specs.declared.Seen.{Seen}
 use Rattle.mapping.specs.Batch.{batchSize}
 use Rattle.mapping.specs.Entry.{capacity, readOnly, readWrite}
 use Rattle.mapping.specs.Lookup.{isMapped, listedMapping}
-use Rattle.manager.specs.Tables.{Tables, recordWords, recordsKeepRules, lengthsRight, rulesKept}
+use Rattle.manager.specs.Tables.{Tables, recordWords, recordAt, recordsKeepRules, lengthsRight, rulesKept}
 
 -- a refusal's number, and whether its condition holds
 pub record Cause : Type 0 where
@@ -31,7 +33,7 @@ firstRefusal (c ∷ rest) = cond (c .applies) (c .number) (firstRefusal rest)
 
 -- the numbers in the order in which document 01, with the requests, has them tested
 abbrev pub refusalOrder : List ℕ
-refusalOrder = 1 ∷ 12 ∷ 2 ∷ 3 ∷ 4 ∷ 5 ∷ 6 ∷ 13 ∷ 7 ∷ 8 ∷ 9 ∷ 10 ∷ []
+refusalOrder = 1 ∷ 12 ∷ 2 ∷ 3 ∷ 4 ∷ 5 ∷ 6 ∷ 13 ∷ 7 ∷ 8 ∷ 9 ∷ 10 ∷ 15 ∷ 16 ∷ []
 
 -- the first place of a number in a list, past its end where it is not listed
 unfoldable pub placeIn : List ℕ → ℕ → ℕ
@@ -72,6 +74,10 @@ frameCause b frame = 4 if leb (b .frames) frame
 abbrev pub rightsCause : ℕ → Cause
 rightsCause rights = 5 if not (isRight rights)
 
+-- an offset in a page, or a line, past its limit
+abbrev pub offsetCause : ℕ → ℕ → Cause
+offsetCause limit offset = 6 if leb limit offset
+
 abbrev pub partCause : Board → ℕ → ℕ → Cause
 partCause b first number = 13 if outOfPage b first number
 
@@ -86,6 +92,18 @@ fullCause l = 9 if eqb (l .count) capacity
 
 abbrev pub readOnlyCause : MappingList → ℕ → ℕ → Cause
 readOnlyCause l space page = 10 if eqb (listedMapping l space page .rights) readOnly
+
+-- request N6: the mark of the frame's record bars this step
+abbrev pub busyCause : List ℕ → ℕ → Step → Cause
+busyCause rs frame s = 15 if bars (recordAt rs frame .busy) s
+
+-- a word of a transfer that has this mark, where the frame's is another
+abbrev pub wordCause : List ℕ → ℕ → ℕ → Cause
+wordCause rs frame mark = 16 if not (eqb (recordAt rs frame .busy) mark)
+
+-- the end of a transfer, where there is none
+abbrev pub endCause : List ℕ → ℕ → Cause
+endCause rs frame = 16 if eqb (recordAt rs frame .busy) free
 
 -- a list of so many mappings, with so many answers
 abbrev pub batchCause : ℕ → ℕ → Cause
@@ -111,24 +129,44 @@ unfoldable pub mapCauses : Board → Tables → ℕ → ℕ → ℕ → ℕ → 
 unfolding tableCauses
 mapCauses b t space page frame rights = tableCauses b t ++ mappingCauses b (t .list) space page frame rights
 
--- unmap and read
+-- of an unmap, and of a read but for the mark
 unfoldable pub pageCauses : Board → Tables → ℕ → ℕ → List Cause
 unfolding tableCauses
 pageCauses b t space page = tableCauses b t ++ spaceCause space page ∷ unmappedCause (t .list) space page ∷ []
 
+unfoldable pub readCauses : Board → Tables → ℕ → ℕ → List Cause
+unfolding pageCauses
+readCauses b t space page = pageCauses b t space page ++ busyCause (t .records) (listedMapping (t .list) space page .frame) (read (colourOf b page)) ∷ []
+
 unfoldable pub writeCauses : Board → Tables → ℕ → ℕ → List Cause
 unfolding pageCauses
-writeCauses b t space page = pageCauses b t space page ++ readOnlyCause (t .list) space page ∷ []
+writeCauses b t space page =
+    pageCauses b t space page
+    ++ readOnlyCause (t .list) space page
+    ∷ busyCause (t .records) (listedMapping (t .list) space page .frame) (write (colourOf b page))
+    ∷ []
 
--- both transfers of a page
-unfoldable pub transferCauses : Board → Tables → ℕ → List Cause
+-- a transfer of a page, and the beginning of one
+unfoldable pub transferCauses : Board → Tables → ℕ → Step → List Cause
 unfolding tableCauses
-transferCauses b t frame = tableCauses b t ++ frameCause b frame ∷ []
+transferCauses b t frame s = tableCauses b t ++ frameCause b frame ∷ busyCause (t .records) frame s ∷ []
 
 -- a transfer of so many words from offset first on
 unfoldable pub partCauses : Board → Tables → ℕ → ℕ → ℕ → List Cause
 unfolding tableCauses
-partCauses b t frame first number = tableCauses b t ++ frameCause b frame ∷ partCause b first number ∷ []
+partCauses b t frame first number =
+    tableCauses b t ++ frameCause b frame ∷ partCause b first number ∷ busyCause (t .records) frame deviceWritePart ∷ []
+
+-- a word at an offset, of a transfer that has this mark
+unfoldable pub wordCauses : Board → Tables → ℕ → ℕ → ℕ → List Cause
+unfolding tableCauses
+wordCauses b t frame offset mark =
+    tableCauses b t ++ frameCause b frame ∷ offsetCause (b .page) offset ∷ wordCause (t .records) frame mark ∷ []
+
+-- the end of a transfer
+unfoldable pub endCauses : Board → Tables → ℕ → List Cause
+unfolding tableCauses
+endCauses b t frame = tableCauses b t ++ frameCause b frame ∷ endCause (t .records) frame ∷ []
 
 -- ---- the causes of each call by what one look at the list told, which are those above where it told them of the list (`told-rest`)
 

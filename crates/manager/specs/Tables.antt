@@ -26,16 +26,22 @@ tables l rs ps = record { list = l; records = rs; protections = ps }
 
 -- ---- frame records, one after the other
 
--- the words of a record: held, stale, dirty
+-- the words of a record: held, stale, dirty, busy
 abbrev pub recordWords : ℕ
-recordWords = 3
+recordWords = 4
 
 unfoldable pub recordAt : List ℕ → ℕ → FrameRecord
 recordAt rs f =
-    record { held = getD rs (f * recordWords) 0; stale = getD rs (f * recordWords + 1) 0; dirty = getD rs (f * recordWords + 2) 0 }
+    record {
+      held = getD rs (f * recordWords) 0;
+      stale = getD rs (f * recordWords + 1) 0;
+      dirty = getD rs (f * recordWords + 2) 0;
+      busy = getD rs (f * recordWords + 3) 0;
+    }
 
 unfoldable pub putRecord : List ℕ → ℕ → FrameRecord → List ℕ
-putRecord rs f r = set (set (set rs (f * recordWords) (r .held)) (f * recordWords + 1) (r .stale)) (f * recordWords + 2) (r .dirty)
+putRecord rs f r =
+    set (set (set (set rs (f * recordWords) (r .held)) (f * recordWords + 1) (r .stale)) (f * recordWords + 2) (r .dirty)) (f * recordWords + 3) (r .busy)
 
 unfoldable pub recordsKeepRules : Board → List ℕ → Bool
 recordsKeepRules b rs = all (b .frames) (λ f. record-of.keepsRules (b .colours) (recordAt rs f))

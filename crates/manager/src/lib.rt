@@ -4,13 +4,15 @@ pub mod records;
 pub mod refusals;
 
 ghost use mathlib.Core.Path.{_≡_};
+ghost use mathlib.Core.Bool.{cond};
 ghost use Rattle.board.specs.declared.Board as any;
 ghost use Rattle.board.specs.Board.{Regular, board01};
 ghost use Rattle.mapping.specs.Batch.{itemsOf};
 ghost use Rattle.manager.specs.Answers.{outcome, refused, accepted};
 ghost use Rattle.manager.specs.Batch.{batchResult, mapAllCall};
 ghost use Rattle.manager.specs.Tables.{tables, Colours};
-ghost use Rattle.manager.specs.Calls.{result, noOps, stepResult, planMap, planUnmap, planRead, planWrite, planDeviceRead, planDeviceWritePart, commitMap, commitUnmap, commitChange, mapCall, unmapCall, readCall, writeCall, deviceReadCall, deviceWriteCall, deviceWritePartCall};
+ghost use Rattle.manager.specs.Calls.{result, noOps, stepResult, planMap, planUnmap, planned, planRead, planWrite, planTransfer, beginStep, planDeviceWritePart, commitMap, commitUnmap, commitChange, mapCall, unmapCall, readCall, writeCall, deviceReadCall, deviceWriteCall, deviceWritePartCall, beginReadCall, beginWriteCall, wordCall, bringWordCall, takeWordCall, endTransferCall};
+ghost use Rattle.page_model.specs.Table.{deviceRead};
 use batch::map_batch;
 use board::BOARD01;
 use board::Board;
@@ -21,14 +23,17 @@ use page_model::FrameRecord;
 use page_model::Op;
 use page_model::Ops;
 use page_model::Stepped;
+use page_model::busy;
 use records::put_record;
 use records::record_at;
 use records::refill;
+use refusals::end_refusal;
 use refusals::map_refusal;
 use refusals::page_refusal;
 use refusals::part_refusal;
 use refusals::tables_refusal;
 use refusals::transfer_refusal;
+use refusals::word_refusal;
 use refusals::write_refusal;
 
 // The colours of the board. As a number by itself the compiler knows it where it is handed on.
@@ -205,6 +210,103 @@ pub fn device_write_part(
     carry_out(COLOURS, list, records, protections, plan)
 }
 
+// A device begins to read a frame from memory, word by word.
+pub fn begin_read(
+    list: MappingList,
+    records: &mut [u32],
+    protections: &mut [u8],
+    frame: u8,
+) -> Answer
+    ensures { λ r. ⌜ result (outcome r) (tables list (now (records .exit)) (now (protections .exit)))
+        ≡ beginReadCall board01 (tables list (now (records .entry)) (now (protections .entry))) frame ⌝ }
+{
+    let plan = plan_begin(BOARD01, list, records, protections, frame, false);
+    carry_out(COLOURS, list, records, protections, plan)
+}
+
+// A device begins to write a frame in memory, word by word.
+pub fn begin_write(
+    list: MappingList,
+    records: &mut [u32],
+    protections: &mut [u8],
+    frame: u8,
+) -> Answer
+    ensures { λ r. ⌜ result (outcome r) (tables list (now (records .exit)) (now (protections .exit)))
+        ≡ beginWriteCall board01 (tables list (now (records .entry)) (now (protections .entry))) frame ⌝ }
+{
+    let plan = plan_begin(BOARD01, list, records, protections, frame, true);
+    carry_out(COLOURS, list, records, protections, plan)
+}
+
+// A device that writes a frame brings a word of it to memory.
+pub fn bring_word(
+    list: MappingList,
+    records: &[u32],
+    protections: &mut [u8],
+    frame: u8,
+    offset: usize,
+) -> Answer
+    ensures { λ r. ⌜ result (outcome r) (tables list (now (records .entry)) (now (protections .exit)))
+        ≡ bringWordCall board01 (tables list (now (records .entry)) (now (protections .entry))) frame offset ⌝ }
+{
+    move_word(list, records, protections, frame, offset, busy::WRITING)
+}
+
+// A device that reads a frame takes a word of it from memory.
+pub fn take_word(
+    list: MappingList,
+    records: &[u32],
+    protections: &mut [u8],
+    frame: u8,
+    offset: usize,
+) -> Answer
+    ensures { λ r. ⌜ result (outcome r) (tables list (now (records .entry)) (now (protections .exit)))
+        ≡ takeWordCall board01 (tables list (now (records .entry)) (now (protections .entry))) frame offset ⌝ }
+{
+    move_word(list, records, protections, frame, offset, busy::READING)
+}
+
+// A device ends its transfer.
+pub fn end_transfer(
+    list: MappingList,
+    records: &mut [u32],
+    protections: &mut [u8],
+    frame: u8,
+) -> Answer
+    ensures { λ r. ⌜ result (outcome r) (tables list (now (records .exit)) (now (protections .exit)))
+        ≡ endTransferCall board01 (tables list (now (records .entry)) (now (protections .entry))) frame ⌝ }
+{
+    let kept = mapping::keeps_rules(BOARD01, list);
+    let refusal = end_refusal(BOARD01, kept, records, protections, frame);
+    if refusal != 0 {
+        return Answer::Refused(refusal);
+    }
+    let next = record_at(records, frame).end();
+    commit_change(COLOURS, list, records, protections, frame, next);
+    no_operations()
+}
+
+// A word moves, of a transfer that has this mark.
+fn move_word(
+    list: MappingList,
+    records: &[u32],
+    protections: &mut [u8],
+    frame: u8,
+    offset: usize,
+    mark: u32,
+) -> Answer
+    ensures { λ r. ⌜ result (outcome r) (tables list (now (records .entry)) (now (protections .exit)))
+        ≡ wordCall board01 (tables list (now (records .entry)) (now (protections .entry))) frame offset mark ⌝ }
+{
+    let kept = mapping::keeps_rules(BOARD01, list);
+    let refusal = word_refusal(BOARD01, kept, records, protections, frame, offset, mark);
+    if refusal != 0 {
+        return Answer::Refused(refusal);
+    }
+    refill(COLOURS, list, records, protections);
+    no_operations()
+}
+
 // ---- plans
 
 // Whether a mapping can be listed, and where.
@@ -265,7 +367,8 @@ pub fn plan_read(
     }
     let frame = seen.mapping.frame;
     let colour = board::colour_of(board, page as usize);
-    step_of(frame, record_at(records, frame).read(colour))
+    let record = record_at(records, frame);
+    step_of(frame, record.bars_read(), record.read(colour))
 }
 
 // What a write makes of the page's frame.
@@ -287,7 +390,8 @@ pub fn plan_write(
     }
     let frame = seen.mapping.frame;
     let colour = board::colour_of(board, page as usize);
-    step_of(frame, record_at(records, frame).write(colour))
+    let record = record_at(records, frame);
+    step_of(frame, record.is_busy(), record.write(colour))
 }
 
 // What a device read makes of a frame.
@@ -299,14 +403,15 @@ pub fn plan_device_read(
     frame: u8,
 ) -> Plan
     requires { ⌜ Regular board ⌝ }
-    ensures { λ r. ⌜ r ≡ planDeviceRead board (tables list (now (records .entry)) (now (protections .entry))) frame ⌝ }
+    ensures { λ r. ⌜ r ≡ planTransfer board (tables list (now (records .entry)) (now (protections .entry))) frame deviceRead ⌝ }
 {
     let kept = mapping::keeps_rules(board, list);
     let refusal = transfer_refusal(board, kept, records, protections, frame);
     if refusal != 0 {
         return Plan::Refused(refusal);
     }
-    step_of(frame, record_at(records, frame).device_read())
+    let record = record_at(records, frame);
+    step_of(frame, record.is_busy(), record.device_read())
 }
 
 // What a device's write of so many words from an offset on makes of a frame.
@@ -329,9 +434,33 @@ pub fn plan_device_write_part(
     }
     let record = record_at(records, frame);
     if number < board.page {
-        return step_of(frame, record.device_write_part());
+        return step_of(frame, record.is_busy(), record.device_write_part());
     }
-    step_of(frame, record.device_write())
+    step_of(frame, record.is_busy(), record.device_write())
+}
+
+// What the beginning of a device's transfer makes of a frame, a write or a read.
+pub fn plan_begin(
+    board: Board,
+    list: MappingList,
+    records: &[u32],
+    protections: &[u8],
+    frame: u8,
+    writes: bool,
+) -> Plan
+    requires { ⌜ Regular board ⌝ }
+    ensures { λ r. ⌜ r ≡ planTransfer board (tables list (now (records .entry)) (now (protections .entry))) frame (beginStep writes) ⌝ }
+{
+    let kept = mapping::keeps_rules(board, list);
+    let refusal = transfer_refusal(board, kept, records, protections, frame);
+    if refusal != 0 {
+        return Plan::Refused(refusal);
+    }
+    let record = record_at(records, frame);
+    if writes {
+        return step_of(frame, record.is_busy(), record.begin_write());
+    }
+    step_of(frame, record.is_busy(), record.begin_read())
 }
 
 // ---- commits. Of the board they ask only how many colours it has.
@@ -417,10 +546,13 @@ fn carry_out(
 
 // ---- what answers are made of
 
-// The plan of a step of one frame's record.
-fn step_of(frame: u8, stepped: Stepped) -> Plan
-    ensures { λ r. ⌜ r ≡ Plan.Step (record { frame = frame; next = stepped .next; ops = stepped .ops }) ⌝ }
+// The plan of a step of one frame's record, which its mark may bar.
+fn step_of(frame: u8, barred: bool, stepped: Stepped) -> Plan
+    ensures { λ r. ⌜ r ≡ planned (cond barred 15 0) (record { frame = frame; next = stepped .next; ops = stepped .ops }) ⌝ }
 {
+    if barred {
+        return Plan::Refused(15);
+    }
     let next = stepped.next;
     let ops = stepped.ops;
     Plan::Step(Change { frame, next, ops })
@@ -450,12 +582,18 @@ pub fn listed_as(list: MappingList) -> Listed
 pub fn no_operations() -> Answer
     ensures { λ r. ⌜ outcome r ≡ accepted 0 noOps ⌝ }
 {
-    let nothing = FrameOps {
+    Answer::Accepted(nothing())
+}
+
+// No operations.
+pub fn nothing() -> FrameOps
+    ensures { λ r. ⌜ r ≡ record { frame = 0; ops = noOps } ⌝ }
+{
+    FrameOps {
         frame: 0,
         ops: Ops {
             first: Op::None,
             second: Op::None,
         },
-    };
-    Answer::Accepted(nothing)
+    }
 }

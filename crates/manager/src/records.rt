@@ -9,8 +9,8 @@ use mapping::Mapping;
 use mapping::MappingList;
 use page_model::FrameRecord;
 
-// The words of a record: held, stale, dirty.
-pub const RECORD_WORDS: usize = 3;
+// The words of a record: held, stale, dirty, busy.
+pub const RECORD_WORDS: usize = 4;
 
 // The word at a place, 0 past the end.
 fn word_at(words: &[u32], i: usize) -> u32
@@ -33,17 +33,19 @@ pub fn record_at(records: &[u32], frame: u8) -> FrameRecord
     ensures { λ r. ⌜ r ≡ recordAt (now (records .entry)) frame ⌝ }
 {
     let at = frame as usize * RECORD_WORDS;
-    if at + 2 < records.len() {
+    if at + 3 < records.len() {
         return FrameRecord {
             held: records[at],
             stale: records[at + 1],
             dirty: records[at + 2],
+            busy: records[at + 3],
         };
     }
     FrameRecord {
         held: word_at(records, at),
         stale: word_at(records, at + 1),
         dirty: word_at(records, at + 2),
+        busy: word_at(records, at + 3),
     }
 }
 
@@ -55,6 +57,7 @@ pub fn put_record(records: &mut [u32], frame: u8, record: FrameRecord)
     put_word(records, at, record.held);
     put_word(records, at + 1, record.stale);
     put_word(records, at + 2, record.dirty);
+    put_word(records, at + 3, record.busy);
 }
 
 // Whether the record of every frame keeps the rules.

@@ -2,17 +2,19 @@
 ghost use mathlib.Core.List.{[], _∷_, _++_};
 ghost use mathlib.Core.Path.{_≡_};
 ghost use Rattle.board.specs.Board.{Regular};
-ghost use Rattle.manager.specs.Refusals.{firstRefusal, refusalPlace, toldTables, toldMapping, toldPage, toldWrite, frameCause, partCause, outOfSpace, outOfPage, isRight};
+ghost use Rattle.manager.specs.Refusals.{firstRefusal, refusalPlace, toldTables, toldMapping, toldPage, toldWrite, frameCause, partCause, offsetCause, wordCause, endCause, outOfSpace, outOfPage, isRight};
 use super::records::RECORD_WORDS;
+use super::records::record_at;
 use super::records::records_keep_rules;
 use board::Board;
 use mapping::Mapping;
 use mapping::Seen;
+use page_model::busy;
 
 // How many refusals there are, and their numbers in the order in which they are tested.
-const REFUSALS: usize = 12;
+const REFUSALS: usize = 14;
 
-const ORDER: [u8; REFUSALS] = [1, 12, 2, 3, 4, 5, 6, 13, 7, 8, 9, 10];
+const ORDER: [u8; REFUSALS] = [1, 12, 2, 3, 4, 5, 6, 13, 7, 8, 9, 10, 15, 16];
 
 // The place of a refusal in the order, past its end where it is not listed.
 pub fn place(number: u8) -> usize
@@ -82,7 +84,7 @@ pub fn mapping_refusal(board: Board, seen: Seen, m: Mapping) -> u8
     0
 }
 
-// Of `unmap` and `read`, where seen is what a look at the list told of the page.
+// Of `unmap`, and of `read` but for the busy mark, where seen is what a look at the list told of the page.
 pub fn page_refusal(
     board: Board,
     seen: Seen,
@@ -129,7 +131,7 @@ pub fn write_refusal(
     0
 }
 
-// Of both transfers of a page, where kept says whether the list keeps its rules.
+// Of a transfer but for the busy mark, where kept says whether the list keeps its rules.
 pub fn transfer_refusal(
     board: Board,
     kept: bool,
@@ -169,6 +171,47 @@ pub fn part_refusal(
     }
     if out_of_page(board, first, number) {
         return 13;
+    }
+    0
+}
+
+// Of a word at an offset, of a transfer that has this mark.
+pub fn word_refusal(
+    board: Board,
+    kept: bool,
+    records: &[u32],
+    protections: &[u8],
+    frame: u8,
+    offset: usize,
+    mark: u32,
+) -> u8
+    requires { ⌜ Regular board ⌝ }
+    ensures { λ r. ⌜ r ≡ firstRefusal (toldTables board kept (now (records .entry)) (now (protections .entry)) ++ frameCause board frame ∷ offsetCause (board .page) offset ∷ wordCause (now (records .entry)) frame mark ∷ []) ⌝ }
+{
+    let refusal = transfer_refusal(board, kept, records, protections, frame);
+    if refusal != 0 {
+        return refusal;
+    }
+    if offset >= board.page {
+        return 6;
+    }
+    if record_at(records, frame).busy != mark {
+        return 16;
+    }
+    0
+}
+
+// Of the end of a transfer.
+pub fn end_refusal(board: Board, kept: bool, records: &[u32], protections: &[u8], frame: u8) -> u8
+    requires { ⌜ Regular board ⌝ }
+    ensures { λ r. ⌜ r ≡ firstRefusal (toldTables board kept (now (records .entry)) (now (protections .entry)) ++ frameCause board frame ∷ endCause (now (records .entry)) frame ∷ []) ⌝ }
+{
+    let refusal = transfer_refusal(board, kept, records, protections, frame);
+    if refusal != 0 {
+        return refusal;
+    }
+    if record_at(records, frame).busy == busy::FREE {
+        return 16;
     }
     0
 }

@@ -1,19 +1,21 @@
--- What the record after a step says: it keeps the rules, and each colour's state is its cell's.
+-- What the record after a step says: it keeps the rules, if its mark did not bar the step, and each colour's state is its cell's.
 use mathlib.Core.Path.{_≡_, refl, sym, ap, _∙_}
-use mathlib.Core.Bool.{Bool, true, false, not, _&&_, _||_, false≢true}
+use mathlib.Core.Bool.{Bool, true, false, not, _&&_, _||_, false≢true, and-false}
 use Prim.Native.Nat.{ℕ, _<_}
-use borrow.Author.Tests.{eqb-true}
+use native.Mathlib.Omega.{arith}
+use borrow.Author.Tests.{eqb-true, eqb-false, not-false}
 use lib.Dec.{eqb}
 use Rattle.bits.specs.Mask.{bit}
 use Rattle.bits.proofs.Tautology.{and-left, and-right}
 use Rattle.page_model.specs.declared.FrameRecord.{FrameRecord}
 use Rattle.page_model.specs.Record.{stateOf, keepsRules, isHeld, isDirty}
+use Rattle.page_model.specs.Busy.{free, bars, markAfter}
 use Rattle.page_model.specs.Step.{cellOf, recordAfter}
-use Rattle.page_model.specs.Table.{Step, read, write, deviceRead, deviceWrite, deviceWritePart}
-use Rattle.page_model.specs.Theorems.{StepKeepsRules, StateAfter, OneOwner}
+use Rattle.page_model.specs.Table.{ColourState, Step, read, write, deviceRead, deviceWrite, deviceWritePart, beginRead, beginWrite}
+use Rattle.page_model.specs.Theorems.{StepKeepsRules, StateAfter, OneOwner, MarkFits}
 use Rattle.page_model.proofs.Rules.{Keeps, keeps, flag}
-use Rattle.page_model.proofs.Cells.{Agree, apart, nextTest, kept-next}
-use Rattle.page_model.proofs.Encoding.{decode-encode}
+use Rattle.page_model.proofs.Cells.{Agree, apart, stateTest, nextTest, at-law, kept-next}
+use Rattle.page_model.proofs.Encoding.{kept-mark, decode-encode}
 
 own-left : (o h : Bool) {d : Bool} → d ≡ true → (o || h && not d) ≡ true → o ≡ true
 own-left true h z e = refl
@@ -37,14 +39,57 @@ one-owner n (write c) r kr j k lj lk ej ek =
 one-owner n deviceRead r kr j k lj lk ej ek = no-owner n deviceRead r kr refl j k lj lk ej ek
 one-owner n deviceWrite r kr j k lj lk ej ek = no-owner n deviceWrite r kr refl j k lj lk ej ek
 one-owner n deviceWritePart r kr j k lj lk ej ek = no-owner n deviceWritePart r kr refl j k lj lk ej ek
+one-owner n beginRead r kr j k lj lk ej ek = no-owner n beginRead r kr refl j k lj lk ej ek
+one-owner n beginWrite r kr j k lj lk ej ek = no-owner n beginWrite r kr refl j k lj lk ej ek
 
-after : (n : ℕ) (step : Step) (r : FrameRecord) → keepsRules n r ≡ true
-    → (keepsRules n (recordAfter n step r) ≡ true) × ((k : ℕ) → k < n → stateOf (recordAfter n step r) k ≡ cellOf step r k .next)
-unfolding recordAfter
-after n step r e = decode-encode n (λ k. cellOf step r k .next) (one-owner n step r (keeps n r e))
+-- ---- the mark after a step
+
+-- a frame that is not busy
+free-fits : (n mark : ℕ) (states : ℕ → ColourState) → not (eqb mark free) ≡ false → MarkFits n mark states
+free-fits n mark states e =
+    let z = eqb-true mark free (not-false _ e) in
+    record { is-mark = omega arith; none-dirty = λ m. absurd (omega arith); none-held = λ m. absurd (omega arith) }
+
+-- the mark after a step that it did not bar goes with the states after it
+mark-after : (n : ℕ) (step : Step) (r : FrameRecord) → keepsRules n r ≡ true → bars (r .busy) step ≡ false
+    → MarkFits n (markAfter step (r .busy)) (λ k. cellOf step r k .next)
+unfolding stateOf
+mark-after n (read c) r e f =
+    let before = kept-mark n r e in
+    let writes = eqb-false (r .busy) _ f in
+    record {
+      is-mark = before .is-mark;
+      none-dirty = λ m k l.
+          sym (kept-next n r (keeps n r e) (read c) isDirty (λ o s h d. o && (h && d)) refl k l)
+          ∙ ap (λ (b : Bool). eqb c k && b)
+          (at-law r 0 k apart (λ o s h d. h && d) (stateTest isDirty) refl (keeps n r e .apart k l) ∙ before .none-dirty m k l)
+          ∙ and-false (eqb c k);
+      none-held = λ m. absurd (writes m);
+    }
+mark-after n (write c) r e f = free-fits n (r .busy) _ f
+mark-after n deviceRead r e f = free-fits n (r .busy) _ f
+mark-after n deviceWrite r e f = free-fits n (r .busy) _ f
+mark-after n deviceWritePart r e f = free-fits n (r .busy) _ f
+mark-after n beginRead r e f =
+    record {
+      is-mark = omega arith;
+      none-dirty = λ m k l. sym (kept-next n r (keeps n r e) beginRead isDirty (λ o s h d. false) refl k l);
+      none-held = λ m. absurd (omega arith);
+    }
+mark-after n beginWrite r e f =
+    record {
+      is-mark = omega arith;
+      none-dirty = λ m. absurd (omega arith);
+      none-held = λ m k l. sym (kept-next n r (keeps n r e) beginWrite isHeld (λ o s h d. false) refl k l);
+    }
+
+-- ---- the record after a step
 
 pub step-keeps-rules : StepKeepsRules
-step-keeps-rules n step r e = after n step r e .0
+unfolding recordAfter
+step-keeps-rules n step r e f =
+    decode-encode n (markAfter step (r .busy)) (λ k. cellOf step r k .next) (one-owner n step r (keeps n r e)) .0 (mark-after n step r e f)
 
 pub state-after : StateAfter
-state-after n step r e = after n step r e .1
+unfolding recordAfter
+state-after n step r e = decode-encode n (markAfter step (r .busy)) (λ k. cellOf step r k .next) (one-owner n step r (keeps n r e)) .1

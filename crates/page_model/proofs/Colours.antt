@@ -15,10 +15,11 @@ use Rattle.page_model.specs.declared.table.Case.{Case}
 use Rattle.page_model.specs.declared.FrameRecord.{FrameRecord}
 use Rattle.page_model.specs.declared.Op.{Op}
 use Rattle.page_model.specs.declared.Op.the-variants.{None, Flush, Purge}
-use Rattle.page_model.specs.Cases.{stateNumber, operationNumber, stepNumber, caseOf, caseIn, caseAt, withState}
-use Rattle.page_model.specs.Record.{stateOf, encode, isHeld, isDirty, isStale, startRecord}
+use Rattle.page_model.specs.Cases.{stateNumber, operationNumber, stepNumber, caseOf, caseIn, caseAt, markAt, withState}
+use Rattle.page_model.specs.Busy.{markAfter}
+use Rattle.page_model.specs.Record.{stateOf, encode, isHeld, isDirty, isStale}
 use Rattle.page_model.specs.Step.{isFlush, isPurge, cellOf, recordAfter, operations, opList, firstTwo, stepped}
-use Rattle.page_model.specs.Table.{ColourState, empty, present, dirty, stale, Operation, none, flush, purge, Cell, _⇒_, Step, read, write, deviceRead, deviceWrite, deviceWritePart, roleIf, readCell, writeCell, deviceReadCell, deviceWriteCell, deviceWritePartCell, cellAt, ownOf, reach}
+use Rattle.page_model.specs.Table.{ColourState, empty, present, dirty, stale, Operation, none, flush, purge, Cell, _⇒_, Step, read, write, deviceRead, deviceWrite, deviceWritePart, beginRead, beginWrite, roleIf, readCell, writeCell, deviceReadCell, deviceWriteCell, deviceWritePartCell, beginReadCell, beginWriteCell, cellAt, ownOf, reach}
 use Rattle.page_model.proofs.Rules.{Keeps}
 use Rattle.page_model.proofs.Operations.{placesWith, few-flushes, few-purges}
 
@@ -38,6 +39,18 @@ case-cell (write c) k = state-number (writeCell (roleIf (eqb c k)))
 case-cell deviceRead k = state-number deviceReadCell
 case-cell deviceWrite k = state-number deviceWriteCell
 case-cell deviceWritePart k = state-number deviceWritePartCell
+case-cell beginRead k = state-number beginReadCell
+case-cell beginWrite k = state-number beginWriteCell
+
+-- the mark of a step's number is the step's
+pub mark-number : (s : Step) (mark : ℕ) → markAt (stepNumber s) mark ≡ markAfter s mark
+mark-number (read c) mark = refl
+mark-number (write c) mark = refl
+mark-number deviceRead mark = refl
+mark-number deviceWrite mark = refl
+mark-number deviceWritePart mark = refl
+mark-number beginRead mark = refl
+mark-number beginWrite mark = refl
 
 -- an operation's number tells a flush, and a purge
 operation-number : (o : Operation) → (eqb (operationNumber o) 1 ≡ isFlush o) × (eqb (operationNumber o) 2 ≡ isPurge o)
@@ -47,21 +60,21 @@ operation-number purge = (refl, refl)
 
 -- ---- one colour more
 
-put : (h t k : ℕ) (d : Bool) (state : ColourState)
-    → _≡_ {A = FrameRecord} (record { held = cond (isHeld state) (withBit h k) h; stale = cond (isStale state) (withBit t k) t; dirty = digit (d || isDirty state) })
-    (withState (record { held = h; stale = t; dirty = digit d }) k (stateNumber state))
-put h t k d empty = rw or-false
-put h t k d present = rw or-false
-put h t k d dirty = rw or-true
-put h t k d stale = rw or-false
+put : (h t k mark : ℕ) (d : Bool) (state : ColourState)
+    → _≡_ {A = FrameRecord} (record { held = cond (isHeld state) (withBit h k) h; stale = cond (isStale state) (withBit t k) t; dirty = digit (d || isDirty state); busy = mark })
+    (withState (record { held = h; stale = t; dirty = digit d; busy = mark }) k (stateNumber state))
+put h t k mark d empty = rw or-false
+put h t k mark d present = rw or-false
+put h t k mark d dirty = rw or-true
+put h t k mark d stale = rw or-false
 
-encode-more : (k : ℕ) (states : ℕ → ColourState) → encode (suc k) states ≡ withState (encode k states) k (stateNumber (states k))
+encode-more : (k mark : ℕ) (states : ℕ → ColourState) → encode (suc k) mark states ≡ withState (encode k mark states) k (stateNumber (states k))
 unfolding encode
-encode-more k states =
+encode-more k mark states =
     let h = maskOf-more k (λ j. isHeld (states j)) in
     let t = maskOf-more k (λ j. isStale (states j)) in
     let d = any-more k (λ j. isDirty (states j)) in
-    (λ i. record { held = h i; stale = t i; dirty = digit (d i) }) ∙ put _ _ k (any k (λ j. isDirty (states j))) (states k)
+    (λ i. record { held = h i; stale = t i; dirty = digit (d i); busy = mark }) ∙ put _ _ k mark (any k (λ j. isDirty (states j))) (states k)
 
 -- the colours below k on which a step has an operation that f picks, as a mask
 abbrev maskWith : ℕ → Step → FrameRecord → (Operation → Bool) → ℕ
@@ -73,9 +86,9 @@ pub record Made (s : Step) (r : FrameRecord) (k : ℕ) (next : FrameRecord) (fl 
   pub flush-is : fl ≡ maskWith k s r isFlush
   pub purge-is : pu ≡ maskWith k s r isPurge
 
-pub made-none : (s : Step) (r : FrameRecord) → Made s r 0 startRecord 0 0
+pub made-none : (s : Step) (r : FrameRecord) {mark : ℕ} → mark ≡ markAfter s (r .busy) → Made s r 0 (record { held = 0; stale = 0; dirty = 0; busy = mark }) 0 0
 unfolding recordAfter encode maskOf any
-made-none s r = record { next-is = refl; flush-is = refl; purge-is = refl }
+made-none s r e = record { next-is = λ i. record { held = 0; stale = 0; dirty = 0; busy = e i }; flush-is = refl; purge-is = refl }
 
 pub made-more : (s : Step) (r : FrameRecord) (k : ℕ) {next : FrameRecord} {fl pu : ℕ} {x : Case} → Made s r k next fl pu
     → x ≡ caseAt (stepNumber s) (eqb (ownOf s) k) (stateNumber (stateOf r k))
@@ -85,7 +98,7 @@ made-more s r k m e =
     let cell = e ∙ case-cell s k (stateOf r k) in
     let number = operation-number (cellAt s k (stateOf r k) .operation) in
     record {
-      next-is = ap₂ (λ (n : FrameRecord) (y : Case). withState n k (y .1)) (m .next-is) cell ∙ sym (encode-more k _);
+      next-is = ap₂ (λ (n : FrameRecord) (y : Case). withState n k (y .1)) (m .next-is) cell ∙ sym (encode-more k _ _);
       flush-is = picked isFlush (m .flush-is) (ap (λ (y : Case). eqb (y .0) 1) cell ∙ number .0);
       purge-is = picked isPurge (m .purge-is) (ap (λ (y : Case). eqb (y .0) 2) cell ∙ number .1);
     }
@@ -120,14 +133,17 @@ module _ (n : ℕ) (r : FrameRecord) (kr : Keeps n r) where
   past-cell deviceRead t k l = rw (past-state k l)
   past-cell deviceWrite t k l = rw (past-state k l)
   past-cell deviceWritePart t k l = rw (past-state k l)
+  past-cell beginRead t k l = rw (past-state k l)
+  past-cell beginWrite t k l = rw (past-state k l)
 
   -- made of any greater number of colours, the record and the operations are the step's
   pub made-all : (w : ℕ) (s : Step) {next : FrameRecord} {fl pu : ℕ} → n ≤ w → reach s ≤ n → Made s r w next fl pu
       → record { next = next; ops = firstTwo (opList (cond (eqb fl 0) None (Flush (trailingZeros w fl))) ++ opList (cond (eqb pu 0) None (Purge (trailingZeros w pu)))) } ≡ stepped n s r
   unfolding recordAfter operations
   made-all w s few t m =
+      let mark = markAfter s (r .busy) in
       let states : ℕ → ColourState = λ j. cellOf s r j .next in
-      let next = m .next-is ∙ steady (λ k. encode k states) n w few (λ k l. encode-more k states ∙ ap (λ (x : Cell). withState (encode k states) k (stateNumber (x .next))) (past-cell s t k l)) in
+      let next = m .next-is ∙ steady (λ k. encode k mark states) n w few (λ k l. encode-more k mark states ∙ ap (λ (x : Cell). withState (encode k mark states) k (stateNumber (x .next))) (past-cell s t k l)) in
       let flushes = all Flush (λ k. refl) isFlush refl (few-flushes n r kr s) (m .flush-is) in
       let purges = all Purge (λ k. refl) isPurge refl (few-purges n r kr s) (m .purge-is) in
       λ i. record { next = next i; ops = firstTwo (flushes i ++ purges i) }

@@ -1,17 +1,18 @@
--- Encoding and decoding are inverse.
+-- Encoding and decoding are inverse, and a record keeps the rules of its mark exactly if that goes with its states.
 use mathlib.Core.Path.{_≡_, refl, sym, ap, ap₂, _∙_}
 use mathlib.Core.Bool.{Bool, true, false, not, _&&_, _||_, false≢true}
-use Prim.Native.Nat.{ℕ, _<_}
+use Prim.Native.Nat.{ℕ, zero, suc, _≤_, _<_}
 use native.Mathlib.Omega.{arith}
-use borrow.Author.Tests.{eq-eqb, ne-eqb}
+use borrow.Author.Tests.{eq-eqb, ne-eqb, eqb-true}
 use lib.Count.{trailingZeros}
 use lib.Dec.{eqb}
+use lib.Pow.{pow-pos}
 use Rattle.bits.specs.Mask.{bit, digit, maskOf, countOf, any}
-use Rattle.bits.proofs.Mask.{mask-of, maskOf-lt, bit-maskOf, any-cong, any-none, any-of, any-at, any-one, one-countOf, digit-lt, eqb-digit}
+use Rattle.bits.proofs.Mask.{mask-of, maskOf-lt, bit-maskOf, any-cong, any-none, any-of, any-at, any-one, one-countOf, digit-lt, eqb-digit, bit-none}
 use Rattle.page_model.specs.declared.FrameRecord.{FrameRecord}
-use Rattle.page_model.specs.Record.{stateFrom, stateOf, encode, isHeld, isDirty, isStale}
+use Rattle.page_model.specs.Record.{stateFrom, stateOf, markFits, encode, isHeld, isDirty, isStale}
 use Rattle.page_model.specs.Table.{ColourState, empty, present, dirty, stale}
-use Rattle.page_model.specs.Theorems.{EncodeDecode, OneOwner, DecodeEncode}
+use Rattle.page_model.specs.Theorems.{EncodeDecode, OneOwner, MarkFits, DecodeEncode, KeptMark, EndedRecord}
 use Rattle.page_model.proofs.Rules.{Keeps, keeps, kept, flag, flag-digit, dirty-only, dirty-at}
 use Rattle.page_model.proofs.Cells.{kept-state, each-state}
 
@@ -33,7 +34,44 @@ encode-decode n r e =
     let h = mask-of n (r .held) _ (kr .held-lt) (says isHeld (λ o s h d. h) refl) in
     let t = mask-of n (r .stale) _ (kr .stale-lt) (says isStale (λ o s h d. s) refl) in
     let d = flag-digit (kr .flag-le) ∙ ap digit (sym (any-dirty n r kr) ∙ any-cong n _ _ (says isDirty (λ o s h d. d && h) refl)) in
-    λ i. record { held = sym h i; stale = sym t i; dirty = sym d i }
+    λ i. record { held = sym h i; stale = sym t i; dirty = sym d i; busy = r .busy }
+
+-- what the mark tells of flag and held mask
+fits-le : (mark flag held : ℕ) → markFits mark flag held ≡ true → mark ≤ 2
+fits-le zero flag held e = omega arith
+fits-le (suc zero) flag held e = omega arith
+fits-le (suc (suc zero)) flag held e = omega arith
+fits-le (suc (suc (suc mark))) flag held e = absurd (false≢true e)
+
+pub kept-mark : KeptMark
+kept-mark n r e =
+    let kr = keeps n r e in
+    let fits = kr .mark-fits in
+    record {
+      is-mark = fits-le (r .busy) (r .dirty) (r .held) fits;
+      none-dirty = λ m k l.
+          let z = eqb-true (r .dirty) 0 (ap (λ (x : ℕ). markFits x (r .dirty) (r .held)) (sym m) ∙ fits) in
+          sym (kept-state n r kr isDirty (λ o s h d. d && h) refl k l) ∙ ap (λ (x : ℕ). eqb x 1 && bit (r .held) k) z;
+      none-held = λ m k l.
+          let z = eqb-true (r .held) 0 (ap (λ (x : ℕ). markFits x (r .dirty) (r .held)) (sym m) ∙ fits) in
+          sym (kept-state n r kr isHeld (λ o s h d. h) refl k l) ∙ ap (λ (x : ℕ). bit x k) z ∙ bit-none k;
+    }
+
+pub ended-record : EndedRecord
+unfolding stateOf
+ended-record n r e =
+    let kr = keeps n r e in (
+      kept n _
+          (record {
+            held-lt = kr .held-lt;
+            stale-lt = kr .stale-lt;
+            apart = kr .apart;
+            flag-le = kr .flag-le;
+            one-held = kr .one-held;
+            mark-fits = refl;
+          }),
+      λ k. refl,
+    )
 
 -- ---- states that are encoded and decoded
 
@@ -55,17 +93,24 @@ module _ (n : ℕ) (states : ℕ → ColourState) (one : OneOwner n states) wher
       go true h = sym (eq-eqb d k (one d k ld lk here h))
       go false h = sym (ne-eqb d k (λ q. false≢true (sym h ∙ ap (λ (j : ℕ). isHeld (states j)) (sym q) ∙ ap isHeld here)))
 
-  encode-keeps : Keeps n (encode n states)
+  encode-keeps : (mark : ℕ) → MarkFits n mark states → Keeps n (encode n mark states)
   unfolding encode
-  encode-keeps =
+  encode-keeps mark fits =
       record {
         held-lt = maskOf-lt n _;
         stale-lt = maskOf-lt n _;
         apart = λ k l. ap not (ap₂ _&&_ (bit-maskOf n _ k l) (bit-maskOf n _ k l)) ∙ each-state (λ s. not (isHeld s && isStale s)) refl (states k);
         flag-le = omega (arith, digit-lt (any n (λ k. isDirty (states k))));
         one-held = single (any n (λ k. isDirty (states k))) refl;
+        mark-fits = marked mark fits;
       }
     where
+      marked : (mark : ℕ) → MarkFits n mark states → markFits mark (digit (any n (λ k. isDirty (states k)))) (maskOf n (λ k. isHeld (states k))) ≡ true
+      marked zero f = refl
+      marked (suc zero) f = ap (λ (b : Bool). eqb (digit b) 0) (any-none n _ (f .none-dirty refl))
+      marked (suc (suc zero)) f = eq-eqb _ 0 (sym (mask-of n 0 _ (pow-pos n) (λ k l. bit-none k ∙ sym (f .none-held refl k l))))
+      marked (suc (suc (suc mark))) f = let l = f .is-mark in absurd (omega arith)
+
       single : (b : Bool) → any n (λ k. isDirty (states k)) ≡ b → (not (eqb (digit b) 1) || eqb (countOf n (bit (maskOf n (λ k. isHeld (states k))))) 1) ≡ true
       single true e =
           let d = any-at n _ e in
@@ -90,8 +135,8 @@ module _ (n : ℕ) (states : ℕ → ColourState) (one : OneOwner n states) wher
 
 pub decode-encode : DecodeEncode
 unfolding encode stateOf
-decode-encode n states one = (
-  kept n (encode n states) (encode-keeps n states one),
+decode-encode n mark states one = (
+  λ fits. kept n (encode n mark states) (encode-keeps n states one mark fits),
   λ k l.
       (λ i. stateFrom (bit-maskOf n (λ j. isStale (states j)) k l i) (bit-maskOf n (λ j. isHeld (states j)) k l i) (eqb-digit (any n (λ j. isDirty (states j))) i))
       ∙ decoded n states one k l,

@@ -11,6 +11,7 @@ use Rattle.bits.proofs.Mask.{mask-of, bit-one, at-place, any-one, places-none}
 use Rattle.bits.proofs.Tautology.{beq-of, and-left, and-right}
 use Rattle.page_model.specs.declared.FrameRecord.{FrameRecord}
 use Rattle.page_model.specs.declared.Op.the-variants.{Flush, Purge}
+use Rattle.page_model.specs.Busy.{markAfter}
 use Rattle.page_model.specs.Record.{stateOf, encode, isHeld, isDirty, isStale}
 use Rattle.page_model.specs.Step.{isFlush, isPurge, cellOf, recordAfter, operations}
 use Rattle.page_model.specs.Table.{Step, read, write, ownOf}
@@ -23,12 +24,13 @@ record-is : (n : ℕ) (s : Step) (r : FrameRecord) {h t d : ℕ} → h < 2 ^ n �
     → ((k : ℕ) → k < n → bit h k ≡ isHeld (cellOf s r k .next))
     → ((k : ℕ) → k < n → bit t k ≡ isStale (cellOf s r k .next))
     → d ≡ digit (any n (λ k. isDirty (cellOf s r k .next)))
-    → _≡_ {A = FrameRecord} (record { held = h; stale = t; dirty = d }) (recordAfter n s r)
+    → r .busy ≡ markAfter s (r .busy)
+    → _≡_ {A = FrameRecord} (record { held = h; stale = t; dirty = d; busy = r .busy }) (recordAfter n s r)
 unfolding recordAfter encode
-record-is n s r lh lt eh et ed =
+record-is n s r lh lt eh et ed eb =
     let eh′ = mask-of n _ (λ k. isHeld (cellOf s r k .next)) lh eh in
     let et′ = mask-of n _ (λ k. isStale (cellOf s r k .next)) lt et in
-    λ i. record { held = eh′ i; stale = et′ i; dirty = ed i }
+    λ i. record { held = eh′ i; stale = et′ i; dirty = ed i; busy = eb i }
 
 module _ (n : ℕ) (r : FrameRecord) (kr : Keeps n r) (c : ℕ) (lc : c < n) where
   -- a colour that is held is the dirty one, if one is
@@ -57,20 +59,21 @@ module _ (n : ℕ) (r : FrameRecord) (kr : Keeps n r) (c : ℕ) (lc : c < n) whe
       → Agree given (λ o s h d. d && o) (nextTest step isDirty)
       → Agree given (λ o s h d. false) (operationTest step isFlush)
       → Agree given (λ o s h d. false) (operationTest step isPurge)
+      → r .busy ≡ markAfter step (r .busy)
       → Idle n step r
   unfolding operations
-  idle-of step given lo holds eh es ed ef ep =
+  idle-of step given lo holds eh es ed ef ep eb =
       let next = next-law n r step given holds in
       let operation = operation-law n r step given holds in (
         ap₂ _++_ (ap (map Flush) (places-none n _ (λ k l. sym (operation isFlush (λ o s h d. false) ef k l)))) (ap (map Purge) (places-none n _ (λ k l. sym (operation isPurge (λ o s h d. false) ep k l)))),
         sym (record-is n step r (kr .held-lt) (kr .stale-lt) (next isHeld (λ o s h d. h) eh) (next isStale (λ o s h d. s) es)
-            (flag-digit (kr .flag-le) ∙ ap digit (sym (any-one n (ownOf step) (flag r) _ lo (λ k l. sym (next isDirty (λ o s h d. d && o) ed k l)))))),
+            (flag-digit (kr .flag-le) ∙ ap digit (sym (any-one n (ownOf step) (flag r) _ lo (λ k l. sym (next isDirty (λ o s h d. d && o) ed k l))))) eb),
       )
 
   pub read-idle : bit (r .held) c ≡ true → Idle n (read c) r
-  read-idle z = idle-of (read c) ownHeld lc (own-held z) refl refl refl refl refl
+  read-idle z = idle-of (read c) ownHeld lc (own-held z) refl refl refl refl refl refl
 
   pub write-idle : isDirty (stateOf r c) ≡ true → Idle n (write c) r
   write-idle z =
       let both = kept-state n r kr isDirty (λ o s h d. d && h) refl c lc ∙ z in
-      idle-of (write c) (λ o s h d. ownHeld o s h d && d) lc (λ k l. ap₂ _&&_ (own-held (and-right (flag r) _ both) k l) (and-left (flag r) _ both)) refl refl refl refl refl
+      idle-of (write c) (λ o s h d. ownHeld o s h d && d) lc (λ k l. ap₂ _&&_ (own-held (and-right (flag r) _ both) k l) (and-left (flag r) _ both)) refl refl refl refl refl refl

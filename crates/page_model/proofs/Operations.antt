@@ -16,7 +16,7 @@ use Rattle.page_model.specs.declared.FrameRecord.{FrameRecord}
 use Rattle.page_model.specs.declared.Op.{Op}
 use Rattle.page_model.specs.declared.Op.the-variants.{Flush, Purge}
 use Rattle.page_model.specs.Step.{isFlush, isPurge, cellOf, operations, opList, firstTwo, OpBelow}
-use Rattle.page_model.specs.Table.{Operation, Step, read, write, deviceRead, deviceWrite, deviceWritePart, ownOf}
+use Rattle.page_model.specs.Table.{Operation, Step, read, write, deviceRead, deviceWrite, deviceWritePart, beginRead, beginWrite, ownOf}
 use Rattle.page_model.specs.Theorems.{FewOperations, OpsComplete, OperationsBelow}
 use Rattle.page_model.proofs.Rules.{Keeps, keeps, flag, dirty-at}
 use Rattle.page_model.proofs.Cells.{Test, Agree, apart, operationTest, at, kept-operation}
@@ -51,6 +51,8 @@ module _ (n : ℕ) (r : FrameRecord) (kr : Keeps n r) where
   few-flushes deviceRead = on-dirty deviceRead isFlush refl
   few-flushes deviceWrite = on-dirty deviceWrite isFlush refl
   few-flushes deviceWritePart = on-dirty deviceWritePart isFlush refl
+  few-flushes beginRead = on-dirty beginRead isFlush refl
+  few-flushes beginWrite = on-dirty beginWrite isFlush refl
 
   pub few-purges : (step : Step) → length (placesWith n step r isPurge) ≤ 1
   few-purges (read c) = on-own (read c) isPurge refl
@@ -58,6 +60,8 @@ module _ (n : ℕ) (r : FrameRecord) (kr : Keeps n r) where
   few-purges deviceRead = on-dirty deviceRead isPurge refl
   few-purges deviceWrite = on-dirty deviceWrite isPurge refl
   few-purges deviceWritePart = on-dirty deviceWritePart isPurge refl
+  few-purges beginRead = on-dirty beginRead isPurge refl
+  few-purges beginWrite = on-dirty beginWrite isPurge refl
 
 pub few-operations : FewOperations
 unfolding operations

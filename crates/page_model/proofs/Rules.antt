@@ -11,7 +11,7 @@ use Rattle.bits.specs.Mask.{bit, digit, countOf}
 use Rattle.bits.proofs.Mask.{all-at, all-of, ones-bits, only-bit, bit-one, digit-eqb, disjoint-all, or-within}
 use Rattle.bits.proofs.Tautology.{and-left, and-right}
 use Rattle.page_model.specs.declared.FrameRecord.{FrameRecord}
-use Rattle.page_model.specs.Record.{keepsRules}
+use Rattle.page_model.specs.Record.{coloursKeepRules, markFits, keepsRules}
 
 -- the flag as a test
 abbrev pub flag : FrameRecord → Bool
@@ -24,6 +24,7 @@ pub record Keeps (n : ℕ) (r : FrameRecord) : Type 0 where
   pub apart : (k : ℕ) → k < n → not (bit (r .held) k && bit (r .stale) k) ≡ true
   pub flag-le : r .dirty ≤ 1
   pub one-held : (not (flag r) || eqb (countOf n (bit (r .held))) 1) ≡ true
+  pub mark-fits : markFits (r .busy) (r .dirty) (r .held) ≡ true
 
 pub keeps : (n : ℕ) (r : FrameRecord) → keepsRules n r ≡ true → Keeps n r
 unfolding keepsRules
@@ -34,21 +35,24 @@ keeps n r e =
       apart = all-at n (λ k. not (bit (r .held) k && bit (r .stale) k)) (search (and-left, and-right));
       flag-le = leb-true (r .dirty) 1 (search (and-left, and-right));
       one-held = search (and-left, and-right);
+      mark-fits = search (and-left, and-right);
     }
 
 pub kept : (n : ℕ) (r : FrameRecord) → Keeps n r → keepsRules n r ≡ true
 unfolding keepsRules
 kept n r k =
-    ap₂ _&&_ (ap₂ _&&_ (ap₂ _&&_ (ap₂ _&&_ (lt-ltb _ _ (k .held-lt)) (lt-ltb _ _ (k .stale-lt))) (all-of n _ (k .apart))) (le-leb _ _ (k .flag-le))) (k .one-held)
+    ap₂ _&&_
+    (ap₂ _&&_ (ap₂ _&&_ (ap₂ _&&_ (ap₂ _&&_ (lt-ltb _ _ (k .held-lt)) (lt-ltb _ _ (k .stale-lt))) (all-of n _ (k .apart))) (le-leb _ _ (k .flag-le))) (k .one-held))
+    (k .mark-fits)
 
--- the rules by operations on whole masks
-pub rules-are : (n : ℕ) (r : FrameRecord) → keepsRules n r
+-- the colours' rules by operations on whole masks
+pub rules-are : (n : ℕ) (r : FrameRecord) → coloursKeepRules n r
     ≡ (ltb (bitOr (r .held) (r .stale)) (2 ^ n) && (eqb (bitAnd (r .held) (r .stale)) 0 && leb (r .dirty) 1 && (not (flag r) || eqb (ones (r .held)) 1)))
-unfolding keepsRules
+unfolding coloursKeepRules
 rules-are n r = go (ltb (r .held) (2 ^ n)) (ltb (r .stale) (2 ^ n)) refl refl
   where
     Rules : Bool → Type 0
-    Rules fits = keepsRules n r ≡ (fits && (eqb (bitAnd (r .held) (r .stale)) 0 && leb (r .dirty) 1 && (not (flag r) || eqb (ones (r .held)) 1)))
+    Rules fits = coloursKeepRules n r ≡ (fits && (eqb (bitAnd (r .held) (r .stale)) 0 && leb (r .dirty) 1 && (not (flag r) || eqb (ones (r .held)) 1)))
 
     go : (h s : Bool) → ltb (r .held) (2 ^ n) ≡ h → ltb (r .stale) (2 ^ n) ≡ s → Rules (ltb (bitOr (r .held) (r .stale)) (2 ^ n))
     go true true eh es =

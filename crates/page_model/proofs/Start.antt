@@ -18,6 +18,7 @@ start-record n = (
         apart = λ k l. ap not (ap₂ _&&_ (bit-none k) (bit-none k));
         flag-le = omega arith;
         one-held = refl;
+        mark-fits = refl;
       }),
   λ k. simp bit-none,
 )

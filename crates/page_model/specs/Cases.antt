@@ -1,11 +1,13 @@
--- The numbers that the code's cases go by, in the order of document 01's tables: what each stands for, the cell that they name, and the
--- record that a colour more in a numbered state makes.
-use mathlib.Core.Bool.{Bool}
+-- The numbers that the code's cases go by, in the order of document 01's tables: what each stands for, the cell that they name, the busy mark
+-- that they leave, and the record that a colour more in a numbered state makes.
+use mathlib.Core.Bool.{Bool, cond}
 use Prim.Native.Nat.{ℕ, zero, suc}
+use lib.Dec.{eqb}
 use Rattle.bits.specs.Mask.{withBit}
 use Rattle.page_model.specs.declared.FrameRecord.{FrameRecord}
 use Rattle.page_model.specs.declared.table.Case.{Case}
-use Rattle.page_model.specs.Table.{ColourState, empty, present, dirty, stale, Operation, none, flush, purge, Cell, _⇒_, Role, readCell, writeCell, deviceReadCell, deviceWriteCell, deviceWritePartCell, Step, read, write, deviceRead, deviceWrite, deviceWritePart, roleIf}
+use Rattle.page_model.specs.Busy.{reading, writing}
+use Rattle.page_model.specs.Table.{ColourState, empty, present, dirty, stale, Operation, none, flush, purge, Cell, _⇒_, Role, readCell, writeCell, deviceReadCell, deviceWriteCell, deviceWritePartCell, beginReadCell, beginWriteCell, Step, read, write, deviceRead, deviceWrite, deviceWritePart, beginRead, beginWrite, roleIf}
 
 -- ---- the numbers
 
@@ -26,6 +28,8 @@ stepNumber (write c) = 1
 stepNumber deviceRead = 2
 stepNumber deviceWrite = 3
 stepNumber deviceWritePart = 4
+stepNumber beginRead = 5
+stepNumber beginWrite = 6
 
 -- ---- the cell by numbers
 
@@ -39,7 +43,9 @@ rowAt (suc zero) = writeCell
 rowAt (suc (suc zero)) = λ role. deviceReadCell
 rowAt (suc (suc (suc zero))) = λ role. deviceWriteCell
 rowAt (suc (suc (suc (suc zero)))) = λ role. deviceWritePartCell
-rowAt (suc (suc (suc (suc (suc step))))) = λ role state. none ⇒ state
+rowAt (suc (suc (suc (suc (suc zero))))) = λ role. beginReadCell
+rowAt (suc (suc (suc (suc (suc (suc zero)))))) = λ role. beginWriteCell
+rowAt (suc (suc (suc (suc (suc (suc (suc step))))))) = λ role state. none ⇒ state
 
 -- the cell of a state's number in a row; any other number has no operation and is left as it is
 abbrev pub caseIn : (ColourState → Cell) → ℕ → Case
@@ -53,12 +59,16 @@ caseIn row (suc (suc (suc (suc state)))) = record { 0 = operationNumber none; 1 
 unfoldable pub caseAt : ℕ → Bool → ℕ → Case
 caseAt step own state = caseIn (rowAt step (roleIf own)) state
 
+-- the mark that a step's number leaves; any but that of a beginning leaves it as it is
+abbrev pub markAt : ℕ → ℕ → ℕ
+markAt step mark = cond (eqb step 5) reading (cond (eqb step 6) writing mark)
+
 -- ---- a record, colour by colour
 
 -- the record with colour k, so far empty, in the state of a number; any number but a state's leaves it as it is
 abbrev pub withState : FrameRecord → ℕ → ℕ → FrameRecord
 withState r k zero = r
-withState r k (suc zero) = record { held = withBit (r .held) k; stale = r .stale; dirty = r .dirty }
-withState r k (suc (suc zero)) = record { held = withBit (r .held) k; stale = r .stale; dirty = 1 }
-withState r k (suc (suc (suc zero))) = record { held = r .held; stale = withBit (r .stale) k; dirty = r .dirty }
+withState r k (suc zero) = record { held = withBit (r .held) k; stale = r .stale; dirty = r .dirty; busy = r .busy }
+withState r k (suc (suc zero)) = record { held = withBit (r .held) k; stale = r .stale; dirty = 1; busy = r .busy }
+withState r k (suc (suc (suc zero))) = record { held = r .held; stale = withBit (r .stale) k; dirty = r .dirty; busy = r .busy }
 withState r k (suc (suc (suc (suc state)))) = r

@@ -1,7 +1,7 @@
--- Document 01, "Frame records and mapping list": what a frame's record says of each colour, when it keeps the rules, and the record that
--- states encode to. For any number n of colours.
+-- Document 01, "Frame records and mapping list", with request N6's busy mark: what a frame's record says of each colour, when it keeps the
+-- rules, and the record that states and a mark encode to. For any number n of colours.
 use mathlib.Core.Bool.{Bool, true, false, not, _&&_, _||_}
-use Prim.Native.Nat.{ℕ, _^_}
+use Prim.Native.Nat.{ℕ, zero, suc, _^_}
 use lib.Dec.{eqb, leb, ltb}
 use Rattle.bits.specs.Mask.{bit, digit, maskOf, countOf, all, any}
 use Rattle.page_model.specs.declared.FrameRecord.{FrameRecord}
@@ -22,12 +22,23 @@ stateOf r k = stateFrom (bit (r .stale) k) (bit (r .held) k) (eqb (r .dirty) 1)
 -- ---- the rules
 
 -- No bit stands past the colours, none in both masks, the flag is 0 or 1, and with the flag set the held mask has exactly one bit.
-unfoldable pub keepsRules : ℕ → FrameRecord → Bool
-keepsRules n r =
+unfoldable pub coloursKeepRules : ℕ → FrameRecord → Bool
+coloursKeepRules n r =
     ltb (r .held) (2 ^ n) && ltb (r .stale) (2 ^ n)
     && all n (λ k. not (bit (r .held) k && bit (r .stale) k))
     && leb (r .dirty) 1
     && (not (eqb (r .dirty) 1) || eqb (countOf n (bit (r .held))) 1)
+
+-- A frame is free, a device reads it, with no colour dirty, or writes it, with none held or dirty: by mark, flag and held mask.
+abbrev pub markFits : ℕ → ℕ → ℕ → Bool
+markFits zero flag held = true
+markFits (suc zero) flag held = eqb flag 0
+markFits (suc (suc zero)) flag held = eqb held 0
+markFits (suc (suc (suc mark))) flag held = false
+
+unfoldable pub keepsRules : ℕ → FrameRecord → Bool
+unfolding coloursKeepRules
+keepsRules n r = coloursKeepRules n r && markFits (r .busy) (r .dirty) (r .held)
 
 -- ---- encoding
 
@@ -49,15 +60,20 @@ isStale present = false
 isStale dirty = false
 isStale stale = true
 
--- the record of a frame whose colours are in these states
-unfoldable pub encode : ℕ → (ℕ → ColourState) → FrameRecord
-encode n states =
+-- the record of a frame with this mark, whose colours are in these states
+unfoldable pub encode : ℕ → ℕ → (ℕ → ColourState) → FrameRecord
+encode n mark states =
     record {
       held = maskOf n (λ k. isHeld (states k));
       stale = maskOf n (λ k. isStale (states k));
       dirty = digit (any n (λ k. isDirty (states k)));
+      busy = mark;
     }
 
 -- the record that every frame has at the start
 abbrev pub startRecord : FrameRecord
-startRecord = record { held = 0; stale = 0; dirty = 0 }
+startRecord = record { held = 0; stale = 0; dirty = 0; busy = 0 }
+
+-- the record once its transfer has ended
+abbrev pub ended : FrameRecord → FrameRecord
+ended r = record { held = r .held; stale = r .stale; dirty = r .dirty; busy = 0 }

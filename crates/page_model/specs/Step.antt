@@ -9,6 +9,7 @@ use Rattle.page_model.specs.declared.Op.{Op}
 use Rattle.page_model.specs.declared.Op.the-variants.{None, Flush, Purge}
 use Rattle.page_model.specs.declared.Ops.{Ops}
 use Rattle.page_model.specs.declared.Stepped.{Stepped}
+use Rattle.page_model.specs.Busy.{markAfter}
 use Rattle.page_model.specs.Record.{stateOf, encode}
 use Rattle.page_model.specs.Table.{Operation, none, flush, purge, Cell, Step, cellAt}
 
@@ -28,7 +29,7 @@ cellOf s r k = cellAt s k (stateOf r k)
 
 -- the record after the step
 unfoldable pub recordAfter : ℕ → Step → FrameRecord → FrameRecord
-recordAfter n s r = encode n (λ k. cellOf s r k .next)
+recordAfter n s r = encode n (markAfter s (r .busy)) (λ k. cellOf s r k .next)
 
 -- the step's operations, each with its colour
 unfoldable pub operations : ℕ → Step → FrameRecord → List Op

@@ -1,4 +1,5 @@
--- Document 01, "The page model": both tables, cell by cell, in its order of steps and states; request N3's transfer of a part stands last.
+-- Document 01, "The page model": both tables, cell by cell, in its order of steps and states; request N3's transfer of a part and request
+-- N6's beginnings stand last.
 use mathlib.Core.Bool.{Bool, true, false}
 use Prim.Native.Nat.{ℕ, suc}
 use lib.Dec.{eqb}
@@ -69,12 +70,26 @@ deviceWritePartCell present = none ⇒ stale
 deviceWritePartCell dirty = flush ⇒ empty
 deviceWritePartCell stale = none ⇒ stale
 
+-- the beginning of a read by a device that takes a while
+abbrev pub beginReadCell : ColourState → Cell
+beginReadCell empty = none ⇒ empty
+beginReadCell present = none ⇒ present
+beginReadCell dirty = flush ⇒ empty
+beginReadCell stale = none ⇒ stale
+
+-- and of a write
+abbrev pub beginWriteCell : ColourState → Cell
+beginWriteCell empty = none ⇒ empty
+beginWriteCell present = none ⇒ stale
+beginWriteCell dirty = flush ⇒ empty
+beginWriteCell stale = none ⇒ stale
+
 -- ---- a step
 
 -- A processor's step goes through a colour; a transfer concerns all colours alike.
 pub data Step : Type 0 where
   read write : ℕ → Step
-  deviceRead deviceWrite deviceWritePart : Step
+  deviceRead deviceWrite deviceWritePart beginRead beginWrite : Step
 
 abbrev pub roleIf : Bool → Role
 roleIf true = own
@@ -87,6 +102,8 @@ cellAt (write c) k s = writeCell (roleIf (eqb c k)) s
 cellAt deviceRead k s = deviceReadCell s
 cellAt deviceWrite k s = deviceWriteCell s
 cellAt deviceWritePart k s = deviceWritePartCell s
+cellAt beginRead k s = beginReadCell s
+cellAt beginWrite k s = beginWriteCell s
 
 -- the colour that a step goes through; a transfer goes through none, and 0 stands for that: its cells do not look at it
 abbrev pub ownOf : Step → ℕ
@@ -95,6 +112,8 @@ ownOf (write c) = c
 ownOf deviceRead = 0
 ownOf deviceWrite = 0
 ownOf deviceWritePart = 0
+ownOf beginRead = 0
+ownOf beginWrite = 0
 
 -- how many colours a step asks for, so that the one it goes through is among them
 abbrev pub reach : Step → ℕ
@@ -103,3 +122,5 @@ reach (write c) = suc c
 reach deviceRead = 0
 reach deviceWrite = 0
 reach deviceWritePart = 0
+reach beginRead = 0
+reach beginWrite = 0

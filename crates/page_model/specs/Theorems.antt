@@ -8,7 +8,8 @@ use lib.ListN.{length}
 use Rattle.page_model.specs.declared.FrameRecord.{FrameRecord}
 use Rattle.page_model.specs.declared.Op.{Op}
 use Rattle.page_model.specs.declared.Op.the-variants.{Flush, Purge}
-use Rattle.page_model.specs.Record.{stateOf, keepsRules, encode, isHeld, startRecord}
+use Rattle.page_model.specs.Busy.{reading, writing, bars}
+use Rattle.page_model.specs.Record.{stateOf, keepsRules, encode, isHeld, isDirty, startRecord, ended}
 use Rattle.page_model.specs.Step.{cellOf, recordAfter, operations, opList, OpBelow, stepped}
 use Rattle.page_model.specs.Table.{ColourState, empty, present, dirty, stale, Step, read, write}
 
@@ -20,23 +21,38 @@ StartRecord = (n : ℕ) → (keepsRules n startRecord ≡ true) × ((k : ℕ) �
 
 -- encoding what a record says gives the record
 abbrev pub EncodeDecode : Type 0
-EncodeDecode = (n : ℕ) (r : FrameRecord) → keepsRules n r ≡ true → encode n (stateOf r) ≡ r
+EncodeDecode = (n : ℕ) (r : FrameRecord) → keepsRules n r ≡ true → encode n (r .busy) (stateOf r) ≡ r
 
 -- states of which a dirty one is the only one held
 abbrev pub OneOwner : ℕ → (ℕ → ColourState) → Type 0
 OneOwner n states = (j k : ℕ) → j < n → k < n → states j ≡ dirty → isHeld (states k) ≡ true → j ≡ k
 
--- decoding what states encode to gives the states, and the record keeps the rules
+-- a mark that goes with states: free, or a device reads and none is dirty, or it writes and none is present or dirty
+pub record MarkFits (n mark : ℕ) (states : ℕ → ColourState) : Type 0 where
+  pub is-mark : mark ≤ writing
+  pub none-dirty : mark ≡ reading → (k : ℕ) → k < n → isDirty (states k) ≡ false
+  pub none-held : mark ≡ writing → (k : ℕ) → k < n → isHeld (states k) ≡ false
+
+-- decoding what a mark and states encode to gives the states, and the record keeps the rules if the mark goes with the states
 abbrev pub DecodeEncode : Type 0
 DecodeEncode =
-    (n : ℕ) (states : ℕ → ColourState) → OneOwner n states
-    → (keepsRules n (encode n states) ≡ true) × ((k : ℕ) → k < n → stateOf (encode n states) k ≡ states k)
+    (n mark : ℕ) (states : ℕ → ColourState) → OneOwner n states
+    → (MarkFits n mark states → keepsRules n (encode n mark states) ≡ true) × ((k : ℕ) → k < n → stateOf (encode n mark states) k ≡ states k)
+
+-- and of a record that keeps the rules the mark goes with the states
+abbrev pub KeptMark : Type 0
+KeptMark = (n : ℕ) (r : FrameRecord) → keepsRules n r ≡ true → MarkFits n (r .busy) (stateOf r)
+
+-- a record whose transfer has ended keeps the rules, and each colour's state is as it was
+abbrev pub EndedRecord : Type 0
+EndedRecord = (n : ℕ) (r : FrameRecord) → keepsRules n r ≡ true → (keepsRules n (ended r) ≡ true) × ((k : ℕ) → stateOf (ended r) k ≡ stateOf r k)
 
 -- ---- a step
 
--- a step of a record that keeps the rules keeps them
+-- a step of a record that keeps the rules keeps them, if the record's mark does not bar it
 abbrev pub StepKeepsRules : Type 0
-StepKeepsRules = (n : ℕ) (s : Step) (r : FrameRecord) → keepsRules n r ≡ true → keepsRules n (recordAfter n s r) ≡ true
+StepKeepsRules =
+    (n : ℕ) (s : Step) (r : FrameRecord) → keepsRules n r ≡ true → bars (r .busy) s ≡ false → keepsRules n (recordAfter n s r) ≡ true
 
 -- the state of a colour after a step is its cell's
 abbrev pub StateAfter : Type 0
@@ -79,9 +95,13 @@ passesWrite stale = false
 abbrev pub Idle : ℕ → Step → FrameRecord → Type 0
 Idle n s r = (operations n s r ≡ []) × (recordAfter n s r ≡ r)
 
--- an access is idle exactly if its colour's state lets it pass
+-- a step that the record's mark does not bar, and that is idle
+abbrev pub Passes : ℕ → Step → FrameRecord → Type 0
+Passes n s r = (bars (r .busy) s ≡ false) × Idle n s r
+
+-- an access passes exactly if its colour's state lets it
 abbrev pub ReadPasses : Type 0
-ReadPasses = (n c : ℕ) (r : FrameRecord) → c < n → keepsRules n r ≡ true → (passesRead (stateOf r c) ≡ true) ↔ Idle n (read c) r
+ReadPasses = (n c : ℕ) (r : FrameRecord) → c < n → keepsRules n r ≡ true → (passesRead (stateOf r c) ≡ true) ↔ Passes n (read c) r
 
 abbrev pub WritePasses : Type 0
-WritePasses = (n c : ℕ) (r : FrameRecord) → c < n → keepsRules n r ≡ true → (passesWrite (stateOf r c) ≡ true) ↔ Idle n (write c) r
+WritePasses = (n c : ℕ) (r : FrameRecord) → c < n → keepsRules n r ≡ true → (passesWrite (stateOf r c) ≡ true) ↔ Passes n (write c) r

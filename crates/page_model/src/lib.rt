@@ -1,17 +1,19 @@
 // The page model: a frame's record, and what each step makes of it.
+pub mod busy;
 mod table;
 
 ghost use mathlib.Core.Path.{_≡_};
-ghost use mathlib.Core.Bool.{true, cond};
+ghost use mathlib.Core.Bool.{true, cond, not};
 ghost use mathlib.Core.List.{_++_};
 ghost use Prim.Native.Nat.{ℕ, _≤_, _<_};
 ghost use lib.Count.{trailingZeros};
 ghost use lib.Dec.{eqb};
 ghost use Rattle.bits.specs.Mask.{width, withBit};
 ghost use Rattle.page_model.specs.Cases.{stateNumber, stepNumber, withState};
-ghost use Rattle.page_model.specs.Record.{keepsRules, stateOf, isHeld, isDirty};
+ghost use Rattle.page_model.specs.Busy.{free, bars};
+ghost use Rattle.page_model.specs.Record.{keepsRules, coloursKeepRules, stateOf, isHeld, isDirty, ended};
 ghost use Rattle.page_model.specs.Step.{stepped, firstTwo, opList};
-ghost use Rattle.page_model.specs.Table.{Step, ownOf, reach, read, write, deviceRead, deviceWrite, deviceWritePart};
+ghost use Rattle.page_model.specs.Table.{Step, ownOf, reach, read, write, deviceRead, deviceWrite, deviceWritePart, beginRead, beginWrite};
 
 // An operation that the cache is to carry out on one colour of a frame: document 01's order.
 pub enum Op {
@@ -26,11 +28,13 @@ pub struct Ops {
     pub second: Op,
 }
 
-// What is known of a frame in the cache: bit c of a mask stands for colour c, and dirty is 0 or 1.
+// What is known of a frame in the cache: bit c of a mask stands for colour c, and dirty is 0 or 1. The mark busy is 0 where the frame is free, 1
+// while a device reads it and 2 while a device writes it.
 pub struct FrameRecord {
     pub held: u32,
     pub stale: u32,
     pub dirty: u32,
+    pub busy: u32,
 }
 
 // The record after a step, and the operations that come first.
@@ -43,10 +47,21 @@ pub struct Stepped {
 const COLOURS: usize = 32;
 
 impl FrameRecord {
-    // Whether the record keeps the rules: no bit past the colours, none in both masks, the flag 0 or 1, and with the flag set exactly one held bit.
+    // Whether the record keeps the rules.
     pub fn keeps_rules(self, colours: usize) -> bool
         requires { ⌜ colours ≤ width ⌝ }
         ensures { λ r. ⌜ r ≡ keepsRules colours self ⌝ }
+    {
+        if !busy::mark_fits(self.busy, self.dirty, self.held) {
+            return false;
+        }
+        self.colours_keep_rules(colours)
+    }
+
+    // Whether no bit is past the colours, none in both masks, the flag 0 or 1, and with the flag set exactly one held bit.
+    fn colours_keep_rules(self, colours: usize) -> bool
+        requires { ⌜ colours ≤ width ⌝ }
+        ensures { λ r. ⌜ r ≡ coloursKeepRules colours self ⌝ }
     {
         if !bits::within(self.held | self.stale, colours) {
             return false;
@@ -97,6 +112,46 @@ impl FrameRecord {
         self.step(table::DEVICE_WRITE_PART, 0)
     }
 
+    // A device begins to read the frame's page, word by word.
+    pub fn begin_read(self) -> Stepped
+        ensures { λ r. ⌜ ((n : ℕ) → n ≤ width → keepsRules n self ≡ true → r ≡ stepped n beginRead self) ⌝ }
+    {
+        self.step(table::BEGIN_READ, 0)
+    }
+
+    // A device begins to write the frame's page, word by word.
+    pub fn begin_write(self) -> Stepped
+        ensures { λ r. ⌜ ((n : ℕ) → n ≤ width → keepsRules n self ≡ true → r ≡ stepped n beginWrite self) ⌝ }
+    {
+        self.step(table::BEGIN_WRITE, 0)
+    }
+
+    // A device ends its transfer.
+    pub fn end(self) -> FrameRecord
+        ensures { λ r. ⌜ r ≡ ended self ⌝ }
+    {
+        FrameRecord {
+            held: self.held,
+            stale: self.stale,
+            dirty: self.dirty,
+            busy: busy::FREE,
+        }
+    }
+
+    // Whether the busy mark bars a read of the processor.
+    pub fn bars_read(self) -> bool
+        ensures { λ r. ⌜ ((c : ℕ) → r ≡ bars (self .busy) (read c)) ⌝ }
+    {
+        self.busy == busy::WRITING
+    }
+
+    // Whether the frame is busy, which bars a write of the processor and every new transfer.
+    pub fn is_busy(self) -> bool
+        ensures { λ r. ⌜ r ≡ not (eqb (self .busy) free) ⌝ }
+    {
+        self.busy != busy::FREE
+    }
+
     // Whether a colour is present or dirty, in any record.
     pub fn holds(self, colour: usize) -> bool
         requires { ⌜ colour < width ⌝ }
@@ -122,6 +177,7 @@ impl FrameRecord {
             held: 0,
             stale: 0,
             dirty: 0,
+            busy: busy::mark_after(step, self.busy),
         };
         let mut flushes = 0;
         let mut purges = 0;
@@ -167,16 +223,19 @@ impl FrameRecord {
                 held: bits::with_bit(self.held, colour),
                 stale: self.stale,
                 dirty: self.dirty,
+                busy: self.busy,
             },
             table::DIRTY => FrameRecord {
                 held: bits::with_bit(self.held, colour),
                 stale: self.stale,
                 dirty: 1,
+                busy: self.busy,
             },
             table::STALE => FrameRecord {
                 held: self.held,
                 stale: bits::with_bit(self.stale, colour),
                 dirty: self.dirty,
+                busy: self.busy,
             },
             4..=255 => self,
         }

@@ -1,5 +1,5 @@
-// Document 01's two tables and request N3's row, by cases: what a step makes of one colour's state, own or other. Steps, rows and states stand
-// in the papers' order.
+// Document 01's two tables, request N3's row and request N6's two, by cases: what a step makes of one colour's state, own or other. Steps, rows
+// and states stand in the papers' order.
 ghost use mathlib.Core.Path.{_≡_};
 ghost use Rattle.page_model.specs.Cases.{caseAt};
 
@@ -29,6 +29,10 @@ pub const DEVICE_READ: u8 = 2;
 pub const DEVICE_WRITE: u8 = 3;
 
 pub const DEVICE_WRITE_PART: u8 = 4;
+
+pub const BEGIN_READ: u8 = 5;
+
+pub const BEGIN_WRITE: u8 = 6;
 
 // A cell of the tables: an operation, and the state after it.
 pub struct Case(pub u8, pub u8);
@@ -107,7 +111,23 @@ pub fn case_at(step: u8, own: bool, state: u8) -> Case
             STALE => Case(NONE, STALE),
             4..=255 => Case(NONE, state),
         },
+        // begin read, every colour
+        BEGIN_READ => match state {
+            EMPTY => Case(NONE, EMPTY),
+            PRESENT => Case(NONE, PRESENT),
+            DIRTY => Case(FLUSH, EMPTY),
+            STALE => Case(NONE, STALE),
+            4..=255 => Case(NONE, state),
+        },
+        // begin write, every colour
+        BEGIN_WRITE => match state {
+            EMPTY => Case(NONE, EMPTY),
+            PRESENT => Case(NONE, STALE),
+            DIRTY => Case(FLUSH, EMPTY),
+            STALE => Case(NONE, STALE),
+            4..=255 => Case(NONE, state),
+        },
         // no step
-        5..=255 => Case(NONE, state),
+        7..=255 => Case(NONE, state),
     }
 }

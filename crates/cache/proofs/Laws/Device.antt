@@ -4,13 +4,14 @@ use mathlib.Core.Logic.{_≢_}
 use mathlib.Core.List.{List}
 use Prim.Native.Nat.{ℕ, _+_, _-_, _≤_, _<_}
 use native.Mathlib.Omega.{arith}
-use lib.ListN.{length, getD}
+use lib.ListN.{length, getD, set, length-set}
+use lib.Seq.{getD-set-same, getD-set-other}
 use Rattle.board.specs.declared.Board.{Board}
 use Rattle.board.specs.Board.{Regular, frameAt, memoryAt}
-use Rattle.board.proofs.Geometry.{frameAt-end, frameAt-within}
+use Rattle.board.proofs.Geometry.{frameAt-end, frameAt-within, memoryAt-lt}
 use Rattle.cache.specs.Part.{overlay}
 use Rattle.cache.specs.Store.{Store, WellFormed, memoryWord}
-use Rattle.cache.specs.Cache.{deviceRead, deviceWrite}
+use Rattle.cache.specs.Cache.{deviceRead, deviceWrite, bringWord}
 use Rattle.cache.proofs.Laws.Part.{length-part, part-at, length-overlay, overlay-inside, overlay-outside}
 
 module _ (b : Board) (reg : Regular b) (f : ℕ) (hf : f < b .frames) (s : Store) (wf : WellFormed b s) where
@@ -66,3 +67,38 @@ module _ (b : Board) (reg : Regular b) (f : ℕ) (hf : f < b .frames) (s : Store
     deviceWrite-memory-other g o ho ne =
         overlay-outside (s .memory) (memoryAt b f first) buffer fits (memoryAt b g o)
         (λ low high. ne (frameAt-within b reg f g o ho (omega arith) (omega arith)))
+
+  -- ---- one word, at offset o
+
+  module _ (o v : ℕ) (ho : o < b .page) where
+    pub bringWord-kept : WellFormed b (bringWord b f o v s)
+    unfolding bringWord
+    bringWord-kept =
+        record {
+          memory-length = length-set (s .memory) (memoryAt b f o) v ∙ wf .memory-length;
+          words-length = wf .words-length;
+          tags-length = wf .tags-length;
+          tags-rules = wf .tags-rules;
+        }
+
+    pub bringWord-tags : bringWord b f o v s .tags ≡ s .tags
+    unfolding bringWord
+    bringWord-tags = refl
+
+    pub bringWord-words : bringWord b f o v s .words ≡ s .words
+    unfolding bringWord
+    bringWord-words = refl
+
+    pub bringWord-memory-same : memoryWord b (bringWord b f o v s) f o ≡ v
+    unfolding bringWord
+    bringWord-memory-same = let e = wf .memory-length in getD-set-same (s .memory) (memoryAt b f o) v 0 (omega (arith, memoryAt-lt b reg f o hf ho))
+
+    -- the frame's others, and another frame's
+    pub bringWord-memory-rest : (p : ℕ) → p ≢ o → memoryWord b (bringWord b f o v s) f p ≡ memoryWord b s f p
+    unfolding bringWord memoryAt
+    bringWord-memory-rest p ne = getD-set-other (s .memory) (memoryAt b f o) (memoryAt b f p) v 0 (λ e. ne (omega arith))
+
+    pub bringWord-memory-other : (g p : ℕ) → p < b .page → g ≢ f → memoryWord b (bringWord b f o v s) g p ≡ memoryWord b s g p
+    unfolding bringWord memoryAt
+    bringWord-memory-other g p hp ne =
+        getD-set-other (s .memory) (memoryAt b f o) (memoryAt b g p) v 0 (λ e. ne (frameAt-within b reg f g p hp (omega arith) (omega arith)))

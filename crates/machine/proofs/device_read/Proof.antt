@@ -26,7 +26,7 @@ send-requires c κs =
     let at = plan-of commit in
     let plan = at .before .before in
     let a = start-of plan .args in
-    transfer-requires board01 _ _ _ (a .frame) (a .buffer .now) [] board01-regular
+    transfer-requires board01 _ _ _ (a .frame) (a .buffer .now) _ board01-regular
     (sym (plan .plan-device-read .ensures) ∙ at .plan .given .1) refl refl
 
 returns : tie.Need-returns

@@ -1,6 +1,5 @@
 -- `machine::read` meets its contract.
 use mathlib.Core.Path.{refl, sym, ap, _∙_}
-use mathlib.Core.List.{[]}
 use mathlib.Core.Option.{some}
 use borrow.Author.Needs.{needs}
 use Rattle.board.specs.Board.{board01, colourOf}
@@ -27,7 +26,7 @@ load-requires c κs =
     let at = plan-of commit in
     let plan = at .before .before in
     let a = start-of plan .args in
-    access-requires board01 _ _ _ (a .space) (a .page) (a .offset) [] board01-regular
+    access-requires board01 _ _ _ (a .space) (a .page) (a .offset) _ board01-regular
     (sym (plan .plan-read .ensures) ∙ at .plan .given .1) refl (colour .colour-of .ensures .0)
 
 returns : tie.Need-returns

@@ -6,9 +6,9 @@ use borrow.Author.Needs.{needs}
 use Rattle.board.specs.Board as board-of
 use Rattle.mapping.proofs.Laws.{items-length}
 use Rattle.manager.proofs.CauseLaws.{told-tables}
-use Rattle.manager.specs.Refusals.{refusalPlace, inOrder, firstRefusal, tableCauses}
+use Rattle.manager.specs.Refusals.{refusalPlace, inOrder, firstRefusal, offsetCause, tableCauses}
 use Rattle.cache.specs.Store.{store}
-use Rattle.machine.specs.Refusals.{offsetCause, ownCauses}
+use Rattle.machine.specs.Refusals.{ownCauses}
 use Rattle.machine.specs.Plans.{accessCauses, earlier}
 use Rattle.machine.proofs.MergeLaws.{causes-merged}
 use Rattle.machine.proofs.plans.evict_refusal.Statement.{statement}

@@ -2,7 +2,8 @@
 use mathlib.Core.Path.{refl}
 use mathlib.Core.List.{[], _∷_}
 use borrow.Author.Needs.{needs}
-use Rattle.manager.specs.Refusals.{refusalPlace, inOrder, frameCause, partCause, partCauses}
+use Rattle.page_model.specs.Table.{deviceWritePart}
+use Rattle.manager.specs.Refusals.{refusalPlace, inOrder, frameCause, partCause, busyCause, partCauses}
 use Rattle.machine.specs.Refusals.{ownCauses}
 use Rattle.machine.specs.Plans.{storeCauses}
 use Rattle.machine.proofs.MergeLaws.{step-merged}
@@ -14,7 +15,7 @@ unfolding inOrder refusalPlace ownCauses storeCauses partCauses
 returns c =
     let a = c .before .before .before .before .before .before .before .before .before .args in
     step-merged _ _ _ []
-    (frameCause (a .board) (a .frame) ∷ partCause (a .board) (a .first) (a .number) ∷ [])
+    (frameCause (a .board) (a .frame) ∷ partCause (a .board) (a .first) (a .number) ∷ busyCause (a .records .now) (a .frame) deviceWritePart ∷ [])
     refl refl refl _ (c .with-step .ensures) (c .before .before .transfer-refusal .ensures) (c .before .plan-device-write-part .ensures)
 
 pub plan-device-write-part-spec : {M : Type 1} → statement M

@@ -2,8 +2,11 @@
 use mathlib.Core.Path.{refl}
 use mathlib.Core.List.{[], _∷_}
 use borrow.Author.Needs.{needs}
-use Rattle.manager.specs.Refusals.{refusalPlace, inOrder, spaceCause, unmappedCause, readOnlyCause, writeCauses}
-use Rattle.machine.specs.Refusals.{offsetCause, ownCauses}
+use Rattle.board.specs.Board.{colourOf}
+use Rattle.page_model.specs.Table.{write}
+use Rattle.mapping.specs.Lookup.{listedMapping}
+use Rattle.manager.specs.Refusals.{refusalPlace, inOrder, spaceCause, offsetCause, unmappedCause, readOnlyCause, busyCause, writeCauses}
+use Rattle.machine.specs.Refusals.{ownCauses}
 use Rattle.machine.specs.Plans.{accessCauses}
 use Rattle.machine.proofs.MergeLaws.{step-merged}
 use Rattle.machine.proofs.plans.plan_write.Statement.{statement}
@@ -14,7 +17,7 @@ unfolding inOrder refusalPlace ownCauses accessCauses writeCauses
 returns c =
     let a = c .before .before .before .before .before .before .before .before .args in
     step-merged _ _ _ (offsetCause (a .board .page) (a .offset) ∷ [])
-    (spaceCause (a .space) (a .page) ∷ unmappedCause (a .list) (a .space) (a .page) ∷ readOnlyCause (a .list) (a .space) (a .page) ∷ [])
+    (spaceCause (a .space) (a .page) ∷ unmappedCause (a .list) (a .space) (a .page) ∷ readOnlyCause (a .list) (a .space) (a .page) ∷ busyCause (a .records .now) (listedMapping (a .list) (a .space) (a .page) .frame) (write (colourOf (a .board) (a .page))) ∷ [])
     refl refl refl _ (c .with-step .ensures) (c .before .before .access-refusal .ensures) (c .before .plan-write .ensures)
 
 pub plan-write-spec : {M : Type 1} → statement M

@@ -22,15 +22,22 @@ add-put-word-2 c = search needs
 put-word-requires-3 : tie.Need-put-word-requires-3
 put-word-requires-3 c κs = search needs
 
+add-put-word-3 : tie.Need-add-put-word-3
+add-put-word-3 c = search needs
+
+put-word-requires-4 : tie.Need-put-word-requires-4
+put-word-requires-4 c κs = search needs
+
 same-length : tie.Need-same-length
 same-length c = search needs
 
 returns : tie.Need-returns
 unfolding putRecord
 returns c =
-    let after-put-word2 = c .before .before .before .before .before .before in
+    let after-put-word3 = c .before .before .before .before .before .before in
+    let after-put-word2 = after-put-word3 .before .before .before .before in
     let after-put-word = after-put-word2 .before .before .before .before in
-    rw (c .before .before .put-word3 .ensures, after-put-word2 .put-word2 .ensures, after-put-word .put-word .ensures)
+    rw (c .before .before .put-word4 .ensures, after-put-word3 .put-word3 .ensures, after-put-word2 .put-word2 .ensures, after-put-word .put-word .ensures)
 
 pub put-record-spec : {M : Type 1} → statement M
 put-record-spec =
@@ -42,5 +49,7 @@ put-record-spec =
     put-word-requires-2
     add-put-word-2
     put-word-requires-3
+    add-put-word-3
+    put-word-requires-4
     same-length
     returns)

@@ -1,42 +1,29 @@
 -- `page_model::FrameRecord::keeps_rules` meets its contract.
+use mathlib.Core.Path.{_≡_, sym, ap, _∙_}
+use mathlib.Core.Bool.{Bool, true, false, _&&_, and-false, and-true}
+use Prim.Native.Nat.{ℕ}
 use borrow.Author.Needs.{needs}
-use Prim.Native.Nat.{ℕ, _<_}
-use native.Mathlib.Omega.{arith}
-use mathlib.Core.Path.{_≡_, sym, _∙_}
-use borrow.Author.Tests.{eq-eqb, ne-eqb, lt-leb, not-true, not-false}
-use Rattle.page_model.proofs.Rules.{rules-are}
+use borrow.Author.Tests.{not-true, not-false}
+use Rattle.page_model.specs.declared.FrameRecord.{FrameRecord}
+use Rattle.page_model.specs.Record.{coloursKeepRules, markFits, keepsRules}
 use Rattle.page_model.proofs.FrameRecord.keeps_rules.Statement.{statement}
 use Rattle.page_model.proofs.FrameRecord.keeps_rules.Tie as tie
 
-two-up : {d : ℕ} → (d ≡ 0 → ⊥) → (d ≡ 1 → ⊥) → 1 < d
-two-up {d} h l = omega arith
+-- where the mark does not fit, and where it does
+broken : (n : ℕ) (r : FrameRecord) → markFits (r .busy) (r .dirty) (r .held) ≡ false → false ≡ keepsRules n r
+unfolding keepsRules
+broken n r e = sym (ap (λ (b : Bool). coloursKeepRules n r && b) e ∙ and-false (coloursKeepRules n r))
 
-within-requires : tie.Need-within-requires
-within-requires c κs = search needs
-
-returns : tie.Need-returns
-returns c = sym (rules-are _ _ ∙ rw (sym (c .before .within .ensures) ∙ not-true _ (c .if1 .taken)))
-
-returns-2 : tie.Need-returns-2
-returns-2 c =
-    let e = c .before .before in
-    sym (rules-are _ _ ∙ rw (sym (e .before .within .ensures) ∙ not-false _ (e .if1 .left), ne-eqb _ _ (c .if2 .taken)))
-
-returns-3 : tie.Need-returns-3
-returns-3 c =
-    let e = c .before .before .before .before in
-    sym (rules-are _ _ ∙ rw (sym (e .before .within .ensures) ∙ not-false _ (e .if1 .left), eq-eqb _ _ (c .before .before .if2 .left), c .if3 .taken))
-
-returns-4 : tie.Need-returns-4
-returns-4 c =
-    let e = c .before .before .before .before .before .before .before in
-    sym (rules-are _ _ ∙ rw (sym (e .before .within .ensures) ∙ not-false _ (e .if1 .left), eq-eqb _ _ (c .before .before .before .before .before .if2 .left), c .before .if4 .taken))
-
-returns-5 : tie.Need-returns-5
-returns-5 c =
-    let e = c .before .before .before .before .before .before in
-    ne-eqb _ _ (c .if4 .left)
-    ∙ sym (rules-are _ _ ∙ rw (sym (e .before .within .ensures) ∙ not-false _ (e .if1 .left), eq-eqb _ _ (c .before .before .before .before .if2 .left), lt-leb _ _ (two-up (c .before .before .if3 .left) (c .if4 .left))))
+fitting : (n : ℕ) (r : FrameRecord) → markFits (r .busy) (r .dirty) (r .held) ≡ true → coloursKeepRules n r ≡ keepsRules n r
+unfolding keepsRules
+fitting n r e = sym (ap (λ (b : Bool). coloursKeepRules n r && b) e ∙ and-true (coloursKeepRules n r))
 
 pub keeps-rules-spec : {M : Type 1} → statement M
-keeps-rules-spec = tie.close (tie.spec within-requires returns returns-2 returns-3 returns-4 returns-5)
+keeps-rules-spec =
+    tie.close
+    (tie.spec
+    (λ c κs. search needs)
+    (λ c. let a = c .before .before .args in broken (a .colours) (a .self) (sym (c .before .mark-fits .ensures) ∙ not-true _ (c .if1 .taken)))
+    (λ c κs. search needs)
+    (λ c. let a = c .before .before .before .args in
+    c .colours-keep-rules .ensures ∙ fitting (a .colours) (a .self) (sym (c .before .before .mark-fits .ensures) ∙ not-false _ (c .before .if1 .left))))

@@ -1,16 +1,16 @@
 -- `page_model::FrameRecord::step` meets its contract. The loop's invariant: record and masks so far are those that the step has made of the
 -- colours below k.
-use mathlib.Core.Path.{_≡_, _∙_}
-use Prim.Native.Nat.{_≤_, _-_}
+use mathlib.Core.Path.{_≡_, ap, _∙_}
+use Prim.Native.Nat.{ℕ, _≤_, _-_}
 use native.Mathlib.Omega.{arith}
 use native.Mathlib.Numerals.{add-one}
 use borrow.Author.Needs.{needs}
 use lib.Dec.{eqb}
 use Rattle.bits.specs.Mask.{width}
-use Rattle.page_model.specs.Cases.{stepNumber, caseAt}
+use Rattle.page_model.specs.Cases.{stepNumber, caseAt, markAt}
 use Rattle.page_model.specs.Table.{Step, ownOf}
 use Rattle.page_model.proofs.Rules.{keeps}
-use Rattle.page_model.proofs.Colours.{Made, made-none, made-more, made-all}
+use Rattle.page_model.proofs.Colours.{mark-number, Made, made-none, made-more, made-all}
 use Rattle.page_model.proofs.FrameRecord.step.Statement.{statement}
 use Rattle.page_model.proofs.FrameRecord.step.Tie as tie
 
@@ -30,7 +30,7 @@ loop-again c =
       omega arith,
       λ s step own.
           let case = at-case .case-at .ensures ∙ (λ i. caseAt (step i) (eqb (own i) k) (at-case .before .state .ensures i)) in
-          rw (add-one, at-flush .including .ensures, c .before .including2 .ensures, c .with-state .ensures) (made-more s (at-loop .before .args .self) k (at-loop .loop .inv .1 s step own) case),
+          rw (add-one, at-flush .including .ensures, c .before .including2 .ensures, c .with-state .ensures) (made-more s (at-loop .before .before .args .self) k (at-loop .loop .inv .1 s step own) case),
     )
 
 returns : tie.Need-returns Inv-loop μ-loop
@@ -49,7 +49,8 @@ step-spec =
     (tie.spec
     Inv-loop
     μ-loop
-    (λ c. (omega arith, λ s e f. made-none s _))
+    (λ c κs. search needs)
+    (λ c. (omega arith, λ s e f. made-none s _ (c .mark-after .ensures ∙ ap (λ (k : ℕ). markAt k (c .before .args .self .busy)) e ∙ mark-number s _)))
     (λ c κs. search needs)
     (λ c κs. search needs)
     (λ c κs. search needs)
