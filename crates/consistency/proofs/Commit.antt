@@ -1,6 +1,6 @@
 -- The invariant after a change of the tables: a step of a frame's record, or another list.
 use mathlib.Core.Path.{_≡_, refl, _∙_, subst⁻¹}
-use mathlib.Core.Bool.{true}
+use mathlib.Core.Bool.{true, false}
 use mathlib.Core.Logic.{_≢_}
 use mathlib.Core.List.{List}
 use Prim.Native.Nat.{ℕ, _<_}
@@ -9,6 +9,7 @@ use native.Mathlib.Decide.{ℕ-discrete}
 use Rattle.bits.proofs.Mask.{all-at, all-of}
 use Rattle.board.specs.declared.Board.{Board}
 use Rattle.page_model.specs.declared.FrameRecord.{FrameRecord}
+use Rattle.page_model.specs.Busy.{bars}
 use Rattle.page_model.specs.Record.{stateOf, keepsRules}
 use Rattle.page_model.specs.Step.{cellOf, recordAfter}
 use Rattle.page_model.specs.Table.{ColourState, Step}
@@ -41,55 +42,67 @@ refill-sound b t s =
 weaker-self : (s : ColourState) → weaker s s ≡ true
 weaker-self s = each-state (λ s. weaker s s) refl s
 
-module _ (b : Board) (st : State) (m : Cacheless) (inv : Invariant b st m) (f : ℕ) (hf : f < b .frames) (step : Step) where
-  frame-rules : keepsRules (b .colours) (recordAt (st .tables .records) f) ≡ true
-  frame-rules = inv .sound .record-rules f hf
+module _ (b : Board) (st : State) (m : Cacheless) (inv : Invariant b st m) where
+  -- the invariant after a call that changes neither list nor records, if every frame's states agree with the store
+  pub refill-invariant : (s : Store) (words : ℕ → ℕ → ℕ) → WellFormed b s → ((f : ℕ) → f < b .frames → Agrees b f (stateOf (recordAt (st .tables .records) f)) (words f) s)
+      → Invariant b (state (refill b (st .tables)) s) (record { word = words; frame = m .frame })
+  unfolding refill
+  refill-invariant s words kept agrees = record { sound = refill-sound b (st .tables) (inv .sound); kept = kept; agrees = agrees; listed = inv .listed }
 
-  next : FrameRecord
-  next = recordAfter (b .colours) step (recordAt (st .tables .records) f)
+  module _ (f : ℕ) (hf : f < b .frames) where
+    -- ---- another record of f
 
-  put : List ℕ
-  put = putRecord (st .tables .records) f next
+    module _ (next : FrameRecord) (next-rules : keepsRules (b .colours) next ≡ true) where
+      put : List ℕ
+      put = putRecord (st .tables .records) f next
 
-  at-same : recordAt put f ≡ next
-  unfolding put
-  at-same = let e = inv .sound .records-length in recordAt-putRecord-same (st .tables .records) f next (omega arith)
+      at-same : recordAt put f ≡ next
+      unfolding put
+      at-same = let e = inv .sound .records-length in recordAt-putRecord-same (st .tables .records) f next (omega arith)
 
-  at-other : (g : ℕ) → g ≢ f → recordAt put g ≡ recordAt (st .tables .records) g
-  unfolding put
-  at-other g ne = recordAt-putRecord-other (st .tables .records) f next g ne
+      at-other : (g : ℕ) → g ≢ f → recordAt put g ≡ recordAt (st .tables .records) g
+      unfolding put
+      at-other g ne = recordAt-putRecord-other (st .tables .records) f next g ne
 
-  commit-sound : Sound b (commitChange b (st .tables) f (changeOf b (st .tables) f step .next))
-  unfolding put next recordsKeepRules
-  commit-sound =
-      refill-sound b (tables (st .tables .list) put (st .tables .protections)) (record {
-        items-length = inv .sound .items-length;
-        records-length = length-putRecord (st .tables .records) f next ∙ inv .sound .records-length;
-        protections-length = inv .sound .protections-length;
-        list-rules = inv .sound .list-rules;
-        record-rules = all-at (b .frames) _ (putRecord-rules b (st .tables .records) f next (inv .sound .records-length) hf (all-of _ _ (inv .sound .record-rules)) (step-keeps-rules (b .colours) step _ frame-rules));
-      })
+      put-sound : Sound b (commitChange b (st .tables) f next)
+      unfolding put recordsKeepRules
+      put-sound =
+          refill-sound b (tables (st .tables .list) put (st .tables .protections)) (record {
+            items-length = inv .sound .items-length;
+            records-length = length-putRecord (st .tables .records) f next ∙ inv .sound .records-length;
+            protections-length = inv .sound .protections-length;
+            list-rules = inv .sound .list-rules;
+            record-rules = all-at (b .frames) _ (putRecord-rules b (st .tables .records) f next (inv .sound .records-length) hf (all-of _ _ (inv .sound .record-rules)) next-rules);
+          })
 
-  -- the invariant after a step of f's record, if f's states after the step and the other frames' as they were agree with the store
-  module _ (s : Store) (words : ℕ → ℕ → ℕ) (kept : WellFormed b s)
-      (own : Agrees b f (statesAfter step (recordAt (st .tables .records) f)) (words f) s)
-      (others : (g : ℕ) → g < b .frames → g ≢ f → Agrees b g (stateOf (recordAt (st .tables .records) g)) (words g) s) where
-    agrees-after : (g : ℕ) → g < b .frames → Dec (g ≡ f) → Agrees b g (stateOf (recordAt put g)) (words g) s
-    unfolding next
-    agrees-after g hg (no ne) = subst⁻¹ (λ (x : FrameRecord). Agrees b g (stateOf x) (words g) s) (at-other g ne) (others g hg ne)
-    agrees-after g hg (yes e) =
-        subst⁻¹ (λ (x : ℕ). Agrees b x (stateOf (recordAt put x)) (words x) s) e
-        (subst⁻¹ (λ (x : FrameRecord). Agrees b f (stateOf x) (words f) s) at-same
-        (weaken b f (statesAfter step (recordAt (st .tables .records) f)) (stateOf next)
-        (λ k l. rw (state-after (b .colours) step (recordAt (st .tables .records) f) frame-rules k l) (weaker-self (cellOf step (recordAt (st .tables .records) f) k .next)))
-        s (words f) own))
+      -- the invariant, if f's states in that record and the other frames' as they were agree with the store
+      module _ (s : Store) (words : ℕ → ℕ → ℕ) (kept : WellFormed b s) (own : Agrees b f (stateOf next) (words f) s)
+          (others : (g : ℕ) → g < b .frames → g ≢ f → Agrees b g (stateOf (recordAt (st .tables .records) g)) (words g) s) where
+        agrees-after : (g : ℕ) → g < b .frames → Dec (g ≡ f) → Agrees b g (stateOf (recordAt put g)) (words g) s
+        agrees-after g hg (no ne) = subst⁻¹ (λ (x : FrameRecord). Agrees b g (stateOf x) (words g) s) (at-other g ne) (others g hg ne)
+        agrees-after g hg (yes e) =
+            subst⁻¹ (λ (x : ℕ). Agrees b x (stateOf (recordAt put x)) (words x) s) e (subst⁻¹ (λ (x : FrameRecord). Agrees b f (stateOf x) (words f) s) at-same own)
 
-    pub commit-invariant : Invariant b (state (commitChange b (st .tables) f (changeOf b (st .tables) f step .next)) s) (record { word = words; frame = m .frame })
-    unfolding refill put next
-    commit-invariant =
-        record {
-          sound = commit-sound;
-          kept = kept;
-          agrees = λ g hg. agrees-after g hg (ℕ-discrete g f);
-          listed = inv .listed;
-        }
+        pub record-invariant : Invariant b (state (commitChange b (st .tables) f next) s) (record { word = words; frame = m .frame })
+        unfolding refill put
+        record-invariant =
+            record {
+              sound = put-sound;
+              kept = kept;
+              agrees = λ g hg. agrees-after g hg (ℕ-discrete g f);
+              listed = inv .listed;
+            }
+
+    -- ---- a step of f's record, which its mark does not bar
+
+    module _ (step : Step) (free : bars (recordAt (st .tables .records) f .busy) step ≡ false) (s : Store) (words : ℕ → ℕ → ℕ) (kept : WellFormed b s)
+        (own : Agrees b f (statesAfter step (recordAt (st .tables .records) f)) (words f) s)
+        (others : (g : ℕ) → g < b .frames → g ≢ f → Agrees b g (stateOf (recordAt (st .tables .records) g)) (words g) s) where
+      pub commit-invariant : Invariant b (state (commitChange b (st .tables) f (changeOf b (st .tables) f step .next)) s) (record { word = words; frame = m .frame })
+      commit-invariant =
+          let r = recordAt (st .tables .records) f in
+          let rules = inv .sound .record-rules f hf in
+          record-invariant (recordAfter (b .colours) step r) (step-keeps-rules (b .colours) step r rules free) s words kept
+          (weaken b f (statesAfter step r) (stateOf (recordAfter (b .colours) step r))
+          (λ k l. rw (state-after (b .colours) step r rules k l) (weaker-self (cellOf step r k .next))) s (words f) own)
+          others

@@ -11,6 +11,7 @@ use borrow.Author.Tests.{eq-eqb, ne-eqb, ltb-false}
 use Rattle.board.specs.declared.Board.{Board}
 use Rattle.board.specs.Board.{Regular, lineOf}
 use Rattle.page_model.specs.declared.FrameRecord.{FrameRecord}
+use Rattle.page_model.specs.Busy.{bars}
 use Rattle.page_model.specs.Record.{stateOf, isHeld}
 use Rattle.page_model.specs.Table as table
 use Rattle.manager.specs.Calls.{changeOf, commitChange}
@@ -26,7 +27,7 @@ use Rattle.cache.proofs.Current.Device.{device-current-other, device-current-sa
 use Rattle.machine.specs.Refusals.{causes}
 use Rattle.machine.specs.State.{State, state, deviceRead, deviceWrite, deviceWritePart, Result}
 use Rattle.machine.specs.Step.{accept}
-use Rattle.machine.proofs.StepLaws.{deviceRead-ready, deviceWritePart-ready}
+use Rattle.machine.proofs.StepLaws.{clear, deviceRead-ready, deviceWritePart-ready}
 use Rattle.machine.proofs.Parts.{whole-refusal, whole-accept}
 use Rattle.consistency.specs.Cacheless.{Cacheless, cacheless, sent, afterAccepted}
 use Rattle.consistency.proofs.Agrees.{Tagged, Agrees, Untouched, emptied, untouched-tagged, untouched-agrees}
@@ -67,13 +68,13 @@ module _ (b : Board) (reg : Regular b) (st : State) (m : Cacheless) (inv : Invar
       deviceRead-word b reg f hf cleaned cleaned-kept o ho
       ∙ cleaned-own .current .in-memory o ho (λ c hc d. device-read-clean r c (cleaned-own .tagged .dirty-colour c o hc ho d)))
 
-  read-taken : (buffer : List ℕ) → Taken b st m (deviceRead f buffer)
+  read-taken : (buffer : List ℕ) → bars (recordAt (st .tables .records) f .busy) table.deviceRead ≡ false → Taken b st m (deviceRead f buffer)
   unfolding accept afterAccepted cleaned r
-  read-taken buffer = (read-words, commit-invariant b st m inv f hf table.deviceRead cleaned (m .word) cleaned-kept cleaned-own cleaned-other)
+  read-taken buffer free = (read-words, commit-invariant b st m inv f hf table.deviceRead free cleaned (m .word) cleaned-kept cleaned-own cleaned-other)
 
   -- ---- device to memory, from offset first on, by a step that leaves no colour present or dirty
 
-  module _ (step : table.Step) (none-held : HoldsNone step) where
+  module _ (step : table.Step) (none-held : HoldsNone step) (free : bars (recordAt (st .tables .records) f .busy) step ≡ false) where
     swept : Store
     swept = ordered b f step (recordAt (st .tables .records) f) (st .store)
 
@@ -140,14 +141,15 @@ module _ (b : Board) (reg : Regular b) (st : State) (m : Cacheless) (inv : Invar
           (cacheless (sent (m .word) f first buffer) (m .frame))
       unfolding swept put r
       put-invariant =
-          commit-invariant b st m inv f hf step put (sent (m .word) f first buffer) (deviceWrite-kept b reg f hf swept swept-kept first buffer inside)
+          commit-invariant b st m inv f hf step free put (sent (m .word) f first buffer) (deviceWrite-kept b reg f hf swept swept-kept first buffer inside)
           (subst (λ (x : ℕ → ℕ). Agrees b f (statesAfter step r) x put) own-words put-own)
           (λ g hg ne. subst (λ (x : ℕ → ℕ). Agrees b g (stateOf (recordAt (st .tables .records) g)) x put) (other-words g ne) (put-other g hg ne))
 
   -- fewer words than a page has are put by a step that keeps the others; all of them leave no other
-  part-taken : (first number : ℕ) (buffer : List ℕ) → length buffer ≡ number → first + number ≤ b .page → Taken b st m (deviceWritePart f first number buffer)
+  part-taken : (first number : ℕ) (buffer : List ℕ) → length buffer ≡ number → first + number ≤ b .page
+      → bars (recordAt (st .tables .records) f .busy) table.deviceWritePart ≡ false → Taken b st m (deviceWritePart f first number buffer)
   unfolding accept afterAccepted
-  part-taken first number buffer long fits = (tt, go (ltb number (b .page)) refl)
+  part-taken first number buffer long fits free = (tt, go (ltb number (b .page)) refl)
     where
       inside : first + length buffer ≤ b .page
       inside = omega arith
@@ -156,22 +158,24 @@ module _ (b : Board) (reg : Regular b) (st : State) (m : Cacheless) (inv : Invar
           (state (commitChange b (st .tables) f (changeOf b (st .tables) f (cond fewer table.deviceWritePart table.deviceWrite) .next))
           (hardware.deviceWrite b f first buffer (ordered b f (cond fewer table.deviceWritePart table.deviceWrite) (recordAt (st .tables .records) f) (st .store))))
           (cacheless (sent (m .word) f first buffer) (m .frame))
-      go true e = put-invariant table.deviceWritePart refl first buffer inside (λ o ho out. swept-words table.deviceWritePart refl refl o ho)
+      go true e = put-invariant table.deviceWritePart refl free first buffer inside (λ o ho out. swept-words table.deviceWritePart refl free refl o ho)
       go false e =
           let all = ltb-false number (b .page) e in
-          put-invariant table.deviceWrite refl first buffer inside (λ o ho out. absurd (out (omega arith) (omega arith)))
+          put-invariant table.deviceWrite refl free first buffer inside (λ o ho out. absurd (out (omega arith) (omega arith)))
 
 -- ---- the calls
 
 module _ (b : Board) (reg : Regular b) (st : State) (m : Cacheless) (inv : Invariant b st m) (f : ℕ) where
   pub device-read-taken : (buffer : List ℕ) → firstRefusal (causes b st (deviceRead f buffer)) ≡ 0 → Taken b st m (deviceRead f buffer)
-  device-read-taken buffer e = read-taken b reg st m inv f (deviceRead-ready b st f buffer e .0 .1) buffer
+  unfolding causes
+  device-read-taken buffer e = read-taken b reg st m inv f (deviceRead-ready b st f buffer e .0 .1) buffer (clear b st (deviceRead f buffer) e .1 .1 .1 .0)
 
   pub device-write-part-taken : (first number : ℕ) (buffer : List ℕ) → firstRefusal (causes b st (deviceWritePart f first number buffer)) ≡ 0
       → Taken b st m (deviceWritePart f first number buffer)
+  unfolding causes
   device-write-part-taken first number buffer e =
       let h = deviceWritePart-ready b st f first number buffer e in
-      part-taken b reg st m inv f (h .0 .1) first number buffer (h .1) (h .3)
+      part-taken b reg st m inv f (h .0 .1) first number buffer (h .1) (h .3) (clear b st (deviceWritePart f first number buffer) e .1 .1 .1 .1 .0)
 
   -- a page is all its words
   pub device-write-taken : (buffer : List ℕ) → firstRefusal (causes b st (deviceWrite f buffer)) ≡ 0 → Taken b st m (deviceWrite f buffer)

@@ -15,23 +15,18 @@ use Rattle.machine.specs.Step.{accept}
 use Rattle.machine.proofs.StepLaws.{evict-ready}
 use Rattle.consistency.specs.Cacheless.{Cacheless, afterAccepted}
 use Rattle.consistency.proofs.Agrees.{emptied, untouched-agrees}
-use Rattle.consistency.proofs.Commit.{refill-sound}
+use Rattle.consistency.proofs.Commit.{refill-invariant}
 use Rattle.consistency.proofs.Invariant.{Invariant, Taken}
 
 module _ (b : Board) (reg : Regular b) (st : State) (m : Cacheless) (inv : Invariant b st m) (line : ℕ) where
   pub evict-invariant : line < lines b → Invariant b (state (refill b (st .tables)) (hardware.evict b line (st .store))) m
-  unfolding refill
   evict-invariant h =
-      record {
-        sound = refill-sound b (st .tables) (inv .sound);
-        kept = evict-kept b reg (st .store) (inv .kept) line h;
-        agrees = λ f hf.
-            untouched-agrees b f (stateOf (recordAt (st .tables .records) f)) (st .store) (hardware.evict b line (st .store))
-            (emptied b reg (st .store) (hardware.evict b line (st .store)) (λ n g _ e. evict-tag-from b reg (st .store) (inv .kept) line h n g e)
-            (evict-words b reg (st .store) (inv .kept) line h) f)
-            (m .word f) (evict-current b reg line h f (m .word f) (st .store) (inv .kept) (inv .agrees f hf .current)) (inv .agrees f hf);
-        listed = inv .listed;
-      }
+      refill-invariant b st m inv (hardware.evict b line (st .store)) (m .word) (evict-kept b reg (st .store) (inv .kept) line h)
+      (λ f hf.
+      untouched-agrees b f (stateOf (recordAt (st .tables .records) f)) (st .store) (hardware.evict b line (st .store))
+      (emptied b reg (st .store) (hardware.evict b line (st .store)) (λ n g _ e. evict-tag-from b reg (st .store) (inv .kept) line h n g e)
+      (evict-words b reg (st .store) (inv .kept) line h) f)
+      (m .word f) (evict-current b reg line h f (m .word f) (st .store) (inv .kept) (inv .agrees f hf .current)) (inv .agrees f hf))
 
   pub evict-taken : firstRefusal (causes b st (evict line)) ≡ 0 → Taken b st m (evict line)
   unfolding accept afterAccepted

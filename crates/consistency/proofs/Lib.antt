@@ -9,12 +9,14 @@ pub mod Operations
 pub mod Access
 pub mod Write
 pub mod Commit
+pub mod Replaced
 pub mod Refused
 pub mod Mapped
 pub mod Map
 pub mod Processor
 pub mod Device
 pub mod Evict
+pub mod Slow
 pub mod Start
 pub mod Evicted
 pub mod Theorem

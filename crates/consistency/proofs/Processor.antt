@@ -1,16 +1,15 @@
 -- Accepted reads and writes of the processor: the read finds the cacheless memory's word, and both keep the invariant.
-use mathlib.Core.Path.{_≡_, refl, sym, ap, _∙_, fun-ext, subst, subst⁻¹}
-use mathlib.Core.Bool.{Bool, cond, _&&_}
+use mathlib.Core.Path.{_≡_, refl, sym, ap, _∙_, subst, subst⁻¹}
+use mathlib.Core.Bool.{false}
 use mathlib.Core.Logic.{_≢_}
 use mathlib.Core.Option.{Option, some}
 use Prim.Native.Nat.{ℕ, _<_}
-use native.Mathlib.Decide.{ℕ-discrete}
-use lib.Dec.{eqb}
-use borrow.Author.Tests.{eq-eqb, ne-eqb, not-false}
+use borrow.Author.Tests.{not-false}
 use Rattle.board.specs.declared.Board.{Board}
 use Rattle.board.specs.Board.{Regular, colourOf}
 use Rattle.board.proofs.Geometry.{colourOf-lt}
 use Rattle.page_model.specs.declared.FrameRecord.{FrameRecord}
+use Rattle.page_model.specs.Busy.{bars}
 use Rattle.page_model.specs.Record.{stateOf}
 use Rattle.page_model.specs.Table as table
 use Rattle.page_model.specs.Table.{Step}
@@ -33,15 +32,9 @@ use Rattle.consistency.proofs.Commit.{commit-invariant}
 use Rattle.consistency.proofs.Invariant.{Invariant, Taken}
 use Rattle.consistency.proofs.Mapped.{mapped-frame}
 use Rattle.consistency.proofs.Operations.{ordered, statesAfter, ordered-kept, ordered-other, ordered-agrees}
+use Rattle.consistency.proofs.Replaced.{own-words, other-words}
 use Rattle.consistency.proofs.Table.{Spares, read-held, read-alone, write-dirty, write-alone}
 use Rattle.consistency.proofs.Write.{write-own, write-other}
-
-eqb-sym : (i j : ℕ) → eqb i j ≡ eqb j i
-eqb-sym i j = go (ℕ-discrete i j)
-  where
-    go : Dec (i ≡ j) → eqb i j ≡ eqb j i
-    go (yes e) = eq-eqb i j e ∙ sym (eq-eqb j i (sym e))
-    go (no ne) = ne-eqb i j ne ∙ sym (ne-eqb j i (λ e. ne (sym e)))
 
 -- ---- an access to offset o of frame f through colour c
 
@@ -78,10 +71,11 @@ module _ (b : Board) (reg : Regular b) (st : State) (m : Cacheless) (inv : Invar
       access-words b reg f c o hf hc ho (now (table.read c)) (now-kept (table.read c)) (statesAfter (table.read c) r) (m .word f) (now-own (table.read c) refl)
       (read-held r c) (λ d hd ne. read-alone r c d ne) o ho refl
 
-  read-kept : Invariant b (state (commitChange b (st .tables) f (changeOf b (st .tables) f (table.read c) .next)) (hardware.access b f c o (now (table.read c)))) m
+  read-kept : bars (recordAt (st .tables .records) f .busy) (table.read c) ≡ false
+      → Invariant b (state (commitChange b (st .tables) f (changeOf b (st .tables) f (table.read c) .next)) (hardware.access b f c o (now (table.read c)))) m
   unfolding r
-  read-kept =
-      commit-invariant b st m inv f hf (table.read c) (hardware.access b f c o (now (table.read c))) (m .word)
+  read-kept free =
+      commit-invariant b st m inv f hf (table.read c) free (hardware.access b f c o (now (table.read c))) (m .word)
       (access-kept b reg f c o hf hc ho (now (table.read c)) (now-kept (table.read c)))
       (access-own b reg f c o hf hc ho (now (table.read c)) (now-kept (table.read c)) (statesAfter (table.read c) r) (m .word f) (now-own (table.read c) refl)
       (read-held r c) (λ d hd ne. read-alone r c d ne))
@@ -92,13 +86,6 @@ module _ (b : Board) (reg : Regular b) (st : State) (m : Cacheless) (inv : Invar
   -- ---- write of v
 
   module _ (v : ℕ) where
-    -- the words of the frame, and those of another
-    own-words : written o v (m .word f) ≡ replaced (m .word) f o v f
-    own-words = fun-ext (λ p. ap (λ (t : Bool). cond t v (m .word f p)) (eqb-sym p o ∙ ap (λ (t : Bool). t && eqb o p) (sym (eq-eqb f f refl))))
-
-    other-words : (g : ℕ) → g ≢ f → m .word g ≡ replaced (m .word) f o v g
-    other-words g ne = fun-ext (λ p. ap (λ (t : Bool). cond (t && eqb o p) v (m .word g p)) (sym (ne-eqb f g (λ e. ne (sym e)))))
-
     put : Store
     put = hardware.writeWord b f c o v (now (table.write c))
 
@@ -114,13 +101,14 @@ module _ (b : Board) (reg : Regular b) (st : State) (m : Cacheless) (inv : Invar
         write-other b reg f c o hf hc ho (now (table.write c)) (now-kept (table.write c)) v g hg ne (stateOf (recordAt (st .tables .records) g)) (m .word g)
         (now-other (table.write c) g hg ne)
 
-    write-kept : Invariant b (state (commitChange b (st .tables) f (changeOf b (st .tables) f (table.write c) .next)) put) (cacheless (replaced (m .word) f o v) (m .frame))
+    write-kept : bars (recordAt (st .tables .records) f .busy) (table.write c) ≡ false
+        → Invariant b (state (commitChange b (st .tables) f (changeOf b (st .tables) f (table.write c) .next)) put) (cacheless (replaced (m .word) f o v) (m .frame))
     unfolding put r
-    write-kept =
-        commit-invariant b st m inv f hf (table.write c) put (replaced (m .word) f o v)
+    write-kept free =
+        commit-invariant b st m inv f hf (table.write c) free put (replaced (m .word) f o v)
         (writeWord-kept b reg f c o hf hc ho (now (table.write c)) (now-kept (table.write c)) v)
-        (subst (λ (x : ℕ → ℕ). Agrees b f (statesAfter (table.write c) r) x put) own-words put-own)
-        (λ g hg ne. subst (λ (x : ℕ → ℕ). Agrees b g (stateOf (recordAt (st .tables .records) g)) x put) (other-words g ne) (put-other g hg ne))
+        (subst (λ (x : ℕ → ℕ). Agrees b f (statesAfter (table.write c) r) x put) (own-words (m .word) f o v) put-own)
+        (λ g hg ne. subst (λ (x : ℕ → ℕ). Agrees b g (stateOf (recordAt (st .tables .records) g)) x put) (other-words (m .word) f o v g ne) (put-other g hg ne))
 
 -- ---- the calls
 
@@ -135,7 +123,7 @@ module _ (b : Board) (reg : Regular b) (st : State) (m : Cacheless) (inv : Invar
       let hc = colourOf-lt b reg page in (
         ap {B = Option ℕ} some (read-word b reg st m inv (pageFrame st space page) (colourOf b page) offset hf hc ho)
             ∙ ap (λ (x : Option ℕ). pageWord m x offset) (sym (mapped-frame b st m inv space page mapped)),
-        read-kept b reg st m inv (pageFrame st space page) (colourOf b page) offset hf hc ho,
+        read-kept b reg st m inv (pageFrame st space page) (colourOf b page) offset hf hc ho (clear b st (read space page offset) e .1 .1 .1 .1 .1 .0),
       )
 
   pub write-taken : (word : ℕ) → firstRefusal (causes b st (write space page offset word)) ≡ 0 → Taken b st m (write space page offset word)
@@ -149,5 +137,5 @@ module _ (b : Board) (reg : Regular b) (st : State) (m : Cacheless) (inv : Invar
         subst⁻¹ HasFrame (mapped-frame b st m inv space page mapped) tt,
         subst⁻¹ (λ (x : Option ℕ). Invariant b (accept b st (write space page offset word) .after) (cacheless (stored (m .word) x offset word) (m .frame)))
             (mapped-frame b st m inv space page mapped)
-            (write-kept b reg st m inv (pageFrame st space page) (colourOf b page) offset hf hc ho word),
+            (write-kept b reg st m inv (pageFrame st space page) (colourOf b page) offset hf hc ho word (clear b st (write space page offset word) e .1 .1 .1 .1 .1 .1 .0)),
       )

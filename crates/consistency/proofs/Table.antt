@@ -10,7 +10,7 @@ use Rattle.bits.proofs.Tautology.{and-left, and-right}
 use Rattle.page_model.specs.declared.FrameRecord.{FrameRecord}
 use Rattle.page_model.specs.Record.{stateOf, isHeld, isDirty}
 use Rattle.page_model.specs.Step.{isFlush, isPurge, cellOf}
-use Rattle.page_model.specs.Table.{ColourState, empty, present, dirty, stale, Operation, none, Cell, own, other, roleIf, Step, read, write, deviceRead, deviceWrite, deviceWritePart, ownOf}
+use Rattle.page_model.specs.Table.{ColourState, empty, present, dirty, stale, Operation, none, Cell, own, other, roleIf, Step, read, write, deviceRead, deviceWrite, deviceWritePart, beginRead, beginWrite, ownOf}
 use Rattle.page_model.proofs.Cells.{rowOf, row-cell, each-state}
 use Rattle.consistency.proofs.Weaker.{weaker, is-dirty}
 
@@ -47,6 +47,8 @@ idle-cell (write c) = refl
 idle-cell deviceRead = refl
 idle-cell deviceWrite = refl
 idle-cell deviceWritePart = refl
+idle-cell beginRead = refl
+idle-cell beginWrite = refl
 
 idle-from : {op : Operation} (w : Bool) → op ≡ none → (isFlush op || isPurge op || w) ≡ true → w ≡ true
 idle-from w e h = rw e at h

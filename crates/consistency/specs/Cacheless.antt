@@ -1,5 +1,6 @@
 -- Document 01, "The cacheless memory": what memory would hold if there were no cache, fed each call and whether it was refused. Request N1's
--- list of mappings counts as its items in order; request N3's part of a page changes only the words sent.
+-- list of mappings counts as its items in order; request N3's part of a page changes only the words sent, and of request N6's transfers each word
+-- that is brought changes it at that moment.
 use mathlib.Core.Bool.{Bool, true, false, not, cond, _&&_}
 use mathlib.Core.List.{List}
 use mathlib.Core.Option.{Option, none, some}
@@ -12,7 +13,7 @@ use Rattle.mapping.specs.declared.Mapping.{Mapping}
 use Rattle.manager.specs.Answers.{isRefusal}
 use Rattle.manager.specs.Batch.{itemAt}
 use Rattle.machine.specs.Call.{mapOf}
-use Rattle.machine.specs.State.{Single, map, unmap, read, write, deviceRead, deviceWrite, deviceWritePart, evict, Call, single, mapAll, Answer}
+use Rattle.machine.specs.State.{Single, map, unmap, read, write, deviceRead, deviceWrite, deviceWritePart, evict, beginRead, beginWrite, bringWord, takeWord, endTransfer, Call, single, mapAll, Answer}
 
 -- a word for each frame and offset, and for each space and page a frame or none
 pub record Cacheless : Type 0 where
@@ -51,6 +52,11 @@ afterAccepted m (deviceRead frame buffer) = m
 afterAccepted m (deviceWrite frame buffer) = cacheless (sent (m .word) frame 0 buffer) (m .frame)
 afterAccepted m (deviceWritePart frame first number buffer) = cacheless (sent (m .word) frame first buffer) (m .frame)
 afterAccepted m (evict line) = m
+afterAccepted m (beginRead frame) = m
+afterAccepted m (beginWrite frame) = m
+afterAccepted m (bringWord frame offset word) = cacheless (replaced (m .word) frame offset word) (m .frame)
+afterAccepted m (takeWord frame offset) = m
+afterAccepted m (endTransfer frame) = m
 
 -- a refused one changes nothing
 abbrev pub afterSingle : Cacheless → Single → Bool → Cacheless

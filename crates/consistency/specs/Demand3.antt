@@ -15,7 +15,7 @@ use Rattle.mapping.specs.Entry.{capacity}
 use Rattle.manager.specs.Tables.{tables, tabulate, recordWords}
 use Rattle.cache.specs.Store.{store, memoryWord}
 use Rattle.machine.specs.Call.{perform}
-use Rattle.machine.specs.State.{State, state, map, unmap, read, write, deviceRead, deviceWrite, deviceWritePart, evict, Call, single, mapAll, Answer}
+use Rattle.machine.specs.State.{State, state, map, unmap, read, write, deviceRead, deviceWrite, deviceWritePart, evict, beginRead, beginWrite, bringWord, takeWord, endTransfer, Call, single, mapAll, Answer}
 use Rattle.consistency.specs.Cacheless.{Cacheless, start, isRefused, fed}
 
 -- ---- the start: empty list, page states and cache, whatever words memory, cache and protections hold
@@ -24,7 +24,7 @@ abbrev pub startState : Board → List ℕ → List ℕ → List ℕ → State
 startState b memory words protections =
     state (tables empty (replicate (b .frames * recordWords) 0) protections) (store memory words (replicate (lines b) 0))
 
--- ---- what an accepted read must find, and an accepted write: a frame to write to
+-- ---- what an accepted read must find, a device's too, of a page or of a word; and an accepted write: a frame to write to
 
 -- the word at an offset of the page's frame
 abbrev pub pageWord : Cacheless → Option ℕ → ℕ → Option ℕ
@@ -44,6 +44,11 @@ Finds b m (single (deviceRead frame buffer)) a = a .buffer ≡ tabulate (b .page
 Finds b m (single (deviceWrite frame buffer)) a = Unit {0}
 Finds b m (single (deviceWritePart frame first number buffer)) a = Unit {0}
 Finds b m (single (evict line)) a = Unit {0}
+Finds b m (single (beginRead frame)) a = Unit {0}
+Finds b m (single (beginWrite frame)) a = Unit {0}
+Finds b m (single (bringWord frame offset word)) a = Unit {0}
+Finds b m (single (takeWord frame offset)) a = a .word ≡ some (m .word frame offset)
+Finds b m (single (endTransfer frame)) a = Unit {0}
 Finds b m (mapAll items answers) a = Unit {0}
 
 -- ---- a list of calls, with the cacheless memory beside it
