@@ -1,11 +1,12 @@
 -- Demand 2: what an accepted call leaves.
-use mathlib.Core.Path.{_≡_, refl, sym, ap, subst⁻¹, _∙_}
-use mathlib.Core.Bool.{true}
-use mathlib.Core.List.{List}
+use mathlib.Core.Path.{_≡_, refl, sym, ap, subst, subst⁻¹, _∙_}
+use mathlib.Core.Bool.{Bool, true, false, cond}
+use mathlib.Core.List.{List, _∷_, _++_}
 use mathlib.Core.Logic.{_↔_}
 use Prim.Native.Nat.{ℕ, _≤_, _<_}
 use native.Mathlib.Omega.{arith}
 use borrow.Author.Tests.{not-false, leb-false}
+use lib.Dec.{ltb}
 use lib.ListN.{length, getD}
 use Rattle.bits.proofs.Tautology.{and-left}
 use Rattle.board.specs.declared.Board.{Board}
@@ -13,36 +14,37 @@ use Rattle.board.specs.Board.{Regular, lines, colourOf}
 use Rattle.board.proofs.Geometry.{colourOf-lt}
 use Rattle.page_model.specs.declared.FrameRecord.{FrameRecord}
 use Rattle.page_model.specs.declared.Stepped.{Stepped}
-use Rattle.page_model.specs.Record.{stateOf}
-use Rattle.page_model.specs.Step.{cellOf, stepped}
+use Rattle.page_model.specs.Busy.{bars}
+use Rattle.page_model.specs.Record.{stateOf, encode, ended}
+use Rattle.page_model.specs.Step.{cellOf, recordAfter, stepped}
 use Rattle.page_model.specs.Table as table
-use Rattle.page_model.specs.Theorems.{Idle}
+use Rattle.page_model.specs.Theorems.{Passes}
 use Rattle.page_model.proofs.Theorems.{few-operations, state-after}
 use Rattle.mapping.specs.Entry.{capacity, readWrite, mappingAt}
 use Rattle.mapping.specs.Lookup.{isMapped}
 use Rattle.manager.specs.Answers.{accepted}
-use Rattle.manager.specs.Calls.{writeStep, commitChange}
-use Rattle.manager.specs.Refusals.{firstRefusal, isRight}
+use Rattle.manager.specs.Calls.{noOps, writeStep, commitChange, endedTables}
+use Rattle.manager.specs.Refusals.{Cause, firstRefusal, frameCause, busyCause, isRight}
 use Rattle.manager.specs.Tables.{Tables, tables, recordAt, lengthsRight, rulesKept, protectionAt, tabulate, refill}
 use Rattle.manager.specs.Theorems.{WellFormed}
 use Rattle.manager.proofs.AcceptedLaws.{lengths-known, records-rules}
-use Rattle.manager.proofs.CauseLaws.{list-rules, record-rules, mapped-range}
-use Rattle.manager.proofs.KeepsRules.{refill-keeps, step-keeps, page-keeps, map-keeps, unmap-keeps}
+use Rattle.manager.proofs.CauseLaws.{NoneApplies, list-rules, record-rules, mapped-range}
+use Rattle.manager.proofs.KeepsRules.{refill-keeps, step-keeps, page-keeps, end-keeps, map-keeps, unmap-keeps}
 use Rattle.manager.proofs.Laws.{getD-tabulate}
 use Rattle.manager.proofs.ProtectionBuffer.{refill-filled}
 use Rattle.manager.proofs.RecordLaws.{recordAt-putRecord-same, recordAt-putRecord-other}
 use Rattle.manager.proofs.Theorems.{read-protection, write-protection}
 use Rattle.cache.specs.Store as hardware
 use Rattle.cache.proofs.Laws.Access.{access-kept, writeWord-kept}
-use Rattle.cache.proofs.Laws.Device.{deviceWrite-kept}
+use Rattle.cache.proofs.Laws.Device.{deviceWrite-kept, bringWord-kept}
 use Rattle.cache.proofs.Laws.Evict.{evict-kept}
 use Rattle.machine.specs.Refusals.{storeLengths, lentCauses, ownCauses, bufferRight, causes}
-use Rattle.machine.specs.State.{State, state, Single, map, unmap, read, write, deviceRead, deviceWrite, deviceWritePart, evict}
+use Rattle.machine.specs.State.{State, state, Single, map, unmap, read, write, deviceRead, deviceWrite, deviceWritePart, evict, beginRead, beginWrite, bringWord, takeWord, endTransfer}
 use Rattle.machine.specs.Step.{operate, carryOut, pageFrame, accept, step}
-use Rattle.machine.proofs.StepLaws.{clear, lengths-clear, store-clear, tables-clear, deviceWrite-ready, deviceWritePart-ready, step-accepted}
+use Rattle.machine.proofs.StepLaws.{clear, word-ready, lengths-clear, store-clear, tables-clear, deviceWrite-ready, deviceWritePart-ready, step-accepted}
 use Rattle.consistency.proofs.Map.{map-clear}
 use Rattle.consistency.proofs.Operations.{ordered-kept}
-use Rattle.demands.specs.Demands.{stepOf, ByTable, Modelled, listAfter, accessed, accessOf, Left}
+use Rattle.demands.specs.Demands.{effectOf, ByTable, ByEnd, Modelled, listAfter, accessed, accessOf, Left}
 
 module _ (b : Board) (st : State) (call : Single) (e : firstRefusal (causes b st call) ≡ 0) where
   -- an accepted call was lent tables of their lengths that keep the rules
@@ -76,7 +78,28 @@ module _ (b : Board) (st : State) where
 
 -- ---- the tables
 
+-- a mark bars a write of a part and of a page alike
+part-barred : (mark : ℕ) (fewer : Bool) → bars mark table.deviceWritePart ≡ false → bars mark (cond fewer table.deviceWritePart table.deviceWrite) ≡ false
+part-barred mark true e = e
+part-barred mark false e = e
+
 module _ (b : Board) (st : State) where
+  -- a step of a frame that the call names, and a call that changes no record
+  frame-keeps : (call : Single) (frame : ℕ) (s : table.Step) (rest : List Cause)
+      → ownCauses b st call ≡ frameCause b frame ∷ busyCause (st .tables .records) frame s ∷ rest
+      → firstRefusal (causes b st call) ≡ 0
+      → WellFormed b (commitChange b (st .tables) frame (stepped (b .colours) s (recordAt (st .tables .records) frame) .next))
+  unfolding lentCauses
+  frame-keeps call frame s rest own e =
+      let n = subst (λ (cs : List Cause). NoneApplies (lentCauses b st call ++ cs)) own (clear b st call e) in
+      step-keeps b (st .tables) (tables-lent b st call e) frame s (leb-false (b .frames) frame (n .1 .1 .0)) (n .1 .1 .1 .0)
+
+  refilled : (call : Single) → firstRefusal (causes b st call) ≡ 0 → WellFormed b (refill b (st .tables))
+  refilled call e =
+      let w = tables-lent b st call e in
+      let n = lengths-known b (st .tables) (w .0) in
+      refill-keeps b (st .tables) (n .0) (n .1) (n .2) (list-rules b (st .tables) (w .1)) (records-rules b (st .tables) (w .1))
+
   pub tables-after : (call : Single) → firstRefusal (causes b st call) ≡ 0 → WellFormed b (accept b st call .after .tables)
   unfolding accept lentCauses ownCauses
   tables-after (map space page frame rights) e =
@@ -85,19 +108,22 @@ module _ (b : Board) (st : State) where
       unmap-keeps b (st .tables) (tables-lent b st (unmap space page) e) space page (not-false _ (clear b st (unmap space page) e .1 .1 .1 .0))
   tables-after (read space page offset) e =
       page-keeps b (st .tables) (tables-lent b st (read space page offset) e) space page (table.read (colourOf b page)) (read-reached b st space page offset e .mapped)
+      (clear b st (read space page offset) e .1 .1 .1 .1 .1 .0)
   tables-after (write space page offset word) e =
       page-keeps b (st .tables) (tables-lent b st (write space page offset word) e) space page (table.write (colourOf b page)) (write-reached b st space page offset word e .mapped)
-  tables-after (deviceRead frame buffer) e =
-      step-keeps b (st .tables) (tables-lent b st (deviceRead frame buffer) e) frame table.deviceRead (leb-false (b .frames) frame (clear b st (deviceRead frame buffer) e .1 .1 .0))
-  tables-after (deviceWrite frame buffer) e =
-      step-keeps b (st .tables) (tables-lent b st (deviceWrite frame buffer) e) frame table.deviceWrite (leb-false (b .frames) frame (clear b st (deviceWrite frame buffer) e .1 .1 .0))
+      (clear b st (write space page offset word) e .1 .1 .1 .1 .1 .1 .0)
+  tables-after (deviceRead frame buffer) e = frame-keeps (deviceRead frame buffer) frame table.deviceRead _ refl e
+  tables-after (deviceWrite frame buffer) e = frame-keeps (deviceWrite frame buffer) frame table.deviceWrite _ refl e
   tables-after (deviceWritePart frame first number buffer) e =
       let call = deviceWritePart frame first number buffer in
       step-keeps b (st .tables) (tables-lent b st call e) frame (writeStep b number) (leb-false (b .frames) frame (clear b st call e .1 .1 .0))
-  tables-after (evict line) e =
-      let w = tables-lent b st (evict line) e in
-      let n = lengths-known b (st .tables) (w .0) in
-      refill-keeps b (st .tables) (n .0) (n .1) (n .2) (list-rules b (st .tables) (w .1)) (records-rules b (st .tables) (w .1))
+      (part-barred _ (ltb number (b .page)) (clear b st call e .1 .1 .1 .1 .0))
+  tables-after (evict line) e = refilled (evict line) e
+  tables-after (beginRead frame) e = frame-keeps (beginRead frame) frame table.beginRead _ refl e
+  tables-after (beginWrite frame) e = frame-keeps (beginWrite frame) frame table.beginWrite _ refl e
+  tables-after (bringWord frame offset word) e = refilled (bringWord frame offset word) e
+  tables-after (takeWord frame offset) e = refilled (takeWord frame offset) e
+  tables-after (endTransfer frame) e = end-keeps b (st .tables) (tables-lent b st (endTransfer frame) e) frame (leb-false (b .frames) frame (clear b st (endTransfer frame) e .1 .1 .0))
 
 -- ---- memory and cache
 
@@ -136,6 +162,17 @@ module _ (b : Board) (reg : Regular b) (st : State) where
       (ordered frame (writeStep b number) (r .0 .1) (tables-lent b st (deviceWritePart frame first number buffer) e) (r .0 .0)) first buffer (omega arith)
   store-after (evict line) e =
       evict-kept b reg (st .store) (store-clear b st (evict line) e) line (leb-false (lines b) line (clear b st (evict line) e .1 .1 .0))
+  store-after (beginRead frame) e =
+      let call = beginRead frame in
+      ordered frame table.beginRead (leb-false (b .frames) frame (clear b st call e .1 .1 .0)) (tables-lent b st call e) (store-clear b st call e)
+  store-after (beginWrite frame) e =
+      let call = beginWrite frame in
+      ordered frame table.beginWrite (leb-false (b .frames) frame (clear b st call e .1 .1 .0)) (tables-lent b st call e) (store-clear b st call e)
+  store-after (bringWord frame offset word) e =
+      let r = word-ready b st (bringWord frame offset word) frame offset _ refl e in
+      bringWord-kept b reg frame (r .1) (st .store) (r .0) offset word (r .2)
+  store-after (takeWord frame offset) e = store-clear b st (takeWord frame offset) e
+  store-after (endTransfer frame) e = store-clear b st (endTransfer frame) e
 
 -- ---- orders and states
 
@@ -144,7 +181,7 @@ module _ (b : Board) (t : Tables) (w : WellFormed b t) (f : ℕ) (h : f < b .fra
   change = stepped (b .colours) s (recordAt (t .records) f)
 
   pub stepped-by : ByTable b t (commitChange b t f (change .next)) (accepted f (change .ops)) f s
-  unfolding refill cellOf
+  unfolding refill cellOf recordAfter encode
   stepped-by =
       let kept = record-rules b t (w .1) f h in
       let n = lengths-known b t (w .0) in
@@ -152,12 +189,24 @@ module _ (b : Board) (t : Tables) (w : WellFormed b t) (f : ℕ) (h : f < b .fra
         few = few-operations (b .colours) s (recordAt (t .records) f) kept .0;
         ordered = refl;
         states = λ k hk. ap (λ (r : FrameRecord). stateOf r k) (recordAt-putRecord-same (t .records) f (change .next) (omega arith)) ∙ state-after (b .colours) s (recordAt (t .records) f) kept k hk;
+        mark = ap (λ (r : FrameRecord). r .busy) (recordAt-putRecord-same (t .records) f (change .next) (omega arith));
         others = λ g ne. recordAt-putRecord-other (t .records) f (change .next) g ne;
+      }
+
+  pub ended-by : ByEnd t (endedTables b t f) (accepted 0 noOps) f
+  unfolding refill
+  ended-by =
+      let n = lengths-known b t (w .0) in
+      let next = ended (recordAt (t .records) f) in
+      record {
+        ordered = refl;
+        unmarked = recordAt-putRecord-same (t .records) f next (omega arith);
+        others = λ g ne. recordAt-putRecord-other (t .records) f next g ne;
       }
 
 module _ (b : Board) (st : State) where
   pub modelled-after : (call : Single) → firstRefusal (causes b st call) ≡ 0
-      → Modelled b (st .tables) (accept b st call .after .tables) (accept b st call .answer .outcome) (stepOf b st call)
+      → Modelled b (st .tables) (accept b st call .after .tables) (accept b st call .answer .outcome) (effectOf b st call)
   unfolding accept lentCauses ownCauses refill
   modelled-after (map space page frame rights) e = (refl, refl)
   modelled-after (unmap space page) e = (refl, refl)
@@ -173,6 +222,14 @@ module _ (b : Board) (st : State) where
       let call = deviceWritePart frame first number buffer in
       stepped-by b (st .tables) (tables-lent b st call e) frame (leb-false (b .frames) frame (clear b st call e .1 .1 .0)) (writeStep b number)
   modelled-after (evict line) e = (refl, refl)
+  modelled-after (beginRead frame) e =
+      stepped-by b (st .tables) (tables-lent b st (beginRead frame) e) frame (leb-false (b .frames) frame (clear b st (beginRead frame) e .1 .1 .0)) table.beginRead
+  modelled-after (beginWrite frame) e =
+      stepped-by b (st .tables) (tables-lent b st (beginWrite frame) e) frame (leb-false (b .frames) frame (clear b st (beginWrite frame) e .1 .1 .0)) table.beginWrite
+  modelled-after (bringWord frame offset word) e = (refl, refl)
+  modelled-after (takeWord frame offset) e = (refl, refl)
+  modelled-after (endTransfer frame) e =
+      ended-by b (st .tables) (tables-lent b st (endTransfer frame) e) frame (leb-false (b .frames) frame (clear b st (endTransfer frame) e .1 .1 .0)) table.beginRead
 
 -- ---- list, memory and cache
 
@@ -187,6 +244,11 @@ module _ (b : Board) (st : State) where
   listed-after (deviceWrite frame buffer) = refl
   listed-after (deviceWritePart frame first number buffer) = refl
   listed-after (evict line) = refl
+  listed-after (beginRead frame) = refl
+  listed-after (beginWrite frame) = refl
+  listed-after (bringWord frame offset word) = refl
+  listed-after (takeWord frame offset) = refl
+  listed-after (endTransfer frame) = refl
 
   pub made-after : (call : Single)
       → accessed (accept b st call .answer .word) (accept b st call .answer .buffer) (accept b st call .after .store)
@@ -200,6 +262,11 @@ module _ (b : Board) (st : State) where
   made-after (deviceWrite frame buffer) = refl
   made-after (deviceWritePart frame first number buffer) = refl
   made-after (evict line) = refl
+  made-after (beginRead frame) = refl
+  made-after (beginWrite frame) = refl
+  made-after (bringWord frame offset word) = refl
+  made-after (takeWord frame offset) = refl
+  made-after (endTransfer frame) = refl
 
 -- ---- protections
 
@@ -224,6 +291,11 @@ module _ (b : Board) (st : State) where
       go (deviceWrite frame buffer) = refill-filled b _ long .0
       go (deviceWritePart frame first number buffer) = refill-filled b _ long .0
       go (evict line) = refill-filled b _ long .0
+      go (beginRead frame) = refill-filled b _ long .0
+      go (beginWrite frame) = refill-filled b _ long .0
+      go (bringWord frame offset word) = refill-filled b _ long .0
+      go (takeWord frame offset) = refill-filled b _ long .0
+      go (endTransfer frame) = refill-filled b _ long .0
 
   -- what they held before is not read
   module _ (ps : List ℕ) (same : length ps ≡ length (st .tables .protections)) where
@@ -240,6 +312,11 @@ module _ (b : Board) (st : State) where
     causes-same (deviceWrite frame buffer) = rw same
     causes-same (deviceWritePart frame first number buffer) = rw same
     causes-same (evict line) = rw same
+    causes-same (beginRead frame) = rw same
+    causes-same (beginWrite frame) = rw same
+    causes-same (bringWord frame offset word) = rw same
+    causes-same (takeWord frame offset) = rw same
+    causes-same (endTransfer frame) = rw same
 
     accept-same : (call : Single) → accept b other call ≡ accept b st call
     unfolding accept refill
@@ -251,6 +328,11 @@ module _ (b : Board) (st : State) where
     accept-same (deviceWrite frame buffer) = rw same
     accept-same (deviceWritePart frame first number buffer) = rw same
     accept-same (evict line) = rw same
+    accept-same (beginRead frame) = rw same
+    accept-same (beginWrite frame) = rw same
+    accept-same (bringWord frame offset word) = rw same
+    accept-same (takeWord frame offset) = rw same
+    accept-same (endTransfer frame) = rw same
 
     pub unread-after : (call : Single) → firstRefusal (causes b st call) ≡ 0 → step b other call ≡ step b st call
     unread-after call e = sym (step-accepted b other call (ap firstRefusal (causes-same call) ∙ e)) ∙ accept-same call ∙ step-accepted b st call e
@@ -279,9 +361,9 @@ module _ (b : Board) (reg : Regular b) (st : State) (call : Single) (e : firstRe
         protections = agree;
         unread = λ ps same. unread-after b st ps same call e;
         read-passes = λ i h.
-            subst⁻¹ (λ (p : ℕ). (1 ≤ p) ↔ ((isRight (mappingAt (t .list) i .rights) ≡ true) × Idle (b .colours) (table.read (colourOf b (mappingAt (t .list) i .page))) (recordAt (t .records) (mappingAt (t .list) i .frame))))
+            subst⁻¹ (λ (p : ℕ). (1 ≤ p) ↔ ((isRight (mappingAt (t .list) i .rights) ≡ true) × Passes (b .colours) (table.read (colourOf b (mappingAt (t .list) i .page))) (recordAt (t .records) (mappingAt (t .list) i .frame))))
             (byte-at b t w agree i h) (read-protection b t i reg w h);
         write-passes = λ i h.
-            subst⁻¹ (λ (p : ℕ). (2 ≤ p) ↔ ((mappingAt (t .list) i .rights ≡ readWrite) × Idle (b .colours) (table.write (colourOf b (mappingAt (t .list) i .page))) (recordAt (t .records) (mappingAt (t .list) i .frame))))
+            subst⁻¹ (λ (p : ℕ). (2 ≤ p) ↔ ((mappingAt (t .list) i .rights ≡ readWrite) × Passes (b .colours) (table.write (colourOf b (mappingAt (t .list) i .page))) (recordAt (t .records) (mappingAt (t .list) i .frame))))
             (byte-at b t w agree i h) (write-protection b t i reg w h);
       }

@@ -7,15 +7,17 @@ use native.Mathlib.Omega.{arith}
 use borrow.Author.Tests.{eq-eqb, lt-leb}
 use Rattle.board.specs.declared.Board.{Board}
 use Rattle.board.specs.Board.{colourOf}
+use Rattle.page_model.specs.Busy.{reading, writing}
 use Rattle.page_model.specs.Table as table
 use Rattle.mapping.specs.Lookup.{lookup, placeOf, placeFor}
 use Rattle.manager.specs.Answers.{refused}
-use Rattle.manager.specs.Calls.{Result, result, changeOf, writeStep, planned, placed, stepResult, listResult, commitMap, commitUnmap}
-use Rattle.manager.specs.Refusals.{Cause, firstRefusal, placeIn, refusalPlace, inOrder, spaceCause, frameCause, partCause, rightsCause, mappedCause, unmappedCause, fullCause, readOnlyCause, tableCauses, mapCauses, writeCauses, transferCauses, partCauses}
+use Rattle.manager.specs.Calls.{Result, result, changeOf, writeStep, planned, placed, stepResult, listResult, commitMap, commitUnmap, plainResult, endedTables}
+use Rattle.manager.specs.Refusals.{Cause, firstRefusal, placeIn, refusalPlace, inOrder, spaceCause, frameCause, partCause, rightsCause, mappedCause, unmappedCause, fullCause, readOnlyCause, offsetCause, busyCause, wordCause, endCause, tableCauses, mapCauses, readCauses, writeCauses, transferCauses, partCauses, wordCauses, endCauses}
+use Rattle.manager.specs.Tables.{refill}
 use Rattle.cache.specs.Store.{WellFormed}
 use Rattle.machine.specs.Plans.{storeCauses, earlier}
-use Rattle.machine.specs.Refusals.{bufferRight, offsetCause, ownCauses, causes}
-use Rattle.machine.specs.State.{State, Single, map, unmap, read, write, deviceRead, deviceWrite, deviceWritePart, evict, single}
+use Rattle.machine.specs.Refusals.{bufferRight, ownCauses, causes}
+use Rattle.machine.specs.State.{State, Single, map, unmap, read, write, deviceRead, deviceWrite, deviceWritePart, evict, beginRead, beginWrite, bringWord, takeWord, endTransfer, single}
 use Rattle.machine.specs.State as state-of
 use Rattle.machine.specs.Step.{pageFrame, accept}
 use Rattle.machine.proofs.MergeLaws.{ownPlace, merge, causes-merged}
@@ -46,7 +48,7 @@ unfolding firstRefusal
 offset-clear b offset h = rw (lt-leb (b .page) offset h)
 
 pub single-agrees : (b : Board) (st : State) (call : Single) → WellFormed b (st .store) → ManagerCall b st (single call)
-unfolding accept ownCauses inOrder refusalPlace placeIn firstRefusal mapCauses writeCauses transferCauses partCauses
+unfolding accept ownCauses inOrder refusalPlace placeIn firstRefusal mapCauses readCauses writeCauses transferCauses partCauses wordCauses endCauses
 single-agrees b st (map space page frame rights) wf =
     let l = st .tables .list in
     agrees b st (map space page frame rights)
@@ -62,22 +64,38 @@ single-agrees b st (read space page offset) wf = λ h.
     agrees b st (read space page offset) (λ n. stepResult b (st .tables) (planned n (changeOf b (st .tables) (pageFrame st space page) (table.read (colourOf b page)))))
     refl (λ n. refl) _
     (managers-first b st (read space page offset) wf refl (offsetCause (b .page) offset ∷ [])
-    (spaceCause space page ∷ unmappedCause (st .tables .list) space page ∷ []) refl refl refl (offset-clear b offset h))
+    (spaceCause space page ∷ unmappedCause (st .tables .list) space page ∷ busyCause (st .tables .records) (pageFrame st space page) (table.read (colourOf b page)) ∷ []) refl refl refl (offset-clear b offset h))
 single-agrees b st (write space page offset word) wf = λ h.
     agrees b st (write space page offset word) (λ n. stepResult b (st .tables) (planned n (changeOf b (st .tables) (pageFrame st space page) (table.write (colourOf b page)))))
     refl (λ n. refl) _
     (managers-first b st (write space page offset word) wf refl (offsetCause (b .page) offset ∷ [])
-    (spaceCause space page ∷ unmappedCause (st .tables .list) space page ∷ readOnlyCause (st .tables .list) space page ∷ []) refl refl refl (offset-clear b offset h))
+    (spaceCause space page ∷ unmappedCause (st .tables .list) space page ∷ readOnlyCause (st .tables .list) space page ∷ busyCause (st .tables .records) (pageFrame st space page) (table.write (colourOf b page)) ∷ [])
+    refl refl refl (offset-clear b offset h))
 single-agrees b st (deviceRead frame buffer) wf = λ h.
     agrees b st (deviceRead frame buffer) (λ n. stepResult b (st .tables) (planned n (changeOf b (st .tables) frame table.deviceRead)))
     refl (λ n. refl) _
-    (managers-first b st (deviceRead frame buffer) wf (eq-eqb _ _ h) [] (frameCause b frame ∷ []) refl refl refl refl)
+    (managers-first b st (deviceRead frame buffer) wf (eq-eqb _ _ h) [] (frameCause b frame ∷ busyCause (st .tables .records) frame table.deviceRead ∷ []) refl refl refl refl)
 single-agrees b st (deviceWrite frame buffer) wf = λ h.
     agrees b st (deviceWrite frame buffer) (λ n. stepResult b (st .tables) (planned n (changeOf b (st .tables) frame table.deviceWrite)))
     refl (λ n. refl) _
-    (managers-first b st (deviceWrite frame buffer) wf (eq-eqb _ _ h) [] (frameCause b frame ∷ []) refl refl refl refl)
+    (managers-first b st (deviceWrite frame buffer) wf (eq-eqb _ _ h) [] (frameCause b frame ∷ busyCause (st .tables .records) frame table.deviceWrite ∷ []) refl refl refl refl)
 single-agrees b st (deviceWritePart frame first number buffer) wf = λ h.
     agrees b st (deviceWritePart frame first number buffer) (λ n. stepResult b (st .tables) (planned n (changeOf b (st .tables) frame (writeStep b number))))
     refl (λ n. refl) _
-    (managers-first b st (deviceWritePart frame first number buffer) wf (eq-eqb _ _ h) [] (frameCause b frame ∷ partCause b first number ∷ []) refl refl refl refl)
+    (managers-first b st (deviceWritePart frame first number buffer) wf (eq-eqb _ _ h) [] (frameCause b frame ∷ partCause b first number ∷ busyCause (st .tables .records) frame table.deviceWritePart ∷ []) refl refl refl refl)
 single-agrees b st (evict line) wf = tt
+single-agrees b st (beginRead frame) wf =
+    agrees b st (beginRead frame) (λ n. stepResult b (st .tables) (planned n (changeOf b (st .tables) frame table.beginRead))) refl (λ n. refl) _
+    (managers-first b st (beginRead frame) wf refl [] (frameCause b frame ∷ busyCause (st .tables .records) frame table.beginRead ∷ []) refl refl refl refl)
+single-agrees b st (beginWrite frame) wf =
+    agrees b st (beginWrite frame) (λ n. stepResult b (st .tables) (planned n (changeOf b (st .tables) frame table.beginWrite))) refl (λ n. refl) _
+    (managers-first b st (beginWrite frame) wf refl [] (frameCause b frame ∷ busyCause (st .tables .records) frame table.beginWrite ∷ []) refl refl refl refl)
+single-agrees b st (bringWord frame offset word) wf =
+    agrees b st (bringWord frame offset word) (λ n. plainResult n (st .tables) (refill b (st .tables))) refl (λ n. refl) _
+    (managers-first b st (bringWord frame offset word) wf refl [] (frameCause b frame ∷ offsetCause (b .page) offset ∷ wordCause (st .tables .records) frame writing ∷ []) refl refl refl refl)
+single-agrees b st (takeWord frame offset) wf =
+    agrees b st (takeWord frame offset) (λ n. plainResult n (st .tables) (refill b (st .tables))) refl (λ n. refl) _
+    (managers-first b st (takeWord frame offset) wf refl [] (frameCause b frame ∷ offsetCause (b .page) offset ∷ wordCause (st .tables .records) frame reading ∷ []) refl refl refl refl)
+single-agrees b st (endTransfer frame) wf =
+    agrees b st (endTransfer frame) (λ n. plainResult n (st .tables) (endedTables b (st .tables) frame)) refl (λ n. refl) _
+    (managers-first b st (endTransfer frame) wf refl [] (frameCause b frame ∷ endCause (st .tables .records) frame ∷ []) refl refl refl refl)

@@ -8,11 +8,12 @@ use Prim.Native.Nat.{ℕ, suc, _≤_, _<_}
 use lib.ListN.{length, getD}
 use Rattle.board.specs.declared.Board.{Board}
 use Rattle.board.specs.Board.{Regular, board01, colourOf}
-use Rattle.page_model.specs.Record.{stateOf}
+use Rattle.page_model.specs.Busy.{markAfter}
+use Rattle.page_model.specs.Record.{stateOf, ended}
 use Rattle.page_model.specs.Step.{operations, firstTwo}
 use Rattle.page_model.specs.Table as table
 use Rattle.page_model.specs.Table.{cellAt}
-use Rattle.page_model.specs.Theorems.{Idle}
+use Rattle.page_model.specs.Theorems.{Passes}
 use Rattle.mapping.specs.declared.Mapping.{Mapping}
 use Rattle.mapping.specs.declared.MappingList.{MappingList}
 use Rattle.mapping.specs.Change.{insert, remove}
@@ -27,10 +28,10 @@ use Rattle.manager.specs.Theorems.{First, WellFormed}
 use Rattle.cache.specs.Cache as hardware
 use Rattle.cache.specs.Cache.{access, readWord, writeWord}
 use Rattle.cache.specs.Store as hardware-store
-use Rattle.cache.specs.Store.{Store}
+use Rattle.cache.specs.Store.{Store, memoryWord}
 use Rattle.machine.specs.Call.{mapOf, callCauses, callBuffer, perform}
 use Rattle.machine.specs.Refusals.{causes}
-use Rattle.machine.specs.State.{State, state, Single, map, unmap, read, write, deviceRead, deviceWrite, deviceWritePart, evict, Call, single, mapAll, Answer}
+use Rattle.machine.specs.State.{State, state, Single, map, unmap, read, write, deviceRead, deviceWrite, deviceWritePart, evict, beginRead, beginWrite, bringWord, takeWord, endTransfer, Call, single, mapAll, Answer}
 use Rattle.machine.specs.Step.{answer, result, pageFrame, carryOut, step}
 use Rattle.consistency.specs.Cacheless.{isRefused}
 use Rattle.consistency.specs.Demand3.{Demand3}
@@ -56,34 +57,50 @@ Demand1 b = (st : State) (call : Call) → NoCause b st call ⊎ ((n : ℕ) × F
 -- The refusals of the items of a list are in `ItemLeft` below.
 
 -- ---- 2. Orders, page states and protections are those of the page model; list, memory, cache words and tags after each call are what the
--- board's rules leave. An access passes without a stop exactly if its right allows it and the model would order nothing and alter nothing.
+-- board's rules leave. An access passes without a stop exactly if its right allows it, no transfer bars it, and the model would order nothing and
+-- alter nothing.
 
--- a step of the page model on a frame, and the one that a call makes, if any
-pub record FrameStep : Type 0 where
-  pub frame : ℕ
-  pub step : table.Step
+-- what a call makes of the record of a frame: a step of the page model, the end of a transfer, or nothing
+pub data Effect : Type 0 where
+  steps : ℕ → table.Step → Effect
+  ends : ℕ → Effect
+  nothing : Effect
 
-abbrev pub stepOf : Board → State → Single → Option FrameStep
-stepOf b st (map space page frame rights) = none
-stepOf b st (unmap space page) = none
-stepOf b st (read space page offset) = some (record { frame = pageFrame st space page; step = table.read (colourOf b page) })
-stepOf b st (write space page offset word) = some (record { frame = pageFrame st space page; step = table.write (colourOf b page) })
-stepOf b st (deviceRead frame buffer) = some (record { frame = frame; step = table.deviceRead })
-stepOf b st (deviceWrite frame buffer) = some (record { frame = frame; step = table.deviceWrite })
-stepOf b st (deviceWritePart frame first number buffer) = some (record { frame = frame; step = writeStep b number })
-stepOf b st (evict line) = none
+abbrev pub effectOf : Board → State → Single → Effect
+effectOf b st (map space page frame rights) = nothing
+effectOf b st (unmap space page) = nothing
+effectOf b st (read space page offset) = steps (pageFrame st space page) (table.read (colourOf b page))
+effectOf b st (write space page offset word) = steps (pageFrame st space page) (table.write (colourOf b page))
+effectOf b st (deviceRead frame buffer) = steps frame table.deviceRead
+effectOf b st (deviceWrite frame buffer) = steps frame table.deviceWrite
+effectOf b st (deviceWritePart frame first number buffer) = steps frame (writeStep b number)
+effectOf b st (evict line) = nothing
+effectOf b st (beginRead frame) = steps frame table.beginRead
+effectOf b st (beginWrite frame) = steps frame table.beginWrite
+effectOf b st (bringWord frame offset word) = nothing
+effectOf b st (takeWord frame offset) = nothing
+effectOf b st (endTransfer frame) = ends frame
 
--- the orders are the table's, in order and on this frame; each of its colours is in the state of its cell, and other frames are as they were
+-- the orders are the table's, in order and on this frame; each of its colours is in the state of its cell, its mark is the step's, and other
+-- frames are as they were
 pub record ByTable (b : Board) (before after : Tables) (o : Outcome) (f : ℕ) (s : table.Step) : Type 0 where
   pub few : length (operations (b .colours) s (recordAt (before .records) f)) ≤ 2
   pub ordered : o ≡ accepted f (firstTwo (operations (b .colours) s (recordAt (before .records) f)))
   pub states : (k : ℕ) → k < b .colours → stateOf (recordAt (after .records) f) k ≡ cellAt s k (stateOf (recordAt (before .records) f) k) .next
+  pub mark : recordAt (after .records) f .busy ≡ markAfter s (recordAt (before .records) f .busy)
   pub others : (g : ℕ) → g ≢ f → recordAt (after .records) g ≡ recordAt (before .records) g
 
--- a call that makes no step orders nothing and leaves every record
-abbrev pub Modelled : Board → Tables → Tables → Outcome → Option FrameStep → Type 0
-Modelled b before after o none = (o ≡ accepted 0 noOps) × (after .records ≡ before .records)
-Modelled b before after o (some s) = ByTable b before after o (s .frame) (s .step)
+-- no order; this frame's record has its mark taken off, and is else as it was, and so are other frames
+pub record ByEnd (before after : Tables) (o : Outcome) (f : ℕ) : Type 0 where
+  pub ordered : o ≡ accepted 0 noOps
+  pub unmarked : recordAt (after .records) f ≡ ended (recordAt (before .records) f)
+  pub others : (g : ℕ) → g ≢ f → recordAt (after .records) g ≡ recordAt (before .records) g
+
+-- a call that does neither orders nothing and leaves every record
+abbrev pub Modelled : Board → Tables → Tables → Outcome → Effect → Type 0
+Modelled b before after o (steps f s) = ByTable b before after o f s
+Modelled b before after o (ends f) = ByEnd before after o f
+Modelled b before after o nothing = (o ≡ accepted 0 noOps) × (after .records ≡ before .records)
 
 -- the list after a single call
 abbrev pub listAfter : MappingList → Single → MappingList
@@ -95,6 +112,11 @@ listAfter l (deviceRead frame buffer) = l
 listAfter l (deviceWrite frame buffer) = l
 listAfter l (deviceWritePart frame first number buffer) = l
 listAfter l (evict line) = l
+listAfter l (beginRead frame) = l
+listAfter l (beginWrite frame) = l
+listAfter l (bringWord frame offset word) = l
+listAfter l (takeWord frame offset) = l
+listAfter l (endTransfer frame) = l
 
 -- what a call answers besides its orders, and the memory and cache that it leaves, where its orders leave s
 pub record Access : Type 0 where
@@ -115,12 +137,17 @@ accessOf b st (deviceRead frame buffer) s = accessed none (hardware.deviceRead b
 accessOf b st (deviceWrite frame buffer) s = accessed none [] (hardware.deviceWrite b frame 0 buffer s)
 accessOf b st (deviceWritePart frame first number buffer) s = accessed none [] (hardware.deviceWrite b frame first buffer s)
 accessOf b st (evict line) s = accessed none [] (hardware.evict b line s)
+accessOf b st (beginRead frame) s = accessed none [] s
+accessOf b st (beginWrite frame) s = accessed none [] s
+accessOf b st (bringWord frame offset word) s = accessed none [] (hardware.bringWord b frame offset word s)
+accessOf b st (takeWord frame offset) s = accessed (some (memoryWord b s frame offset)) [] s
+accessOf b st (endTransfer frame) s = accessed none [] s
 
 -- what an accepted single call leaves, and answers
 pub record Left (b : Board) (st : State) (call : Single) (after : State) (a : Answer) : Type 0 where
   pub tables-kept : WellFormed b (after .tables)
   pub store-kept : hardware-store.WellFormed b (after .store)
-  pub modelled : Modelled b (st .tables) (after .tables) (a .outcome) (stepOf b st call)
+  pub modelled : Modelled b (st .tables) (after .tables) (a .outcome) (effectOf b st call)
   pub listed : after .tables .list ≡ listAfter (st .tables .list) call
   pub made : accessed (a .word) (a .buffer) (after .store) ≡ accessOf b st call (carryOut b (a .outcome) (st .store))
   -- the whole buffer of protections is what list and records give, whatever it held before
@@ -133,12 +160,12 @@ pub record Left (b : Board) (st : State) (call : Single) (after : State) (a : An
       (i : ℕ) → i < after .tables .list .count
       → let m = mappingAt (after .tables .list) i in
       (1 ≤ getD (after .tables .protections) i 0)
-      ↔ ((isRight (m .rights) ≡ true) × Idle (b .colours) (table.read (colourOf b (m .page))) (recordAt (after .tables .records) (m .frame)))
+      ↔ ((isRight (m .rights) ≡ true) × Passes (b .colours) (table.read (colourOf b (m .page))) (recordAt (after .tables .records) (m .frame)))
   pub write-passes :
       (i : ℕ) → i < after .tables .list .count
       → let m = mappingAt (after .tables .list) i in
       (2 ≤ getD (after .tables .protections) i 0)
-      ↔ ((m .rights ≡ readWrite) × Idle (b .colours) (table.write (colourOf b (m .page))) (recordAt (after .tables .records) (m .frame)))
+      ↔ ((m .rights ≡ readWrite) × Passes (b .colours) (table.write (colourOf b (m .page))) (recordAt (after .tables .records) (m .frame)))
 
 -- no order, no word
 abbrev pub mapped : List ℕ → Answer

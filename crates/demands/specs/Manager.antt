@@ -8,11 +8,11 @@ use Rattle.board.specs.declared.Board.{Board}
 use Rattle.mapping.specs.declared.Mapping.{Mapping}
 use Rattle.mapping.specs.Batch.{batchOf, itemsOf}
 use Rattle.manager.specs.Batch.{BatchResult, batchResult, mapAllCall}
-use Rattle.manager.specs.Calls.{Result, result, mapCall, unmapCall, readCall, writeCall, deviceReadCall, deviceWriteCall, deviceWritePartCall}
+use Rattle.manager.specs.Calls.{Result, result, mapCall, unmapCall, readCall, writeCall, deviceReadCall, deviceWriteCall, deviceWritePartCall, beginReadCall, beginWriteCall, bringWordCall, takeWordCall, endTransferCall}
 use Rattle.manager.specs.Tables.{Tables}
 use Rattle.cache.specs.Store.{WellFormed}
 use Rattle.machine.specs.Call.{perform}
-use Rattle.machine.specs.State.{State, Single, map, unmap, read, write, deviceRead, deviceWrite, deviceWritePart, evict, Call, single, mapAll}
+use Rattle.machine.specs.State.{State, Single, map, unmap, read, write, deviceRead, deviceWrite, deviceWritePart, evict, beginRead, beginWrite, bringWord, takeWord, endTransfer, Call, single, mapAll}
 use Rattle.machine.specs.Step.{step}
 
 abbrev pub Agrees : Board → State → Single → Result → Type 0
@@ -34,6 +34,11 @@ ManagerCall b st (single (deviceWrite frame buffer)) = length buffer ≡ b .page
 ManagerCall b st (single (deviceWritePart frame first number buffer)) =
     length buffer ≡ number → Agrees b st (deviceWritePart frame first number buffer) (deviceWritePartCall b (st .tables) frame first number)
 ManagerCall b st (single (evict line)) = Unit {0}
+ManagerCall b st (single (beginRead frame)) = Agrees b st (beginRead frame) (beginReadCall b (st .tables) frame)
+ManagerCall b st (single (beginWrite frame)) = Agrees b st (beginWrite frame) (beginWriteCall b (st .tables) frame)
+ManagerCall b st (single (bringWord frame offset word)) = Agrees b st (bringWord frame offset word) (bringWordCall b (st .tables) frame offset)
+ManagerCall b st (single (takeWord frame offset)) = Agrees b st (takeWord frame offset) (takeWordCall b (st .tables) frame offset)
+ManagerCall b st (single (endTransfer frame)) = Agrees b st (endTransfer frame) (endTransferCall b (st .tables) frame)
 ManagerCall b st (mapAll items answers) = BatchAgrees b st (mapAll items answers) (mapAllCall b (st .tables) items answers)
 
 abbrev pub ManagerAgrees : Board → Type 0
