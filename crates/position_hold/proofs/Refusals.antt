@@ -7,13 +7,16 @@ use Prim.Native.Nat.{ℕ, zero, suc, _≤_, _<_}
 use native.Mathlib.Omega.{arith}
 use borrow.Author.Tests.{lt-leb}
 use Rattle.board.specs.declared.Board.{Board}
-use Rattle.board.specs.Board.{Regular}
+use Rattle.board.specs.Board.{Regular, colourOf}
+use Rattle.page_model.specs.Busy.{bars}
+use Rattle.page_model.specs.Table as table
 use Rattle.mapping.specs.declared.MappingList.{MappingList}
-use Rattle.manager.specs.Refusals.{firstRefusal, spaceCause, unmappedCause}
+use Rattle.mapping.specs.Lookup.{listedMapping}
+use Rattle.manager.specs.Refusals.{firstRefusal, spaceCause, unmappedCause, busyCause}
 use Rattle.manager.specs.Theorems.{WellFormed}
 use Rattle.cache.specs.Store as hardware
 use Rattle.machine.specs.Call.{callCauses}
-use Rattle.machine.specs.Refusals.{lentCauses, ownCauses, causes}
+use Rattle.machine.specs.Refusals.{lentCauses, pageBusy, ownCauses, causes}
 use Rattle.machine.specs.State.{State, read, single}
 use Rattle.machine.specs.Step.{accept}
 use Rattle.machine.proofs.StepLaws.{clear, store-clear, step-accepted, step-refused}
@@ -34,6 +37,7 @@ module _ (b : Board) (reg : Regular b) (space page : ℕ) where
     pub store-kept : hardware.WellFormed b (st .store)
     pub in-space : spaceCause space page .applies ≡ false
     pub mapped : unmappedCause (st .tables .list) space page .applies ≡ false
+    pub unbarred : pageBusy st space page (table.read (colourOf b page)) .applies ≡ false
 
   read-clear : (st : State) (k : ℕ) → Ready st → k < b .page → firstRefusal (causes b st (read space page k)) ≡ 0
   unfolding causes lentCauses ownCauses
@@ -41,14 +45,14 @@ module _ (b : Board) (reg : Regular b) (space page : ℕ) where
       let w = r .store-kept in
       none-refused (causes b st (read space page k)) (
         ap not (ap₂ _&&_ (ap₂ _&&_ (r .tables-kept .0) (store.lengths-right b (st .store) (w .memory-length) (w .words-length) (w .tags-length))) refl),
-        (ap not (ap₂ _&&_ (r .tables-kept .1) (w .tags-rules)), (r .in-space, (lt-leb (b .page) k h, (r .mapped, tt)))),
+        (ap not (ap₂ _&&_ (r .tables-kept .1) (w .tags-rules)), (r .in-space, (lt-leb (b .page) k h, (r .mapped, (r .unbarred, tt))))),
       )
 
   first-ready : (st : State) (k : ℕ) → firstRefusal (causes b st (read space page k)) ≡ 0 → Ready st
   unfolding causes lentCauses ownCauses
   first-ready st k e =
       let n = clear b st (read space page k) e in
-      record { tables-kept = tables-lent b st (read space page k) e; store-kept = store-clear b st (read space page k) e; in-space = n .1 .1 .0; mapped = n .1 .1 .1 .1 .0 }
+      record { tables-kept = tables-lent b st (read space page k) e; store-kept = store-clear b st (read space page k) e; in-space = n .1 .1 .0; mapped = n .1 .1 .1 .1 .0; unbarred = n .1 .1 .1 .1 .1 .0 }
 
   -- an accepted read leaves the next one ready
   next-ready : (st : State) (k : ℕ) → Ready st → firstRefusal (causes b st (read space page k)) ≡ 0 → Ready (accept b st (read space page k) .after)
@@ -59,6 +63,10 @@ module _ (b : Board) (reg : Regular b) (space page : ℕ) where
         store-kept = l .store-kept;
         in-space = r .in-space;
         mapped = subst⁻¹ (λ (list : MappingList). unmappedCause list space page .applies ≡ false) (l .listed) (r .mapped);
+        unbarred =
+            subst⁻¹ (λ (list : MappingList). busyCause (accept b st (read space page k) .after .tables .records) (listedMapping list space page .frame) (table.read (colourOf b page)) .applies ≡ false)
+            (l .listed)
+            (subst⁻¹ (λ (mark : ℕ). bars mark (table.read (colourOf b page)) ≡ false) (l .modelled .mark) (r .unbarred));
       }
 
   -- the first k reads are accepted

@@ -11,7 +11,7 @@ use Rattle.board.specs.declared.Board.{Board}
 use Rattle.mapping.specs.declared.Mapping.{Mapping}
 use Rattle.manager.specs.Batch.{itemAt}
 use Rattle.machine.specs.Call.{mapOf}
-use Rattle.machine.specs.State.{Single, map, unmap, read, write, deviceRead, deviceWrite, deviceWritePart, evict, Call, single, mapAll, Answer}
+use Rattle.machine.specs.State.{Single, map, unmap, read, write, deviceRead, deviceWrite, deviceWritePart, evict, beginRead, beginWrite, bringWord, takeWord, endTransfer, Call, single, mapAll, Answer}
 use Rattle.consistency.specs.Cacheless.{Cacheless, start, stored, afterAccepted, afterSingle, itemsTaken, isRefused, itemRefused, fed}
 use Rattle.position_hold.specs.Sent.{mappedFrame, isFrame, lastSent, itemsAnd, acceptedAnd}
 
@@ -78,6 +78,15 @@ module _ (m : Cacheless) (calls : List Single) (told : Told m calls) where
         frames-told = told .frames-told;
       }
   told-accepted (evict line) = record { words-told = told .words-told; frames-told = told .frames-told }
+  told-accepted (beginRead frame) = record { words-told = told .words-told; frames-told = told .frames-told }
+  told-accepted (beginWrite frame) = record { words-told = told .words-told; frames-told = told .frames-told }
+  told-accepted (bringWord frame offset word) =
+      record {
+        words-told = λ f o w e. either (eqb frame f && eqb offset o) word (m .word f o) w (lastSent calls f o) (told .words-told f o w) e;
+        frames-told = told .frames-told;
+      }
+  told-accepted (takeWord frame offset) = record { words-told = told .words-told; frames-told = told .frames-told }
+  told-accepted (endTransfer frame) = record { words-told = told .words-told; frames-told = told .frames-told }
 
 -- a single call, refused or not
 told-single : (m : Cacheless) (calls : List Single) → Told m calls → (call : Single) (refused : Bool)

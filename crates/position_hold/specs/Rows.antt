@@ -7,7 +7,7 @@ use lib.ListN.{replicate}
 use Rattle.board.specs.Board.{board01, memoryWords, cacheWords}
 use Rattle.mapping.specs.declared.Mapping.{Mapping}
 use Rattle.mapping.specs.Entry.{capacity}
-use Rattle.machine.specs.State.{State, Single, map, unmap, read, write, deviceRead, deviceWrite, deviceWritePart, evict, single, mapAll}
+use Rattle.machine.specs.State.{State, Single, map, unmap, read, write, deviceRead, deviceWrite, deviceWritePart, evict, beginRead, beginWrite, bringWord, takeWord, endTransfer, single, mapAll}
 use Rattle.consistency.specs.Demand3.{startState}
 use Rattle.position_hold.specs.Sent.{lastSent}
 use Rattle.position_hold.specs.Theorems.{Act, call, look, acceptedIn}
@@ -48,6 +48,16 @@ two = one (deviceWritePart 3 2 2 (50 ∷ 60 ∷ []))
 
 abbrev page : Act
 page = one (deviceWrite 3 (1 ∷ 1000 ∷ 5 ∷ 6 ∷ replicate 60 7))
+
+-- a transfer that takes a while, to frame 3: its beginning, a word to offset 2, and its end
+abbrev begins : Act
+begins = one (beginWrite 3)
+
+abbrev brings : ℕ → Act
+brings w = one (bringWord 3 2 w)
+
+abbrev ends : Act
+ends = one (endTransfer 3)
 
 -- pages 0 and 1 of space 0 at once
 abbrev item : ℕ → Mapping
@@ -92,5 +102,24 @@ rows =
     ∷ row (four ∷ both [] ∷ one (write 0 1 3 100) ∷ []) 3 3 (some 6)
     ∷ []
 
+-- transfers that take a while
+abbrev pub slowRows : List Row
+slowRows =
+    -- a word that is brought is sent as it is, to its frame and offset alone; the last one counts
+    row (chart ∷ four ∷ begins ∷ []) 3 2 (some 5)
+    ∷ row (chart ∷ four ∷ begins ∷ brings 70 ∷ []) 3 2 (some 70)
+    ∷ row (chart ∷ four ∷ begins ∷ brings 70 ∷ []) 3 3 (some 6)
+    ∷ row (chart ∷ four ∷ begins ∷ brings 70 ∷ brings 80 ∷ ends ∷ []) 3 2 (some 80)
+    ∷ row (one (beginWrite 63) ∷ one (bringWord 63 2 70) ∷ []) 63 2 (some 70)
+    ∷ row (one (beginWrite 63) ∷ one (bringWord 63 2 70) ∷ []) 3 2 none
+    -- a program's write during the transfer is refused, and after it is not
+    ∷ row (chart ∷ begins ∷ brings 70 ∷ one (write 0 0 2 100) ∷ ends ∷ []) 3 2 (some 70)
+    ∷ row (chart ∷ begins ∷ brings 70 ∷ ends ∷ one (write 0 0 2 100) ∷ []) 3 2 none
+    -- refused: a word without its transfer, and during a device's read, which sends nothing; a part during the transfer
+    ∷ row (chart ∷ four ∷ brings 70 ∷ []) 3 2 (some 5)
+    ∷ row (chart ∷ four ∷ one (beginRead 3) ∷ brings 70 ∷ one (takeWord 3 2) ∷ ends ∷ []) 3 2 (some 5)
+    ∷ row (chart ∷ four ∷ begins ∷ two ∷ []) 3 2 (some 5)
+    ∷ []
+
 abbrev pub LastSentRows : Type 0
-LastSentRows = EveryRowHolds rows
+LastSentRows = EveryRowHolds rows × EveryRowHolds slowRows
