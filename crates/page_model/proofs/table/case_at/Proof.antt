@@ -31,6 +31,11 @@ past-four k n0 n1 n2 n3 = omega arith
 past-seven : (k : ℕ) → 4 ≤ k → (k ≡ 4 → ⊥) → (k ≡ 5 → ⊥) → (k ≡ 6 → ⊥) → 7 ≤ k
 past-seven k l n4 n5 n6 = omega arith
 
+past : (k : ℕ)
+    → ((((((Unit {0} × (k ≡ 0 → ⊥)) × (k ≡ 1 → ⊥)) × (k ≡ 2 → ⊥)) × (k ≡ 3 → ⊥)) × (k ≡ 4 → ⊥)) × (k ≡ 5 → ⊥)) × (k ≡ 6 → ⊥)
+    → 7 ≤ k
+past k n = past-seven k (past-four k (n .0 .0 .0 .0 .0 .0 .1) (n .0 .0 .0 .0 .0 .1) (n .0 .0 .0 .0 .1) (n .0 .0 .0 .1)) (n .0 .0 .1) (n .0 .1) (n .1)
+
 -- the cell of the numbers that led to an arm
 at : (step : ℕ) (own : Bool) (state : ℕ) {step′ state′ : ℕ} {own′ : Bool} → step′ ≡ step → own′ ≡ own → state′ ≡ state
     → caseIn (rowAt step (roleIf own)) state ≡ caseAt step′ own′ state′
@@ -86,6 +91,4 @@ case-at-spec =
     (λ c. at 6 _ 2 (omega arith) refl (omega arith))
     (λ c. at 6 _ 3 (omega arith) refl (omega arith))
     (λ c. other-state _ _ _ (omega arith))
-    (λ c.
-    let n = c .match .rest in
-    other-step _ _ _ (past-seven _ (past-four _ (n .0 .0 .0 .0 .0 .0 .1) (n .0 .0 .0 .0 .0 .1) (n .0 .0 .0 .0 .1) (n .0 .0 .0 .1)) (n .0 .0 .1) (n .0 .1) (n .1))))
+    (λ c. other-step _ _ _ (past _ (c .match .rest))))
