@@ -1,6 +1,9 @@
 //! Ways to damage a run sheet. Most leave it broken, in one place only.
 
-use crate::generate::{Sheet, DEVICE_READ, DEVICE_WRITE, EVICT, MAPPINGS, READ, STEPS, UNMAP};
+use crate::generate::{
+    Sheet, BEGIN_READ, BEGIN_WRITE, BRING, DEVICE_READ, DEVICE_WRITE, END, EVICT, MAPPINGS, READ,
+    STEPS, TAKE, UNMAP,
+};
 use crate::random::Random;
 
 #[derive(Clone, Copy, Debug, PartialEq, Eq, PartialOrd, Ord)]
@@ -71,7 +74,7 @@ impl Damage {
             Self::Kind => {
                 if !sheet.steps.is_empty() {
                     let at = random.below(sheet.steps.len());
-                    sheet.steps[at][0] = random.pick(&[0, 8, 9, 129, 255]);
+                    sheet.steps[at][0] = random.pick(&[0, END + 1, END + 2, 129, 255]);
                 }
                 sheet.encode()
             }
@@ -113,7 +116,10 @@ fn unused(kind: u8) -> &'static [usize] {
     match kind {
         READ => &[5, 6, 7, 8],
         DEVICE_READ | EVICT => &[2, 3, 4, 5, 6, 7, 8],
+        BEGIN_READ | BEGIN_WRITE | END => &[2, 3, 4, 5, 6, 7, 8],
         DEVICE_WRITE => &[2, 3, 4],
+        BRING => &[2, 3],
+        TAKE => &[2, 3, 5, 6, 7, 8],
         UNMAP => &[4, 5, 6, 7, 8],
         _ => &[],
     }

@@ -1,5 +1,5 @@
-//! Random run sheets: of every size, with refusals of every sort, with many pages for few frames,
-//! and some of them damaged.
+//! Random run sheets: of every size, with refusals of every sort, with many pages for few frames, with
+//! transfers that take a while, and some of them damaged.
 
 use crate::damage::Damage;
 use crate::random::Random;
@@ -22,6 +22,12 @@ pub const DEVICE_WRITE: u8 = 4;
 pub const EVICT: u8 = 5;
 pub const UNMAP: u8 = 6;
 pub const DEVICE_WRITE_PART: u8 = 7;
+pub const BEGIN_READ: u8 = 8;
+pub const BEGIN_WRITE: u8 = 9;
+pub const BRING: u8 = 10;
+pub const TAKE: u8 = 11;
+pub const END: u8 = 12;
+const KINDS: usize = END as usize;
 
 pub type Mapping = [u8; 5];
 pub type Step = [u8; 9];
@@ -69,7 +75,7 @@ pub fn accepted_sheet(seed: u64, mappings: usize) -> Vec<u8> {
         offsets: (0..OFFSETS).collect(),
         read_only: 0,
         bad: 0,
-        weights: [45, 35, 6, 6, 8, 0, 0],
+        weights: [45, 35, 6, 6, 8, 0, 0, 0, 0, 0, 0, 0],
     };
     Maker::make(&mut random, plan).encode()
 }
@@ -87,7 +93,7 @@ struct Plan {
     /// How many of 100 calls are to be refused.
     bad: usize,
     /// How often each kind of step comes, from kind 1.
-    weights: [usize; 7],
+    weights: [usize; KINDS],
 }
 
 impl Plan {
@@ -124,12 +130,13 @@ impl Plan {
             read_only: random.pick(&[0, 10, 30]),
             bad: random.pick(&[0, 0, 5, 30]),
             weights: random.pick(&[
-                [40, 40, 6, 6, 7, 1, 6],
-                [20, 20, 25, 15, 8, 2, 20],
-                [30, 30, 4, 4, 30, 2, 8],
-                [30, 30, 8, 8, 4, 20, 8],
-                [10, 60, 5, 10, 10, 0, 10],
-                [30, 35, 4, 4, 4, 1, 30],
+                [40, 40, 6, 6, 7, 1, 6, 0, 0, 0, 0, 0],
+                [20, 20, 25, 15, 8, 2, 20, 3, 3, 10, 10, 12],
+                [30, 30, 4, 4, 30, 2, 8, 4, 4, 20, 20, 12],
+                [30, 30, 8, 8, 4, 20, 8, 3, 3, 8, 8, 10],
+                [10, 60, 5, 10, 10, 0, 10, 3, 5, 14, 14, 14],
+                [30, 35, 4, 4, 4, 1, 30, 2, 2, 6, 6, 8],
+                [30, 20, 2, 2, 8, 2, 3, 6, 6, 40, 40, 16],
             ]),
         }
     }
@@ -142,11 +149,20 @@ struct Place {
     page: u16,
 }
 
+/// A transfer that the sheet's calls so far have begun and not ended.
+#[derive(Clone, Copy)]
+struct Begun {
+    frame: u8,
+    /// The kind of its words.
+    word: u8,
+}
+
 struct Maker<'a> {
     random: &'a mut Random,
     plan: Plan,
     mapped: Vec<Place>,
     unmapped: Vec<Place>,
+    begun: Vec<Begun>,
 }
 
 impl<'a> Maker<'a> {
@@ -157,6 +173,7 @@ impl<'a> Maker<'a> {
             plan,
             mapped: Vec::new(),
             unmapped: Vec::new(),
+            begun: Vec::new(),
         };
         Sheet {
             mappings: (0..mappings).map(|_| maker.mapping()).collect(),
@@ -178,7 +195,7 @@ impl<'a> Maker<'a> {
             place = self.beyond(place);
         }
         if bad_frame {
-            frame = self.random.pick(&[64, 65, 127, 128, 192, 255]);
+            frame = self.past_frame();
         }
         if bad_rights {
             rights = self.random.pick(&[0, 3, 4, 255]);
@@ -195,6 +212,10 @@ impl<'a> Maker<'a> {
         if kind == UNMAP && self.long() && 2 * self.mapped.len() <= self.plan.mappings {
             kind = READ;
         }
+        // Few words and ends come where nothing is begun.
+        if matches!(kind, BRING | TAKE | END) && self.begun.is_empty() && !self.random.chance(10) {
+            kind = self.random.pick(&[READ, WRITE]);
+        }
         let word = self.word();
         match kind {
             READ | WRITE => {
@@ -209,6 +230,13 @@ impl<'a> Maker<'a> {
                 encode(kind, self.frame(), offset, count, word)
             }
             EVICT => encode(kind, self.line(), 0, 0, 0),
+            BEGIN_READ | BEGIN_WRITE => encode(kind, self.beginning_frame(kind), 0, 0, 0),
+            BRING | TAKE => {
+                let (kind, frame, offset) = self.transfer_word(kind);
+                let word = if kind == BRING { word } else { 0 };
+                encode(kind, frame, 0, offset, word)
+            }
+            END => encode(kind, self.ending_frame(), 0, 0, 0),
             _ => {
                 let place = self.leaving_place();
                 encode(kind, place.space, place.page, 0, 0)
@@ -258,10 +286,14 @@ impl<'a> Maker<'a> {
     fn frame(&mut self) -> u8 {
         let [bad, ..] = self.faults();
         match self.random.below(8) {
-            _ if bad => self.random.pick(&[64, 65, 127, 128, 192, 255]),
+            _ if bad => self.past_frame(),
             0 => self.random.below(FRAMES) as u8,
             _ => self.random.pick(&self.plan.frames) as u8,
         }
+    }
+
+    fn past_frame(&mut self) -> u8 {
+        self.random.pick(&[64, 65, 127, 128, 192, 255])
     }
 
     /// The first offset and the number of a part's words: in the page, unless it is to be refused.
@@ -302,6 +334,55 @@ impl<'a> Maker<'a> {
             some,
             some,
         ])
+    }
+
+    /// The frame of a begin. Some are busy, and so the begin is refused.
+    fn beginning_frame(&mut self, kind: u8) -> u8 {
+        let frame = self.frame();
+        let busy = self.begun.iter().any(|begun| begun.frame == frame);
+        if usize::from(frame) < FRAMES && !busy {
+            let word = if kind == BEGIN_READ { TAKE } else { BRING };
+            self.begun.push(Begun { frame, word });
+        }
+        frame
+    }
+
+    /// The kind, frame and offset of a transfer's word: of one that is begun, in its direction but for a few, unless
+    /// it is to be refused. Often the offset is one that programs reach, or the next.
+    fn transfer_word(&mut self, kind: u8) -> (u8, u8, u8) {
+        let [bad_frame, bad_offset, not_begun, other_way] = self.faults();
+        let (frame, kind) = match self.begun.as_slice() {
+            begun @ [_, ..] if !not_begun => {
+                let Begun { frame, word } = self.random.pick(begun);
+                let other = BRING + TAKE - word;
+                let other_way = other_way || self.random.chance(4);
+                (frame, if other_way { other } else { word })
+            }
+            _ => (self.frame(), kind),
+        };
+        let reached = self.random.pick(&self.plan.offsets);
+        let any = self.random.below(OFFSETS);
+        let offset = self
+            .random
+            .pick(&[reached, reached, (reached + 1) % OFFSETS, any]);
+        let past = self.random.pick(&[64, 65, 72, 128, 255]);
+        (
+            kind,
+            if bad_frame { self.past_frame() } else { frame },
+            if bad_offset { past } else { offset as u8 },
+        )
+    }
+
+    /// The frame of an end: of a transfer that is begun, unless it is to be refused.
+    fn ending_frame(&mut self) -> u8 {
+        let [bad_frame, not_begun, ..] = self.faults();
+        let frame = match self.begun.as_slice() {
+            _ if bad_frame => self.past_frame(),
+            begun @ [_, ..] if !not_begun => self.random.pick(begun).frame,
+            _ => self.frame(),
+        };
+        self.begun.retain(|begun| begun.frame != frame);
+        frame
     }
 
     fn line(&mut self) -> u8 {

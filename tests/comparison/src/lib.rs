@@ -1,5 +1,6 @@
 //! Random run sheets, and the comparison of two programs on them.
 
+pub mod busy;
 pub mod damage;
 pub mod generate;
 pub mod harness;

@@ -1,8 +1,13 @@
 //! What the compared sheets met, counted from their text, so that a reader sees that nothing was
 //! left out.
 
+use crate::busy::Mark::{self, DeviceReads, DeviceWrites, Free};
+use crate::busy::Marks;
 use crate::damage::Damage;
-use crate::generate::{DEVICE_WRITE_PART, MAPPINGS, STEPS};
+use crate::generate::{
+    BEGIN_READ, BEGIN_WRITE, BRING, DEVICE_READ, DEVICE_WRITE, DEVICE_WRITE_PART, END, EVICT,
+    MAPPINGS, READ, STEPS, TAKE, UNMAP, WRITE,
+};
 use std::collections::BTreeMap;
 use std::fmt;
 
@@ -24,17 +29,27 @@ const fn kind(name: &'static str, orders: &'static [usize], refusals: &'static [
     }
 }
 
-/// The mappings, then the steps by their number, parts by how they lie to their page. No sheet meets
-/// refusal 1 or 2, since the program's own buffers have their lengths and keep the rules, 9, since no
-/// mapping follows the 256th, or 12 or 14, since no step is a list of mappings or a look at the position.
-const KINDS: [Kind; 15] = [
-    kind("map", &[0], &[3, 4, 5, 7]),
+const MAP: &str = "map";
+
+/// The mappings, then the steps by their number: parts by how they lie to their page, and steps of a busy frame
+/// apart from the others, most by what the device does there. No sheet meets refusal 1 or 2, since the program's
+/// own buffers have their lengths and keep the rules, 9, since no mapping follows the 256th, or 12 or 14, since no
+/// step is a list of mappings or a look at the position.
+const KINDS: [Kind; 35] = [
+    kind(MAP, &[0], &[3, 4, 5, 7]),
     kind("read", &[0, 1, 2, 3], &[3, 6, 8]),
+    kind("read, device reads", &[0, 2], &[6]),
+    kind("read, device writes", &[], &[6, 15]),
     kind("write", &[0, 1, 2, 3], &[3, 6, 8, 10]),
+    kind("write, device reads", &[], &[6, 10, 15]),
+    kind("write, device writes", &[], &[6, 10, 15]),
     kind("device read", &[0, 1], &[4]),
+    kind("device read, busy", &[], &[15]),
     kind("device write", &[0, 2], &[4]),
+    kind("device write, busy", &[], &[15]),
     kind("evict", &[0], &[6]),
     kind("unmap", &[0], &[3, 8]),
+    kind("unmap, busy", &[0], &[]),
     kind("part no words", &[], &[4, 13]),
     kind("part whole", &[0, 2], &[4]),
     kind("part inside", &[0, 1], &[4]),
@@ -43,36 +58,101 @@ const KINDS: [Kind; 15] = [
     kind("part past", &[], &[4, 13]),
     kind("part beyond", &[], &[4, 13]),
     kind("part overflow", &[], &[4, 13]),
+    kind("part, busy", &[], &[13, 15]),
+    kind("begin read", &[0, 1], &[4]),
+    kind("begin read, busy", &[], &[15]),
+    kind("begin write", &[0, 1], &[4]),
+    kind("begin write, busy", &[], &[15]),
+    kind("bring", &[], &[4, 6, 16]),
+    kind("bring, device reads", &[], &[6, 16]),
+    kind("bring, device writes", &[0], &[6]),
+    kind("take", &[], &[4, 6, 16]),
+    kind("take, device reads", &[0], &[6]),
+    kind("take, device writes", &[], &[6, 16]),
+    kind("end", &[], &[4, 16]),
+    kind("end, busy", &[0], &[]),
 ];
 
-/// The place in `KINDS` of a step.
-fn kind_of(step: &[u8]) -> usize {
-    let kind = usize::from(step[0]);
-    if step[0] != DEVICE_WRITE_PART {
-        return kind;
-    }
-    let first = usize::from(u16::from_le_bytes([step[2], step[3]]));
-    let count = usize::from(step[4]);
-    kind + match (first, count, first + count) {
-        (_, 0, _) => 0,
-        (0, _, 64) => 1,
-        (_, _, ..64) => 2,
-        (_, _, 64) => 3,
-        (_, _, 65) => 4,
-        (..64, _, _) => 5,
-        (_, _, ..65536) => 6,
-        // The sum does not fit the first offset's two bytes.
-        _ => 7,
+/// The name of a step's kind, where its frame has this mark.
+fn name(step: &[u8], mark: Mark) -> &'static str {
+    match (step[0], mark) {
+        (READ, Free) => "read",
+        (READ, DeviceReads) => "read, device reads",
+        (READ, DeviceWrites) => "read, device writes",
+        (WRITE, Free) => "write",
+        (WRITE, DeviceReads) => "write, device reads",
+        (WRITE, DeviceWrites) => "write, device writes",
+        (DEVICE_READ, Free) => "device read",
+        (DEVICE_READ, _) => "device read, busy",
+        (DEVICE_WRITE, Free) => "device write",
+        (DEVICE_WRITE, _) => "device write, busy",
+        (EVICT, _) => "evict",
+        (UNMAP, Free) => "unmap",
+        (UNMAP, _) => "unmap, busy",
+        (DEVICE_WRITE_PART, Free) => part_name(step),
+        (DEVICE_WRITE_PART, _) => "part, busy",
+        (BEGIN_READ, Free) => "begin read",
+        (BEGIN_READ, _) => "begin read, busy",
+        (BEGIN_WRITE, Free) => "begin write",
+        (BEGIN_WRITE, _) => "begin write, busy",
+        (BRING, Free) => "bring",
+        (BRING, DeviceReads) => "bring, device reads",
+        (BRING, DeviceWrites) => "bring, device writes",
+        (TAKE, Free) => "take",
+        (TAKE, DeviceReads) => "take, device reads",
+        (TAKE, DeviceWrites) => "take, device writes",
+        (END, Free) => "end",
+        (END, _) => "end, busy",
+        (kind, _) => panic!("a sheet with a step of kind {kind} is broken"),
     }
 }
 
+/// The name of a part by how it lies to its page.
+fn part_name(step: &[u8]) -> &'static str {
+    let first = usize::from(u16::from_le_bytes([step[2], step[3]]));
+    let count = usize::from(step[4]);
+    match (first, count, first + count) {
+        (_, 0, _) => "part no words",
+        (0, _, 64) => "part whole",
+        (_, _, ..64) => "part inside",
+        (_, _, 64) => "part to end",
+        (_, _, 65) => "part one past",
+        (..64, _, _) => "part past",
+        (_, _, ..65536) => "part beyond",
+        // The sum does not fit the first offset's two bytes.
+        _ => "part overflow",
+    }
+}
+
+/// The place in `KINDS` of a name.
+fn place(name: &str) -> usize {
+    let found = KINDS.iter().position(|kind| kind.name == name);
+    found.expect("every name has a kind")
+}
+
+/// What the calls of one kind met: how many were accepted with each of `ORDERS`, and refused by each number.
 #[derive(Default)]
+struct Met {
+    accepted: [u64; ORDERS.len()],
+    refused: BTreeMap<u8, u64>,
+}
+
 pub struct Tally {
-    accepted: [[u64; ORDERS.len()]; KINDS.len()],
-    refused: [BTreeMap<u8, u64>; KINDS.len()],
+    met: [Met; KINDS.len()],
     broken: BTreeMap<Damage, u64>,
     full_lists: u64,
     full_steps: u64,
+}
+
+impl Default for Tally {
+    fn default() -> Self {
+        Self {
+            met: std::array::from_fn(|_| Met::default()),
+            broken: BTreeMap::new(),
+            full_lists: 0,
+            full_steps: 0,
+        }
+    }
 }
 
 impl Tally {
@@ -85,19 +165,41 @@ impl Tally {
             }
             return;
         }
-        let mappings = usize::from(u16::from_le_bytes([sheet[0], sheet[1]]));
-        let steps = sheet[2 + 5 * mappings + 2..].chunks(9);
-        let mapped = text.lines().take(mappings);
-        let listed = mapped.filter(|line| line.ends_with(" 0")).count();
-        self.full_lists += u64::from(listed == MAPPINGS);
+        let count = usize::from(u16::from_le_bytes([sheet[0], sheet[1]]));
+        let (mappings, steps) = sheet[2..].split_at(5 * count);
+        let (mappings, _) = mappings.as_chunks();
+        let steps = steps[2..].chunks(9);
         self.full_steps += u64::from(steps.len() == STEPS);
 
-        let calls = std::iter::repeat_n(0, mappings).chain(steps.map(kind_of));
-        for (kind, line) in calls.zip(text.lines()) {
-            let words: Vec<&str> = line.split(' ').collect();
-            match words[1].parse().expect("every line has a number") {
-                0 => self.accepted[kind][orders(&words[2..])] += 1,
-                number => *self.refused[kind].entry(number).or_default() += 1,
+        let mut marks = Marks::default();
+        let mut lines = text.lines();
+        let mut listed = 0;
+        for (&mapping, line) in mappings.iter().zip(&mut lines) {
+            if self.count(MAP, line) {
+                marks.map(mapping);
+                listed += 1;
+            }
+        }
+        self.full_lists += u64::from(listed == MAPPINGS);
+        for (step, line) in steps.zip(lines) {
+            if self.count(name(step, marks.of(step)), line) {
+                marks.follow(step);
+            }
+        }
+    }
+
+    /// Counts a call by its line, and says whether it was accepted.
+    fn count(&mut self, name: &str, line: &str) -> bool {
+        let Met { accepted, refused } = &mut self.met[place(name)];
+        let words: Vec<&str> = line.split(' ').collect();
+        match words[1].parse().expect("every line has a number") {
+            0 => {
+                accepted[orders(&words[2..])] += 1;
+                true
+            }
+            number => {
+                *refused.entry(number).or_default() += 1;
+                false
             }
         }
     }
@@ -105,14 +207,14 @@ impl Tally {
     /// What a sheet can meet and none of these met.
     pub fn left_out(&self) -> Vec<String> {
         let mut left_out = Vec::new();
-        for (at, kind) in KINDS.iter().enumerate() {
+        for (kind, Met { accepted, refused }) in KINDS.iter().zip(&self.met) {
             for &orders in kind.orders {
-                if self.accepted[at][orders] == 0 {
+                if accepted[orders] == 0 {
                     left_out.push(format!("{} with {}", kind.name, ORDERS[orders]));
                 }
             }
             for number in kind.refusals {
-                if !self.refused[at].contains_key(number) {
+                if !refused.contains_key(number) {
                     left_out.push(format!("{} with refusal {number}", kind.name));
                 }
             }
@@ -137,20 +239,20 @@ fn orders(words: &[&str]) -> usize {
 
 impl fmt::Display for Tally {
     fn fmt(&self, f: &mut fmt::Formatter) -> fmt::Result {
-        write!(f, "{:13}{:>9}", "", "accepted")?;
+        write!(f, "{:20}{:>9}", "", "accepted")?;
         for orders in ORDERS {
             write!(f, "{orders:>9}")?;
         }
         writeln!(f, "   refused, by number")?;
         let mut by_number = BTreeMap::new();
-        for (at, kind) in KINDS.iter().enumerate() {
-            let accepted: u64 = self.accepted[at].iter().sum();
-            write!(f, "{:13}{accepted:>9}", kind.name)?;
-            for count in self.accepted[at] {
+        for (kind, Met { accepted, refused }) in KINDS.iter().zip(&self.met) {
+            let all: u64 = accepted.iter().sum();
+            write!(f, "{:20}{all:>9}", kind.name)?;
+            for count in accepted {
                 write!(f, "{count:>9}")?;
             }
-            writeln!(f, " {}", counts(&self.refused[at]))?;
-            for (&number, &count) in &self.refused[at] {
+            writeln!(f, " {}", counts(refused))?;
+            for (&number, &count) in refused {
                 *by_number.entry(number).or_default() += count;
             }
         }
@@ -204,7 +306,48 @@ mod tests {
         for (first, count, name) in rows {
             let [low, high] = first.to_le_bytes();
             let step = [DEVICE_WRITE_PART, 0, low, high, count, 0, 0, 0, 0];
-            assert_eq!(KINDS[kind_of(&step)].name, name, "{first} {count}");
+            assert_eq!(super::name(&step, Free), name, "{first} {count}");
+        }
+    }
+
+    #[test]
+    fn every_name_has_a_kind() {
+        for kind in READ..=END {
+            for mark in [Free, DeviceReads, DeviceWrites] {
+                let name = name(&[kind, 0, 0, 0, 0, 0, 0, 0, 0], mark);
+                assert_eq!(KINDS[place(name)].name, name);
+            }
+        }
+    }
+
+    /// What the steps of a frame that the device reads are counted as, to its end and after it.
+    #[test]
+    fn steps_of_a_busy_frame() {
+        let mut sheet = vec![1, 0, 0, 0, 0, 5, 2, 6, 0];
+        let steps: [[u8; 9]; 6] = [
+            [BEGIN_READ, 5, 0, 0, 0, 0, 0, 0, 0],
+            [READ, 0, 0, 0, 0, 0, 0, 0, 0],
+            [WRITE, 0, 0, 0, 0, 7, 0, 0, 0],
+            [BRING, 5, 0, 0, 0, 7, 0, 0, 0],
+            [END, 5, 0, 0, 0, 0, 0, 0, 0],
+            [END, 5, 0, 0, 0, 0, 0, 0, 0],
+        ];
+        sheet.extend(steps.concat());
+        let mut tally = Tally::default();
+        tally.add(&sheet, None, &peer::run(&sheet));
+        let accepted = ["map", "begin read", "read, device reads", "end, busy"];
+        for (kind, met) in KINDS.iter().zip(&tally.met) {
+            let right = u64::from(accepted.contains(&kind.name));
+            assert_eq!(met.accepted[0], right, "{}", kind.name);
+        }
+        let refused = [
+            ("write, device reads", 15),
+            ("bring, device reads", 16),
+            ("end", 16),
+        ];
+        for (name, number) in refused {
+            let right = BTreeMap::from([(number, 1)]);
+            assert_eq!(tally.met[place(name)].refused, right, "{name}");
         }
     }
 }

@@ -6,6 +6,7 @@ use crate::machine::Lent;
 use crate::record::RECORDS_WORDS;
 use peer::board::{LINES, PAGE_WORDS};
 use peer::call::{sent, Accepted, Answer, Call, Found};
+use peer::record::Direction;
 
 /// Vectors, so that a test can lend one of another length.
 #[derive(Clone, Debug, PartialEq, Eq)]
@@ -67,6 +68,15 @@ impl<O: Order> Buffers<O> {
                 count,
                 first,
             } => lent.device_write_part(frame, offset, count, &sent(first, count)),
+            Call::BeginRead { frame } => lent.begin(Direction::Read, frame),
+            Call::BeginWrite { frame } => lent.begin(Direction::Write, frame),
+            Call::BringWord {
+                frame,
+                offset,
+                word,
+            } => lent.bring_word(frame, offset, word),
+            Call::TakeWord { frame, offset } => lent.take_word(frame, offset),
+            Call::EndTransfer { frame } => lent.end_transfer(frame),
             Call::Evict { line } => lent.evict(line),
         }
     }

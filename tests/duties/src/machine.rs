@@ -7,7 +7,7 @@ use crate::list::{MappingList, Order, MAPPINGS};
 use crate::record::{self, Record, RECORDS_WORDS};
 use peer::board::{Frame, Line, Offset, Part, Place, PAGE_WORDS};
 use peer::call::{Accepted, Answer, Found, Mapping, Operations};
-use peer::record::{Access, Transfer};
+use peer::record::{Access, Direction, Transfer};
 use peer::Refusal;
 
 /// What every call is lent.
@@ -64,7 +64,7 @@ impl<O: Order> Lent<'_, O> {
     pub fn device_read(&mut self, frame: u8, buffer: &mut [u32]) -> Answer {
         self.test_with(buffer, PAGE_WORDS)?;
         let frame = Frame::new(frame)?;
-        let operations = self.transfer(Transfer::Read, frame);
+        let operations = self.transfer(Transfer::Read, frame)?;
         buffer.copy_from_slice(self.hardware.page(frame));
         self.accept(operations, Found::Nothing)
     }
@@ -84,9 +84,36 @@ impl<O: Order> Lent<'_, O> {
     ) -> Answer {
         self.test_with(buffer, count)?;
         let (frame, part) = (Frame::new(frame)?, Part::new(offset, count)?);
-        let operations = self.transfer(Transfer::write(part), frame);
+        let operations = self.transfer(Transfer::write(part), frame)?;
         self.hardware.page(frame)[part.offsets()].copy_from_slice(buffer);
         self.accept(operations, Found::Nothing)
+    }
+
+    /// The first call of a transfer that takes a while.
+    pub fn begin(&mut self, direction: Direction, frame: u8) -> Answer {
+        self.test()?;
+        let operations = self.transfer(Transfer::Begin(direction), Frame::new(frame)?)?;
+        self.accept(operations, Found::Nothing)
+    }
+
+    /// The device sends one word of a transfer that was begun.
+    pub fn bring_word(&mut self, frame: u8, offset: u8, word: u32) -> Answer {
+        *self.word(Direction::Write, frame, offset)? = word;
+        self.accept(NO_OPERATIONS, Found::Nothing)
+    }
+
+    /// The device takes one word of a transfer that was begun.
+    pub fn take_word(&mut self, frame: u8, offset: u8) -> Answer {
+        let word = *self.word(Direction::Read, frame, offset)?;
+        self.accept(NO_OPERATIONS, Found::Word(word))
+    }
+
+    /// Ends a transfer that was begun, in either direction.
+    pub fn end_transfer(&mut self, frame: u8) -> Answer {
+        self.test()?;
+        let record = self.record(Frame::new(frame)?);
+        *record = record::end(*record)?;
+        self.accept(NO_OPERATIONS, Found::Nothing)
     }
 
     /// Document 01's "turning out".
@@ -109,7 +136,7 @@ impl<O: Order> Lent<'_, O> {
         let (frame, colour) = (Frame::new(frame)?, place.colour());
         let operations = self.step(frame, |record| {
             record::access(record, access, frame, colour)
-        });
+        })?;
         let found = match written {
             None => Found::Word(self.hardware.load(frame, colour, offset)),
             Some(word) => {
@@ -121,8 +148,16 @@ impl<O: Order> Lent<'_, O> {
     }
 
     /// What comes before a transfer.
-    fn transfer(&mut self, transfer: Transfer, frame: Frame) -> Operations {
+    fn transfer(&mut self, transfer: Transfer, frame: Frame) -> Result<Operations, Refusal> {
         self.step(frame, |record| record::transfer(record, transfer, frame))
+    }
+
+    /// The word of memory that a transfer in this direction may move.
+    fn word(&mut self, direction: Direction, frame: u8, offset: u8) -> Result<&mut u32, Refusal> {
+        self.test()?;
+        let (frame, offset) = (Frame::new(frame)?, Offset::new(offset)?);
+        record::word(self.record(frame), direction)?;
+        Ok(&mut self.hardware.page(frame)[offset.index()])
     }
 
     /// Refusals 1 and 2 of a call that is lent a device's buffer too, to be of this length.
@@ -157,16 +192,24 @@ impl<O: Order> Lent<'_, O> {
         found.map_err(|_| Refusal::Unmapped)
     }
 
-    /// Steps the frame's record, and has the cache do what is due.
-    fn step(&mut self, frame: Frame, step: impl Fn(Record) -> (Record, Operations)) -> Operations {
+    fn record(&mut self, frame: Frame) -> &mut Record {
         let (records, _) = self.records.as_chunks_mut();
-        let record = &mut records[frame.index()];
-        let (next, operations) = step(*record);
+        &mut records[frame.index()]
+    }
+
+    /// Steps the frame's record, if it takes the step, and has the cache do what is due.
+    fn step(
+        &mut self,
+        frame: Frame,
+        step: impl Fn(Record) -> Result<(Record, Operations), Refusal>,
+    ) -> Result<Operations, Refusal> {
+        let record = self.record(frame);
+        let (next, operations) = step(*record)?;
         *record = next;
         for operation in operations.into_iter().flatten() {
             self.hardware.perform(operation);
         }
-        operations
+        Ok(operations)
     }
 
     /// Answers, with every protection brought up to the tables: 0 past the count.

@@ -1,24 +1,31 @@
 //! The page model on a frame's record as it is lent: two masks, held and stale, with a bit for each
-//! colour, and the dirty flag.
+//! colour, the dirty flag and the busy mark.
 
 use peer::board::{Colour, Frame, COLOURS, FRAMES};
 use peer::call::{Mapping, Operation, Operations};
-use peer::record::{Access, Transfer};
+use peer::record::{Access, Direction, Transfer};
+use peer::Refusal;
 
-/// Held, stale and dirty.
-pub type Record = [u32; 3];
+/// Held, stale, dirty and busy.
+pub type Record = [u32; 4];
 
 /// The words of all frames' records.
-pub const RECORDS_WORDS: usize = FRAMES * 3;
+pub const RECORDS_WORDS: usize = FRAMES * 4;
 
-pub fn keeps_rules(&[held, stale, dirty]: &Record) -> bool {
+/// The busy marks (document 02, N6).
+pub const FREE: u32 = 0;
+pub const DEVICE_READS: u32 = 1;
+pub const DEVICE_WRITES: u32 = 2;
+
+pub fn keeps_rules(&[held, stale, dirty, busy]: &Record) -> bool {
     ((held | stale) < 1 << COLOURS)
         & (held & stale == 0)
         & (dirty == 0 || dirty == 1 && held.is_power_of_two())
+        & (busy == FREE || busy == DEVICE_READS && dirty == 0 || busy == DEVICE_WRITES && held == 0)
 }
 
 /// What a mapping of the record's frame allows: nothing (0), to read (1), or to read and write (2).
-pub fn protection(&[held, _, dirty]: &Record, mapping: &Mapping) -> u8 {
+pub fn protection(&[held, _, dirty, _]: &Record, mapping: &Mapping) -> u8 {
     let colour = usize::from(mapping.page) % COLOURS;
     if held >> colour & 1 == 0 {
         0
@@ -31,11 +38,15 @@ pub fn protection(&[held, _, dirty]: &Record, mapping: &Mapping) -> u8 {
 
 /// The record after a processor access through a page of this colour, and what is due before it.
 pub fn access(
-    [held, stale, dirty]: Record,
+    [held, stale, dirty, busy]: Record,
     access: Access,
     frame: Frame,
     colour: Colour,
-) -> (Record, Operations) {
+) -> Result<(Record, Operations), Refusal> {
+    match (busy, access) {
+        (FREE, _) | (DEVICE_READS, Access::Read) => {}
+        _ => return Err(Refusal::Busy),
+    }
     let own = 1 << colour.index();
     let others = held & !own;
     // A dirty one of the others is flushed and empty; if none is dirty, held ones are kept for now.
@@ -48,32 +59,57 @@ pub fn access(
     };
     let purge = (stale & own != 0).then_some(Operation::Purge(frame, colour));
     let next = match access {
-        Access::Read => [kept | own, stale & !own, dirty & held >> colour.index()],
-        Access::Write => [own, stale & !own | kept, 1],
+        Access::Read => {
+            let dirty = dirty & held >> colour.index();
+            [kept | own, stale & !own, dirty, busy]
+        }
+        Access::Write => [own, stale & !own | kept, 1, busy],
     };
     match flush {
-        Some(_) => (next, [flush, purge]),
-        None => (next, [purge, None]),
+        Some(_) => Ok((next, [flush, purge])),
+        None => Ok((next, [purge, None])),
     }
 }
 
-/// The record after a transfer, and what is due before it.
+/// The record after a transfer or its begin, and what is due before it.
 pub fn transfer(
-    [held, stale, dirty]: Record,
+    [held, stale, dirty, busy]: Record,
     transfer: Transfer,
     frame: Frame,
-) -> (Record, Operations) {
-    let next = match (transfer, dirty) {
-        (Transfer::Read, 0) => [held, stale, 0],
-        (Transfer::Write | Transfer::WritePart, 0) => [0, stale | held, 0],
-        _ => [0, stale, 0],
+) -> Result<(Record, Operations), Refusal> {
+    if busy != FREE {
+        return Err(Refusal::Busy);
+    }
+    let (reads, due, busy): (bool, fn(Frame, Colour) -> Operation, u32) = match transfer {
+        Transfer::Read => (true, Operation::Flush, FREE),
+        Transfer::Write => (false, Operation::Purge, FREE),
+        Transfer::WritePart => (false, Operation::Flush, FREE),
+        Transfer::Begin(Direction::Read) => (true, Operation::Flush, DEVICE_READS),
+        Transfer::Begin(Direction::Write) => (false, Operation::Flush, DEVICE_WRITES),
     };
-    let due = match transfer {
-        Transfer::Read | Transfer::WritePart => Operation::Flush,
-        Transfer::Write => Operation::Purge,
+    let next = match (dirty, reads) {
+        (0, true) => [held, stale, 0, busy],
+        (0, false) => [0, stale | held, 0, busy],
+        _ => [0, stale, 0, busy],
     };
     let dirty_colour = if dirty == 0 { None } else { lowest(held) };
-    (next, [dirty_colour.map(|colour| due(frame, colour)), None])
+    Ok((next, [dirty_colour.map(|colour| due(frame, colour)), None]))
+}
+
+/// A word of a transfer that was begun in this direction. The record stays.
+pub fn word(&[.., busy]: &Record, direction: Direction) -> Result<(), Refusal> {
+    match (busy, direction) {
+        (DEVICE_READS, Direction::Read) | (DEVICE_WRITES, Direction::Write) => Ok(()),
+        _ => Err(Refusal::NotBegun),
+    }
+}
+
+/// The record after the end of a transfer that was begun.
+pub fn end([held, stale, dirty, busy]: Record) -> Result<Record, Refusal> {
+    if busy == FREE {
+        return Err(Refusal::NotBegun);
+    }
+    Ok([held, stale, dirty, FREE])
 }
 
 /// The lowest colour of a mask.
@@ -88,18 +124,19 @@ mod tests {
 
     const FRAME: u8 = 5;
 
-    /// The peer's record of three words, if they are bytes and keep the rules.
+    /// The peer's record of four words, if they are bytes and keep the rules.
     fn peer_record(words: Record) -> Option<PeerRecord> {
-        let [held, stale, dirty] = words.map(u8::try_from);
-        PeerRecord::from_masks(held.ok()?, stale.ok()?, dirty.ok()?).ok()
+        let [held, stale, dirty, busy] = words.map(u8::try_from);
+        PeerRecord::from_masks(held.ok()?, stale.ok()?, dirty.ok()?, busy.ok()?).ok()
     }
 
-    /// Every record with masks below twice their limit and a flag below 3.
+    /// Every record with masks below twice their limit, a flag below 3 and a mark below 4.
     fn records() -> impl Iterator<Item = Record> {
         let mask = 0..2 << COLOURS;
         mask.clone()
             .flat_map(move |held| mask.clone().map(move |stale| (held, stale)))
-            .flat_map(|(held, stale)| (0..3).map(move |dirty| [held, stale, dirty]))
+            .flat_map(|(held, stale)| (0..3).map(move |dirty| (held, stale, dirty)))
+            .flat_map(|(held, stale, dirty)| (0..4).map(move |busy| [held, stale, dirty, busy]))
     }
 
     #[test]
@@ -111,9 +148,11 @@ mod tests {
                 "{record:?}"
             );
         }
-        assert!(!keeps_rules(&[1 << 31, 0, 0]));
-        assert!(!keeps_rules(&[0, 1 << 31, 0]));
-        assert!(!keeps_rules(&[1, 0, 1 << 31 | 1]));
+        assert!(!keeps_rules(&[1 << 31, 0, 0, 0]));
+        assert!(!keeps_rules(&[0, 1 << 31, 0, 0]));
+        assert!(!keeps_rules(&[1, 0, 1 << 31 | 1, 0]));
+        assert!(!keeps_rules(&[0, 0, 0, 1 << 31 | 1]));
+        assert!(!keeps_rules(&[0, 0, 0, 256]));
     }
 
     #[test]
@@ -125,24 +164,42 @@ mod tests {
                 for colour in Colour::all() {
                     let mut right = before;
                     let due = right.access(frame, kind, colour);
-                    let (next, operations) = access(record, kind, frame, colour);
+                    let stepped = access(record, kind, frame, colour);
                     assert_eq!(
-                        (peer_record(next), operations),
-                        (Some(right), due),
+                        stepped.map(|(next, operations)| (peer_record(next), operations)),
+                        due.map(|due| (Some(right), due)),
                         "{record:?}"
                     );
                 }
             }
-            for kind in [Transfer::Read, Transfer::Write, Transfer::WritePart] {
+            let kinds = [
+                Transfer::Read,
+                Transfer::Write,
+                Transfer::WritePart,
+                Transfer::Begin(Direction::Read),
+                Transfer::Begin(Direction::Write),
+            ];
+            for kind in kinds {
                 let mut right = before;
                 let due = right.transfer(frame, kind);
-                let (next, operations) = transfer(record, kind, frame);
+                let stepped = transfer(record, kind, frame);
                 assert_eq!(
-                    (peer_record(next), operations),
-                    (Some(right), due),
+                    stepped.map(|(next, operations)| (peer_record(next), operations)),
+                    due.map(|due| (Some(right), due)),
                     "{record:?}"
                 );
             }
+            for direction in [Direction::Read, Direction::Write] {
+                let right = before.word(direction);
+                assert_eq!(word(&record, direction), right, "{record:?}");
+            }
+            let mut right = before;
+            let ended = right.end();
+            assert_eq!(
+                end(record).map(peer_record),
+                ended.map(|()| Some(right)),
+                "{record:?}"
+            );
         }
     }
 }

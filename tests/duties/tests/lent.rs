@@ -4,13 +4,17 @@
 use duties::buffers::Buffers;
 use duties::list::{AllPairs, AllPairsPacked, Neighbours, Order, MAPPINGS};
 use peer::call::{Call, Mapping};
-use peer::Refusal::{self, Frame, Length, Part, Place, Rules};
+use peer::Refusal::{self, Busy, Frame, Length, NotBegun, Offset, Part, Place, ReadOnly, Rules};
 
 const MAX: usize = usize::MAX;
 
 /// The words of a record, from its frame's first.
 const STALE: usize = 1;
 const DIRTY: usize = 2;
+const BUSY: usize = 3;
+
+/// Where the last frame's record begins.
+const LAST: usize = 4 * 63;
 
 fn mapping(space: u8, page: u16, frame: u8, rights: u8) -> Mapping {
     Mapping {
@@ -48,21 +52,48 @@ fn part(offset: usize, count: usize) -> Call {
     }
 }
 
+fn begin_read(frame: u8) -> Call {
+    Call::BeginRead { frame }
+}
+
+fn begin_write(frame: u8) -> Call {
+    Call::BeginWrite { frame }
+}
+
+fn bring(frame: u8, offset: u8) -> Call {
+    Call::BringWord {
+        frame,
+        offset,
+        word: 7,
+    }
+}
+
+fn take(frame: u8, offset: u8) -> Call {
+    Call::TakeWord { frame, offset }
+}
+
+fn end(frame: u8) -> Call {
+    Call::EndTransfer { frame }
+}
+
 fn accept<O: Order>(buffers: &mut Buffers<O>, call: Call) {
     assert!(buffers.call(call).is_ok(), "{call:?}");
 }
 
-/// Four pages of three spaces, mapped in rising order, so that the list is the same in both orders.
+/// Four pages of three spaces, mapped in rising order, so that the list is the same in both orders. The device
+/// reads frame 8 and writes frame 9.
 fn started<O: Order>() -> Buffers<O> {
     let mut buffers = Buffers::default();
     for (space, page, frame) in [(1, 8, 5), (1, 9, 5), (2, 8, 6), (15, 1023, 63)] {
         accept(&mut buffers, Call::Map(mapping(space, page, frame, 2)));
     }
+    accept(&mut buffers, begin_read(8));
+    accept(&mut buffers, begin_write(9));
     buffers
 }
 
 /// A call of each kind, which the started buffers accept.
-fn calls() -> [Call; 8] {
+fn calls() -> [Call; 13] {
     [
         Call::Map(mapping(2, 9, 7, 1)),
         Call::Unmap { space: 1, page: 8 },
@@ -71,6 +102,11 @@ fn calls() -> [Call; 8] {
         Call::DeviceRead { frame: 5 },
         Call::DeviceWrite { frame: 5, first: 1 },
         part(20, 12),
+        begin_read(5),
+        begin_write(5),
+        take(8, 0),
+        bring(9, 0),
+        end(9),
         Call::Evict { line: 0 },
     ]
 }
@@ -87,13 +123,13 @@ fn refusal<O: Order + Clone + PartialEq>(change: Change<O>) -> Option<Refusal> {
         assert!(refusal.is_none() || buffers == before, "{call:?}");
         refusal
     });
-    assert_eq!(answers, [answers[0]; 8]);
+    assert_eq!(answers, [answers[0]; 13]);
     answers[0]
 }
 
 fn lengths<O: Order + Clone + PartialEq>() {
     let changes: [Change<O>; 10] = [
-        |lent| lent.records.truncate(191),
+        |lent| lent.records.truncate(255),
         |lent| lent.records.push(0),
         |lent| lent.protections.truncate(255),
         |lent| lent.protections.push(0),
@@ -178,7 +214,7 @@ fn parts_of_a_page() {
 
 fn rules<O: Order + Clone + PartialEq>() {
     assert_eq!(refusal::<O>(|_| {}), None);
-    let changes: [Change<O>; 23] = [
+    let changes: [Change<O>; 30] = [
         // Doubles, side by side and apart; frame and rights may differ.
         |lent| lent.list.items[1].page = 8,
         |lent| lent.list.items[3] = mapping(1, 8, 63, 1),
@@ -198,12 +234,21 @@ fn rules<O: Order + Clone + PartialEq>() {
         |lent| lent.list.items[0].rights = 0,
         |lent| lent.list.items[0].rights = 3,
         // Records: a mask, a bit in both masks, a flag with no held colour, and no flag.
-        |lent| lent.records[3 * 63 + STALE] = 256,
+        |lent| lent.records[LAST + STALE] = 256,
         |lent| lent.records[..2].fill(1),
-        |lent| lent.records[3 * 63 + DIRTY] = 1,
+        |lent| lent.records[LAST + DIRTY] = 1,
         |lent| lent.records[DIRTY] = 2,
         // Document 01's edge 7.
         |lent| lent.records[..3].copy_from_slice(&[3, 0, 1]),
+        // No busy mark, and one whose low byte would do.
+        |lent| lent.records[BUSY] = 3,
+        |lent| lent.records[LAST + BUSY] = 256,
+        |lent| lent.records[LAST + BUSY] = u32::MAX,
+        // A dirty colour while the device reads, a held and a dirty one while it writes.
+        |lent| lent.records[LAST..].copy_from_slice(&[4, 0, 1, 1]),
+        |lent| lent.records[LAST..].copy_from_slice(&[4, 0, 0, 2]),
+        |lent| lent.records[..4].copy_from_slice(&[4, 0, 1, 2]),
+        |lent| lent.records[..4].copy_from_slice(&[255, 0, 0, 2]),
         // Tags.
         |lent| lent.tags[63] = 65,
         |lent| lent.tags[0] = 128,
@@ -219,6 +264,109 @@ fn a_broken_rule_is_refused() {
     rules::<AllPairs>();
     rules::<AllPairsPacked>();
     rules::<Neighbours>();
+}
+
+/// What a call on the started buffers is refused with, after this change.
+fn check_busy<O: Order + Clone + PartialEq>(change: Change<O>, rows: &[(Call, Refusal)]) {
+    let mut buffers = started::<O>();
+    for (page, rights) in [(8, 2), (9, 1)] {
+        for (space, frame) in [(8, 8), (9, 9)] {
+            accept(&mut buffers, Call::Map(mapping(space, page, frame, rights)));
+        }
+    }
+    change(&mut buffers);
+    let before = buffers.clone();
+    for &(call, refusal) in rows {
+        assert_eq!(buffers.call(call), Err(refusal), "{call:?}");
+        assert!(buffers == before, "{call:?}");
+    }
+}
+
+/// Frame 8 is read by the device and is at two pages of space 8; frame 9 is written, at those of space 9. Page 9 may
+/// only be read.
+fn busy<O: Order + Clone + PartialEq>() {
+    let busy_calls = [
+        (write(8, 8), Busy),
+        (read(9, 8), Busy),
+        (read(9, 9), Busy),
+        (write(9, 8), Busy),
+        (Call::DeviceRead { frame: 8 }, Busy),
+        (Call::DeviceRead { frame: 9 }, Busy),
+        (Call::DeviceWrite { frame: 8, first: 1 }, Busy),
+        (Call::DeviceWrite { frame: 9, first: 1 }, Busy),
+        (begin_read(8), Busy),
+        (begin_read(9), Busy),
+        (begin_write(8), Busy),
+        (begin_write(9), Busy),
+        (bring(8, 0), NotBegun),
+        (take(9, 0), NotBegun),
+        (bring(5, 0), NotBegun),
+        (take(5, 0), NotBegun),
+        (end(5), NotBegun),
+    ];
+    check_busy::<O>(|_| {}, &busy_calls);
+    check_busy::<O>(
+        |lent| lent.tags[63] = 65,
+        &busy_calls.map(|(call, _)| (call, Rules)),
+    );
+    check_busy::<O>(
+        |lent| lent.records[BUSY] = 3,
+        &busy_calls.map(|(call, _)| (call, Rules)),
+    );
+    check_busy::<O>(
+        |lent| lent.memory.push(0),
+        &busy_calls.map(|(call, _)| (call, Length)),
+    );
+
+    let earlier = [
+        (write(8, 9), ReadOnly),
+        (write(9, 9), ReadOnly),
+        (bring(64, 64), Frame),
+        (bring(8, 64), Offset),
+        (take(9, 64), Offset),
+        (end(64), Frame),
+    ];
+    check_busy::<O>(|_| {}, &earlier);
+
+    // A device's buffer, then the part, before the mark.
+    let mut buffers = started::<O>();
+    let mut lent = buffers.lend();
+    assert_eq!(lent.device_read(8, &mut [0; 63]), Err(Length));
+    assert_eq!(lent.device_write(9, &[0; 65]), Err(Length));
+    assert_eq!(lent.device_write_part(9, 20, 12, &[0; 11]), Err(Length));
+    assert_eq!(lent.device_write_part(9, 53, 12, &[0; 12]), Err(Part));
+    assert_eq!(lent.device_write_part(9, 20, 12, &[0; 12]), Err(Busy));
+    let mut device = [99; 64];
+    assert_eq!(lent.device_read(8, &mut device), Err(Busy));
+    assert_eq!(device, [99; 64]);
+    assert!(buffers == started());
+}
+
+#[test]
+fn busy_frames() {
+    busy::<AllPairs>();
+    busy::<AllPairsPacked>();
+    busy::<Neighbours>();
+}
+
+/// A word moves in memory alone, and every other stays; the records change at begin and end alone.
+#[test]
+fn words_of_a_transfer() {
+    let mut buffers = started::<Neighbours>();
+    let mut right = buffers.clone();
+    accept(&mut buffers, bring(9, 63));
+    right.memory[64 * 9 + 63] = 7;
+    assert!(buffers == right);
+    accept(&mut buffers, take(8, 63));
+    assert!(buffers == right);
+    accept(&mut buffers, end(9));
+    assert_eq!(right.records[4 * 9 + BUSY], 2);
+    right.records[4 * 9 + BUSY] = 0;
+    assert!(buffers == right);
+    accept(&mut buffers, end(8));
+    assert_eq!(right.records[4 * 8 + BUSY], 1);
+    right.records[4 * 8 + BUSY] = 0;
+    assert!(buffers == right);
 }
 
 /// Started, with two in each other's place: by page; by space, though the page rises; by both.
@@ -253,11 +401,14 @@ fn all_pairs_may_stand_in_any_order() {
 
 #[test]
 fn the_last_that_keeps_the_rules_is_accepted() {
-    let changes: [Change<Neighbours>; 4] = [
+    let changes: [Change<Neighbours>; 7] = [
         |lent| lent.tags.fill(64),
         |lent| lent.tags[63] = 192,
-        |lent| lent.records[3 * 63..].copy_from_slice(&[128, 127, 1]),
-        |lent| lent.records[3 * 63..].copy_from_slice(&[3, 252, 0]),
+        |lent| lent.records[LAST..].copy_from_slice(&[128, 127, 1, 0]),
+        |lent| lent.records[LAST..].copy_from_slice(&[3, 252, 0, 0]),
+        |lent| lent.records[LAST..].copy_from_slice(&[3, 252, 0, 1]),
+        |lent| lent.records[LAST..].copy_from_slice(&[0, 255, 0, 1]),
+        |lent| lent.records[LAST..].copy_from_slice(&[0, 255, 0, 2]),
     ];
     for change in changes {
         assert_eq!(refusal(change), None);
@@ -339,6 +490,26 @@ fn protections() {
         (write(0, 2), vec![(2, 2), (9, 0)]),
         (part(63, 1), vec![(2, 0), (9, 0)]),
         (read(0, 2), vec![(2, 1), (9, 0)]),
+        // While the device reads, held colours may be read, those mapped since then too, and none be written.
+        (write(0, 2), vec![(2, 2), (9, 0)]),
+        (begin_read(5), vec![(2, 0), (9, 0)]),
+        (read(0, 9), vec![(2, 0), (9, 1)]),
+        (take(5, 0), vec![(2, 0), (9, 1)]),
+        (map(1, 2), vec![(1, 1), (2, 0), (9, 1)]),
+        (read(0, 2), vec![(1, 1), (2, 1), (9, 1)]),
+        (Call::Unmap { space: 0, page: 1 }, vec![(2, 1), (9, 1)]),
+        (Call::Evict { line: 8 }, vec![(2, 1), (9, 1)]),
+        (end(5), vec![(2, 1), (9, 1)]),
+        (begin_read(5), vec![(2, 1), (9, 1)]),
+        (end(5), vec![(2, 1), (9, 1)]),
+        // While it writes, none is to be had, before the end or by it.
+        (begin_write(5), vec![(2, 0), (9, 0)]),
+        (bring(5, 0), vec![(2, 0), (9, 0)]),
+        (map(1, 2), vec![(1, 0), (2, 0), (9, 0)]),
+        (end(5), vec![(1, 0), (2, 0), (9, 0)]),
+        (write(0, 1), vec![(1, 2), (2, 0), (9, 1)]),
+        (begin_write(5), vec![(1, 0), (2, 0), (9, 0)]),
+        (end(5), vec![(1, 0), (2, 0), (9, 0)]),
     ];
     for (call, right) in rows {
         let right: Vec<_> = right

@@ -112,6 +112,37 @@ fn parts() {
     assert_eq!(check(&bytes(sheet)), right);
 }
 
+/// A transfer each way that takes a while, with what is refused meanwhile and after it.
+#[test]
+fn transfers_that_take_a_while() {
+    let sheet = "
+        02 00
+        00 00 00 05 02    # m0 page 0, frame 5
+        00 01 00 05 01    # m1 page 1, of another colour, to read
+        0f 00
+        02 00 00 00 00 07 00 00 00    # 0 writes 7 to offset 0
+        08 05 00 00 00 00 00 00 00    # 1 begins to read: a flush
+        01 00 01 00 00 00 00 00 00    # 2 finds 7 through page 1
+        0b 05 00 00 00 00 00 00 00    # 3 takes 7
+        02 00 00 00 00 08 00 00 00    # 4 the device reads: 15
+        0a 05 00 00 00 08 00 00 00    # 5 the wrong direction: 16
+        0c 05 00 00 00 00 00 00 00    # 6 ends
+        09 05 00 00 00 00 00 00 00    # 7 begins to write: colour 1 is stale
+        0a 05 00 00 01 09 00 00 00    # 8 brings 9 to offset 1
+        01 00 00 00 00 00 00 00 00    # 9 the device writes: 15
+        02 00 01 00 00 08 00 00 00    # 10 only to read: 10
+        07 05 00 00 0c 64 00 00 00    # 11 the device writes: 15
+        0c 05 00 00 00 00 00 00 00    # 12 ends
+        0c 05 00 00 00 00 00 00 00    # 13 ended: 16
+        01 00 01 00 01 00 00 00 00    # 14 finds 9: a purge
+    ";
+    let right = "m0 0\nm1 0\n\
+        0 0 - - -\n1 0 F5.0 - -\n2 0 - - 7\n3 0 - - 7\n4 15 - - -\n5 16 - - -\n6 0 - - -\n\
+        7 0 - - -\n8 0 - - -\n9 15 - - -\n10 10 - - -\n11 15 - - -\n12 0 - - -\n13 16 - - -\n\
+        14 0 P5.1 - 9\nend 1 1\n";
+    assert_eq!(check(&bytes(sheet)), right);
+}
+
 #[test]
 fn large_sheets() {
     for mappings in [1, 16, 64, 256] {

@@ -58,7 +58,18 @@ impl Cacheless {
                 count,
                 first,
             } => self.send(frame, offset, count, first),
-            Call::Evict { .. } => {}
+            Call::BringWord {
+                frame,
+                offset,
+                word,
+            } => self.words[usize::from(frame)][usize::from(offset)] = word,
+            Call::TakeWord { frame, offset } => {
+                return Found::Word(self.words[usize::from(frame)][usize::from(offset)])
+            }
+            Call::BeginRead { .. }
+            | Call::BeginWrite { .. }
+            | Call::EndTransfer { .. }
+            | Call::Evict { .. } => {}
         }
         Found::Nothing
     }

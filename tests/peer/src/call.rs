@@ -43,6 +43,27 @@ pub enum Call {
         count: usize,
         first: u32,
     },
+    /// The first of the calls that make up a transfer that takes a while: the device will take words.
+    BeginRead {
+        frame: u8,
+    },
+    /// The same, but the device will bring words.
+    BeginWrite {
+        frame: u8,
+    },
+    BringWord {
+        frame: u8,
+        offset: u8,
+        word: u32,
+    },
+    TakeWord {
+        frame: u8,
+        offset: u8,
+    },
+    /// Ends what either begin began.
+    EndTransfer {
+        frame: u8,
+    },
     /// Document 01's "turning out".
     Evict {
         line: u8,

@@ -1,5 +1,5 @@
 //! Runs a run sheet as document 01 describes, on a machine written from documents 01 and 02 alone (of
-//! 02 the requests N1 to N5), with a cacheless memory beside it that every accepted read and the
+//! 02 the requests N1 to N6), with a cacheless memory beside it that every accepted read and the
 //! memory at the end must equal. Of N5 no sheet has a step.
 
 pub mod board;
@@ -169,6 +169,39 @@ mod tests {
             assert!(pair.call(part).is_ok());
             let read = pair.call(Call::DeviceRead { frame: 0 });
             assert_eq!(read.is_ok(), sent_over);
+        }
+    }
+
+    #[test]
+    fn a_wrong_word_taken_is_caught() {
+        for (offset, wrong) in [(62, false), (63, true)] {
+            let mut pair = written();
+            pair.call(Call::BeginRead { frame: 0 }).unwrap().unwrap();
+            tamper(&mut pair, 63);
+            let taken = pair.call(Call::TakeWord { frame: 0, offset });
+            assert_eq!(taken.is_err(), wrong);
+        }
+    }
+
+    #[test]
+    fn a_wrong_word_brought_is_caught() {
+        for wrong in [false, true] {
+            let mut pair = written();
+            pair.call(Call::BeginWrite { frame: 0 }).unwrap().unwrap();
+            let bring = Call::BringWord {
+                frame: 0,
+                offset: 63,
+                word: 9,
+            };
+            pair.call(bring).unwrap().unwrap();
+            if wrong {
+                tamper(&mut pair, 63);
+            }
+            // While the transfer runs, and after its end.
+            assert_eq!(pair.settle().is_err(), wrong);
+            pair.call(Call::EndTransfer { frame: 0 }).unwrap().unwrap();
+            assert_eq!(pair.settle().is_err(), wrong);
+            assert_eq!(pair.call(Call::DeviceRead { frame: 0 }).is_err(), wrong);
         }
     }
 

@@ -5,7 +5,7 @@ use crate::board::{Frame, Line, Offset, Part, Place, PAGE_WORDS};
 use crate::call::{number, sent, Accepted, Answer, Call, Found, Mapping, Operations};
 use crate::hardware::Hardware;
 use crate::manager::Manager;
-use crate::record::{Access, Transfer};
+use crate::record::{Access, Direction, Transfer};
 use crate::Refusal;
 
 /// The most items that one `map_all` takes.
@@ -65,7 +65,7 @@ impl Machine {
             }
             Call::DeviceRead { frame } => {
                 let frame = Frame::new(frame)?;
-                let operations = self.manager.transfer(Transfer::Read, frame);
+                let operations = self.manager.transfer(Transfer::Read, frame)?;
                 self.perform(operations);
                 Ok(Accepted {
                     operations,
@@ -74,7 +74,7 @@ impl Machine {
             }
             Call::DeviceWrite { frame, first } => {
                 let words = sent(first, PAGE_WORDS);
-                Ok(self.device_write(Frame::new(frame)?, Part::WHOLE, &words))
+                self.device_write(Frame::new(frame)?, Part::WHOLE, &words)
             }
             Call::DeviceWritePart {
                 frame,
@@ -83,7 +83,31 @@ impl Machine {
                 first,
             } => {
                 let (frame, part) = (Frame::new(frame)?, Part::new(offset, count)?);
-                Ok(self.device_write(frame, part, &sent(first, count)))
+                self.device_write(frame, part, &sent(first, count))
+            }
+            Call::BeginRead { frame } => self.begin(Direction::Read, Frame::new(frame)?),
+            Call::BeginWrite { frame } => self.begin(Direction::Write, Frame::new(frame)?),
+            Call::BringWord {
+                frame,
+                offset,
+                word,
+            } => {
+                let (frame, offset) = (Frame::new(frame)?, Offset::new(offset)?);
+                self.manager.word(Direction::Write, frame)?;
+                self.hardware.page_mut(frame)[offset.index()] = word;
+                Ok(Accepted::default())
+            }
+            Call::TakeWord { frame, offset } => {
+                let (frame, offset) = (Frame::new(frame)?, Offset::new(offset)?);
+                self.manager.word(Direction::Read, frame)?;
+                Ok(Accepted {
+                    found: Found::Word(self.hardware.page(frame)[offset.index()]),
+                    ..Accepted::default()
+                })
+            }
+            Call::EndTransfer { frame } => {
+                self.manager.end(Frame::new(frame)?)?;
+                Ok(Accepted::default())
             }
             Call::Evict { line } => {
                 self.hardware.evict(Line::new(line)?);
@@ -105,14 +129,24 @@ impl Machine {
     }
 
     /// The device sends these words, as many as the part has, into it. The frame's others stay.
-    pub fn device_write(&mut self, frame: Frame, part: Part, words: &[u32]) -> Accepted {
-        let operations = self.manager.transfer(Transfer::write(part), frame);
+    pub fn device_write(&mut self, frame: Frame, part: Part, words: &[u32]) -> Answer {
+        let operations = self.manager.transfer(Transfer::write(part), frame)?;
         self.perform(operations);
         self.hardware.page_mut(frame)[part.offsets()].copy_from_slice(words);
-        Accepted {
+        Ok(Accepted {
             operations,
             found: Found::Nothing,
-        }
+        })
+    }
+
+    /// Begins a transfer. No word moves yet.
+    fn begin(&mut self, direction: Direction, frame: Frame) -> Answer {
+        let operations = self.manager.transfer(Transfer::Begin(direction), frame)?;
+        self.perform(operations);
+        Ok(Accepted {
+            operations,
+            found: Found::Nothing,
+        })
     }
 
     fn perform(&mut self, operations: Operations) {

@@ -4,7 +4,7 @@
 
 use crate::board::{Frame, Place, FRAMES};
 use crate::call::Operations;
-use crate::record::{Access, Record, Transfer};
+use crate::record::{Access, Direction, Record, Transfer};
 use crate::Refusal;
 
 /// The most mappings that the list takes.
@@ -30,7 +30,7 @@ pub struct Manager {
     records: [Record; FRAMES],
 }
 
-/// Nothing mapped and every state empty.
+/// Nothing mapped, every state empty and no frame busy.
 impl Default for Manager {
     fn default() -> Self {
         Self {
@@ -76,12 +76,22 @@ impl Manager {
             return Err(Refusal::ReadOnly);
         }
         let record = &mut self.records[frame.index()];
-        Ok((frame, record.access(frame, access, place.colour())))
+        Ok((frame, record.access(frame, access, place.colour())?))
     }
 
-    /// What must be done before the transfer.
-    pub fn transfer(&mut self, transfer: Transfer, frame: Frame) -> Operations {
+    /// What must be done before the transfer, or at its begin.
+    pub fn transfer(&mut self, transfer: Transfer, frame: Frame) -> Result<Operations, Refusal> {
         self.records[frame.index()].transfer(frame, transfer)
+    }
+
+    /// Whether a word may move in this direction.
+    pub fn word(&self, direction: Direction, frame: Frame) -> Result<(), Refusal> {
+        self.records[frame.index()].word(direction)
+    }
+
+    /// Ends the frame's transfer.
+    pub fn end(&mut self, frame: Frame) -> Result<(), Refusal> {
+        self.records[frame.index()].end()
     }
 
     fn mapped(&self, place: Place) -> Result<usize, Refusal> {

@@ -1,4 +1,5 @@
-//! The page model: a state for each colour of a frame, and the two tables by which a step changes it.
+//! The page model: a state for each colour of a frame, the two tables by which a step changes it, and the
+//! frame's busy mark, by which it takes a step or does not.
 
 use crate::board::{Colour, Frame, Part, COLOURS};
 use crate::call::{Operation, Operations};
@@ -52,13 +53,21 @@ fn other_colour(access: Access, state: State) -> (State, Due) {
     }
 }
 
-/// The device's transfers, named from its side: a read takes memory's words. A part is not the whole
-/// page: the words beside it may be in the cache alone.
+/// Which way a device's words go, named from its side: a read takes memory's words.
+#[derive(Clone, Copy, Debug, PartialEq, Eq)]
+pub enum Direction {
+    Read,
+    Write,
+}
+
+/// The device's transfers, in one step or begun. A part is not the whole page, and of one that is begun it is
+/// not known how many words will come: the words beside them may be in the cache alone.
 #[derive(Clone, Copy, Debug, PartialEq, Eq)]
 pub enum Transfer {
     Read,
     Write,
     WritePart,
+    Begin(Direction),
 }
 
 impl Transfer {
@@ -75,57 +84,106 @@ impl Transfer {
 fn every_colour(transfer: Transfer, state: State) -> (State, Due) {
     match (transfer, state) {
         (_, Empty) => (Empty, Nothing),
-        (Transfer::Read, Present) => (Present, Nothing),
+        (Transfer::Read | Transfer::Begin(Direction::Read), Present) => (Present, Nothing),
         (Transfer::Write | Transfer::WritePart, Present) => (Stale, Nothing),
-        (Transfer::Read | Transfer::WritePart, Dirty) => (Empty, Flush),
+        (Transfer::Begin(Direction::Write), Present) => (Stale, Nothing),
+        (Transfer::Read | Transfer::WritePart | Transfer::Begin(_), Dirty) => (Empty, Flush),
         (Transfer::Write, Dirty) => (Empty, Purge),
         (_, Stale) => (Stale, Nothing),
     }
 }
 
-/// The states of one frame. At most one colour is dirty, and beside it none is present.
+/// Whether a frame takes an access while a transfer runs that was begun.
+fn takes(busy: Option<Direction>, access: Access) -> bool {
+    match busy {
+        None => true,
+        Some(Direction::Read) => access == Access::Read,
+        Some(Direction::Write) => false,
+    }
+}
+
+/// The states of one frame: at most one colour is dirty, and beside it none is present. And its busy mark: the
+/// transfer that was begun and runs still, if there is one. None is dirty while the device reads; none is dirty
+/// or present while it writes.
 #[derive(Clone, Copy, Debug, Default, PartialEq, Eq)]
-pub struct Record([State; COLOURS]);
+pub struct Record {
+    states: [State; COLOURS],
+    busy: Option<Direction>,
+}
 
 impl Record {
-    /// The record that two masks and a dirty flag stand for, if they keep the rules.
-    pub fn from_masks(held: u8, stale: u8, dirty: u8) -> Result<Self, Refusal> {
+    /// The record that two masks, a dirty flag and a busy mark stand for, if they keep the rules.
+    pub fn from_masks(held: u8, stale: u8, dirty: u8, busy: u8) -> Result<Self, Refusal> {
         let broken = held & stale != 0 || dirty > 1 || (dirty == 1 && held.count_ones() != 1);
         if broken {
             return Err(Refusal::Rules);
         }
+        let busy = match busy {
+            0 => None,
+            1 if dirty == 0 => Some(Direction::Read),
+            2 if held == 0 => Some(Direction::Write),
+            _ => return Err(Refusal::Rules),
+        };
         let bit = |mask: u8, colour: usize| mask >> colour & 1 == 1;
-        Ok(Self(std::array::from_fn(|colour| {
-            match (bit(held, colour), bit(stale, colour)) {
-                (true, _) if dirty == 1 => Dirty,
-                (true, _) => Present,
-                (false, true) => Stale,
-                (false, false) => Empty,
-            }
-        })))
+        let states = std::array::from_fn(|colour| match (bit(held, colour), bit(stale, colour)) {
+            (true, _) if dirty == 1 => Dirty,
+            (true, _) => Present,
+            (false, true) => Stale,
+            (false, false) => Empty,
+        });
+        Ok(Self { states, busy })
     }
 
     /// A processor access through a page of colour `own`.
-    pub fn access(&mut self, frame: Frame, access: Access, own: Colour) -> Operations {
-        self.step(frame, |colour, state| {
+    pub fn access(
+        &mut self,
+        frame: Frame,
+        access: Access,
+        own: Colour,
+    ) -> Result<Operations, Refusal> {
+        if !takes(self.busy, access) {
+            return Err(Refusal::Busy);
+        }
+        Ok(self.step(frame, |colour, state| {
             if colour == own {
                 own_colour(access, state)
             } else {
                 other_colour(access, state)
             }
-        })
+        }))
     }
 
-    /// A transfer by the device.
-    pub fn transfer(&mut self, frame: Frame, transfer: Transfer) -> Operations {
-        self.step(frame, |_, state| every_colour(transfer, state))
+    /// A transfer by the device, or the begin of one.
+    pub fn transfer(&mut self, frame: Frame, transfer: Transfer) -> Result<Operations, Refusal> {
+        if self.busy.is_some() {
+            return Err(Refusal::Busy);
+        }
+        if let Transfer::Begin(direction) = transfer {
+            self.busy = Some(direction);
+        }
+        Ok(self.step(frame, |_, state| every_colour(transfer, state)))
+    }
+
+    /// A word of a transfer that was begun in this direction. It changes no state.
+    pub fn word(&self, direction: Direction) -> Result<(), Refusal> {
+        if self.busy == Some(direction) {
+            Ok(())
+        } else {
+            Err(Refusal::NotBegun)
+        }
+    }
+
+    /// The end of a transfer that was begun, in either direction. It changes no state.
+    pub fn end(&mut self) -> Result<(), Refusal> {
+        let ended = self.busy.take();
+        ended.map(|_| ()).ok_or(Refusal::NotBegun)
     }
 
     /// Changes each colour's state by the rule. A flush comes before a purge, and there is at most
     /// one of each: a transfer has one for the dirty colour, an access purges its own colour alone.
     fn step(&mut self, frame: Frame, rule: impl Fn(Colour, State) -> (State, Due)) -> Operations {
         let (mut flush, mut purge) = (None, None);
-        for (colour, state) in Colour::all().zip(&mut self.0) {
+        for (colour, state) in Colour::all().zip(&mut self.states) {
             let (next, due) = rule(colour, *state);
             *state = next;
             match due {

@@ -80,6 +80,15 @@ fn step(&[kind, s, p0, p1, o, w0, w1, w2, w3]: &[u8; 9]) -> Result<Call, Refusal
             count: count.into(),
             first,
         }),
+        (8, 0, 0, 0) => Ok(Call::BeginRead { frame: s }),
+        (9, 0, 0, 0) => Ok(Call::BeginWrite { frame: s }),
+        (10, 0, offset, word) => Ok(Call::BringWord {
+            frame: s,
+            offset,
+            word,
+        }),
+        (11, 0, offset, 0) => Ok(Call::TakeWord { frame: s, offset }),
+        (12, 0, 0, 0) => Ok(Call::EndTransfer { frame: s }),
         _ => Err(Refusal::Sheet),
     }
 }

@@ -1,4 +1,4 @@
-//! Document 02, request N5: the position hold.
+//! Document 02, request N5: the position hold; and N6: it while transfers that take a while run.
 
 use peer::board::{Frame, Part, FRAMES, PAGE_WORDS};
 use peer::call::{number, Call, Found, Mapping};
@@ -64,7 +64,9 @@ fn mapped() -> Machine {
 /// The receiver sends its twelve words to frame 3: a fix, then eight words of 7.
 fn receive(machine: &mut Machine, [number, second, latitude, longitude]: Fix) {
     let words = [number, second, latitude, longitude, 7, 7, 7, 7, 7, 7, 7, 7];
-    machine.device_write(Frame::new(3).unwrap(), Part::new(0, 12).unwrap(), &words);
+    let part = Part::new(0, 12).unwrap();
+    let answer = machine.device_write(Frame::new(3).unwrap(), part, &words);
+    assert!(answer.is_ok());
 }
 
 fn received(fix: Fix) -> Machine {
@@ -277,6 +279,46 @@ fn no_fix_yet() {
     }
 }
 
+/// A fix that the receiver brings word by word. No look is taken before the last has come; the next one is, and
+/// finds them.
+#[test]
+fn a_fix_that_takes_a_while() {
+    for place @ (space, page) in PLACES {
+        let mut machine = received([1, 999, 0, 0]);
+        shown(&mut machine, place, 1000, 2);
+        accept(&mut machine, &[Call::BeginWrite { frame: 3 }]);
+        for (offset, word) in (0..).zip(FIX) {
+            assert_eq!(refusal(&mut machine, space, page, 2), 15);
+            // Before the reads, and so before what they refuse.
+            assert_eq!(refusal(&mut machine, space, page, 1), 14);
+            let bring = Call::BringWord {
+                frame: 3,
+                offset,
+                word,
+            };
+            accept(&mut machine, &[bring]);
+        }
+        assert_eq!(refusal(&mut machine, space, page, 2), 15);
+        assert_eq!(refusal(&mut machine, 15, 1023, 2), 8);
+        accept(&mut machine, &[Call::EndTransfer { frame: 3 }]);
+        assert_eq!(shown(&mut machine, place, 1000, 2), position(FIX));
+    }
+}
+
+/// The device takes the fix, and a look finds it meanwhile.
+#[test]
+fn a_look_while_the_device_reads() {
+    for place in PLACES {
+        let mut machine = received(FIX);
+        accept(&mut machine, &[write(1, 998)]);
+        accept(&mut machine, &[Call::BeginRead { frame: 3 }]);
+        let [number, _, latitude, longitude] = FIX;
+        let fix = [number, 998, latitude, longitude];
+        assert_eq!(shown(&mut machine, place, 1000, 2), position(fix));
+        assert_eq!(shown(&mut machine, place, 1001, 2), Shown::Blank);
+    }
+}
+
 /// A look after calls that leave words of the page, or of another, in the cache. It is right, and leaves
 /// what four reads do, whether it is blank or not.
 #[test]
@@ -405,7 +447,18 @@ impl Sent {
                 count,
                 first,
             } => self.send(frame, offset, count, first),
-            Call::Read { .. } | Call::DeviceRead { .. } | Call::Evict { .. } => {}
+            Call::BringWord {
+                frame,
+                offset,
+                word,
+            } => self.send(frame, offset.into(), 1, word),
+            Call::Read { .. }
+            | Call::DeviceRead { .. }
+            | Call::BeginRead { .. }
+            | Call::BeginWrite { .. }
+            | Call::TakeWord { .. }
+            | Call::EndTransfer { .. }
+            | Call::Evict { .. } => {}
         }
     }
 
@@ -500,7 +553,7 @@ impl Random {
         } else {
             self.below(5) as u8
         };
-        match self.below(16) {
+        match self.below(24) {
             0..4 => Call::Map(Mapping {
                 space,
                 page,
@@ -521,6 +574,24 @@ impl Random {
             },
             10..13 => self.part(),
             13 => Call::DeviceRead {
+                frame: self.frame(),
+            },
+            14 => Call::BeginRead {
+                frame: self.frame(),
+            },
+            15 => Call::BeginWrite {
+                frame: self.frame(),
+            },
+            16..18 => Call::BringWord {
+                frame: self.frame(),
+                offset,
+                word: self.word(),
+            },
+            18 => Call::TakeWord {
+                frame: self.frame(),
+                offset,
+            },
+            19..22 => Call::EndTransfer {
                 frame: self.frame(),
             },
             _ => Call::Evict {
@@ -602,8 +673,9 @@ fn random_looks_find_the_words_last_sent() {
             }
         }
     }
-    assert_eq!(numbers, BTreeSet::from([0, 3, 4, 5, 6, 7, 8, 10, 13]));
-    assert_eq!(refused_looks, BTreeSet::from([3, 8]));
+    let right = [0, 3, 4, 5, 6, 7, 8, 10, 13, 15, 16];
+    assert_eq!(numbers, BTreeSet::from(right));
+    assert_eq!(refused_looks, BTreeSet::from([3, 8, 15]));
     let least = both_blank.min(shorter_blank).min(none_blank);
     assert!(least > 1000, "{least} looks of one sort");
 }

@@ -1,4 +1,5 @@
-//! Document 01, "The run sheet": its example, and what breaks a sheet; document 02, N3: kind 7.
+//! Document 01, "The run sheet": its example, and what breaks a sheet; document 02, N3: kind 7, and N6: kinds 8
+//! to 12.
 
 const EXAMPLE: &str = "02 00  00 00 00 03 02  01 09 00 03 01  06 00  01 01 09 00 00 00 00 00 00
     02 00 00 00 00 11 00 00 00  01 01 09 00 00 00 00 00 00  04 03 00 00 00 28 00 00 00
@@ -77,14 +78,14 @@ fn counts_past_their_limits_are_broken() {
 
 #[test]
 fn kinds_and_unused_fields() {
-    for kind in [0, 8, 0x80, 0x87, 0xff] {
+    for kind in [0, 13, 0x80, 0x87, 0x8c, 0xff] {
         assert_eq!(
             one_step(&format!("{kind:02x} 00 00 00 00 00 00 00 00")),
             BROKEN
         );
     }
     // For each kind, the bytes after it that may be other than 0.
-    let used: [&[usize]; 7] = [
+    let used: [&[usize]; 12] = [
         &[1, 2, 3, 4],
         &[1, 2, 3, 4, 5, 6, 7, 8],
         &[1],
@@ -92,6 +93,11 @@ fn kinds_and_unused_fields() {
         &[1],
         &[1, 2, 3],
         &[1, 2, 3, 4, 5, 6, 7, 8],
+        &[1],
+        &[1],
+        &[1, 4, 5, 6, 7, 8],
+        &[1, 4],
+        &[1],
     ];
     for (kind, used) in (1..).zip(used) {
         for field in 1..9 {
@@ -161,6 +167,65 @@ fn refused_parts() {
         ("07 40 ff ff 00 00 00 00 00", 4),
         ("07 40 00 00 0c 00 00 00 00", 4),
         ("07 3f 34 00 0c 00 00 00 00", 0),
+    ];
+    for (step, number) in rows {
+        let right = format!("0 {number} - - -\nend 0 0\n");
+        assert_eq!(one_step(step), right, "{step}");
+    }
+}
+
+/// Frame 5 at pages 0 and 1, its words 40 to 103, with 17 written over the first. The device takes the first and the
+/// last while page 1 reads the first; it writes the second while nothing may read it, and page 1 purges before it
+/// finds that word.
+#[test]
+fn transfers_that_take_a_while() {
+    let sheet = "02 00  00 00 00 05 02  00 01 00 05 01  14 00
+        04 05 00 00 00 28 00 00 00
+        02 00 00 00 00 11 00 00 00
+        08 05 00 00 00 00 00 00 00
+        0b 05 00 00 00 00 00 00 00
+        01 00 01 00 00 00 00 00 00
+        0b 05 00 00 3f 00 00 00 00
+        02 00 00 00 00 12 00 00 00
+        02 00 01 00 00 12 00 00 00
+        0a 05 00 00 00 13 00 00 00
+        0c 05 00 00 00 00 00 00 00
+        0b 05 00 00 00 00 00 00 00
+        02 00 00 00 00 12 00 00 00
+        09 05 00 00 00 00 00 00 00
+        0a 05 00 00 01 ff ff ff ff
+        0b 05 00 00 01 00 00 00 00
+        01 00 01 00 01 00 00 00 00
+        07 05 00 00 40 00 00 00 00
+        0c 05 00 00 00 00 00 00 00
+        01 00 01 00 01 00 00 00 00
+        03 05 00 00 00 00 00 00 00";
+    let right = "m0 0\nm1 0\n0 0 - - -\n1 0 - - -\n\
+        2 0 F5.0 - -\n3 0 - - 17\n4 0 - - 17\n5 0 - - 103\n\
+        6 15 - - -\n7 10 - - -\n8 16 - - -\n9 0 - - -\n10 16 - - -\n11 0 - - -\n\
+        12 0 F5.0 - -\n13 0 - - -\n14 16 - - -\n15 15 - - -\n16 15 - - -\n17 0 - - -\n\
+        18 0 P5.1 - 4294967295\n19 0 - - 18\nend 2 1\n";
+    assert_eq!(text(&bytes(sheet)), right);
+}
+
+/// None of these breaks the sheet.
+#[test]
+fn refused_steps_of_transfers() {
+    let rows = [
+        ("08 3f 00 00 00 00 00 00 00", 0),
+        ("08 40 00 00 00 00 00 00 00", 4),
+        ("08 ff 00 00 00 00 00 00 00", 4),
+        ("09 3f 00 00 00 00 00 00 00", 0),
+        ("09 40 00 00 00 00 00 00 00", 4),
+        ("0a 40 00 00 40 01 00 00 00", 4),
+        ("0a 3f 00 00 40 01 00 00 00", 6),
+        ("0a 3f 00 00 ff ff ff ff ff", 6),
+        ("0a 3f 00 00 3f 01 00 00 00", 16),
+        ("0b 40 00 00 40 00 00 00 00", 4),
+        ("0b 3f 00 00 40 00 00 00 00", 6),
+        ("0b 3f 00 00 3f 00 00 00 00", 16),
+        ("0c 40 00 00 00 00 00 00 00", 4),
+        ("0c 3f 00 00 00 00 00 00 00", 16),
     ];
     for (step, number) in rows {
         let right = format!("0 {number} - - -\nend 0 0\n");

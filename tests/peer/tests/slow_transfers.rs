@@ -1,0 +1,1128 @@
+//! Document 02, request N6: transfers that take a while. Every word found is compared with the cacheless memory
+//! too.
+
+use peer::board::{Colour, Frame};
+use peer::call::{number, Accepted, Call, Found, Mapping, Operation};
+use peer::record::{Access, Direction, Record, Transfer};
+use peer::{Pair, Refusal};
+use std::collections::BTreeMap;
+
+fn map(space: u8, page: u16, frame: u8, rights: u8) -> Call {
+    Call::Map(Mapping {
+        space,
+        page,
+        frame,
+        rights,
+    })
+}
+
+fn unmap(page: u16) -> Call {
+    Call::Unmap { space: 0, page }
+}
+
+fn read(page: u16, offset: u8) -> Call {
+    Call::Read {
+        space: 0,
+        page,
+        offset,
+    }
+}
+
+fn write(page: u16, offset: u8, word: u32) -> Call {
+    Call::Write {
+        space: 0,
+        page,
+        offset,
+        word,
+    }
+}
+
+fn device_read(frame: u8) -> Call {
+    Call::DeviceRead { frame }
+}
+
+fn device_write(frame: u8, first: u32) -> Call {
+    Call::DeviceWrite { frame, first }
+}
+
+fn part(frame: u8, offset: usize, count: usize, first: u32) -> Call {
+    Call::DeviceWritePart {
+        frame,
+        offset,
+        count,
+        first,
+    }
+}
+
+fn begin_read(frame: u8) -> Call {
+    Call::BeginRead { frame }
+}
+
+fn begin_write(frame: u8) -> Call {
+    Call::BeginWrite { frame }
+}
+
+fn bring(frame: u8, offset: u8, word: u32) -> Call {
+    Call::BringWord {
+        frame,
+        offset,
+        word,
+    }
+}
+
+fn take(frame: u8, offset: u8) -> Call {
+    Call::TakeWord { frame, offset }
+}
+
+fn end(frame: u8) -> Call {
+    Call::EndTransfer { frame }
+}
+
+const BEGINS: [fn(u8) -> Call; 2] = [begin_read, begin_write];
+
+/// A call of each kind that is a new transfer of frame 5.
+fn transfers() -> [Call; 6] {
+    [
+        device_read(5),
+        device_write(5, 100),
+        part(5, 20, 12, 100),
+        part(5, 0, 64, 100),
+        begin_read(5),
+        begin_write(5),
+    ]
+}
+
+fn accept(pair: &mut Pair, call: Call) -> Accepted {
+    let answer = pair.call(call).unwrap();
+    answer.unwrap_or_else(|refusal| panic!("{call:?}: {refusal:?}"))
+}
+
+/// Frame 5 at pages 0 to 2 and, only to be read, at page 3; its words 1000 to 1063; and these calls accepted.
+fn after(calls: &[Call]) -> Pair {
+    let mut pair = Pair::default();
+    for (page, rights) in [(0, 2), (1, 2), (2, 2), (3, 1)] {
+        accept(&mut pair, map(0, page, 5, rights));
+    }
+    accept(&mut pair, device_write(5, 1000));
+    for &call in calls {
+        accept(&mut pair, call);
+    }
+    pair
+}
+
+/// Holds each call to its operations, as the text shows them, and to the word that it finds.
+fn check(pair: &mut Pair, rows: &[(Call, &str, Option<u32>)]) {
+    for &(call, operations, word) in rows {
+        let accepted = accept(pair, call);
+        let shown = accepted.operations.iter().flatten();
+        let shown: Vec<String> = shown.map(Operation::to_string).collect();
+        assert_eq!(shown.join(" "), operations, "{call:?}");
+        let found = word.map_or(Found::Nothing, Found::Word);
+        assert_eq!(accepted.found, found, "{call:?}");
+        pair.settle().unwrap();
+    }
+}
+
+/// Holds each call to the number that refuses it, and to changing nothing.
+fn check_refused(pair: &mut Pair, rows: &[(Call, u8)]) {
+    let before = pair.clone();
+    for &(call, right) in rows {
+        assert_eq!(number(&pair.call(call).unwrap()), right, "{call:?}");
+        assert!(*pair == before, "{call:?}: a refused call changes nothing");
+    }
+}
+
+// ---- the record
+
+/// Held, stale, dirty and busy.
+type Numbers = [u8; 4];
+
+fn record([held, stale, dirty, busy]: Numbers) -> Result<Record, Refusal> {
+    Record::from_masks(held, stale, dirty, busy)
+}
+
+fn all_numbers() -> impl Iterator<Item = Numbers> {
+    let masks = (0..=255).flat_map(|held| (0..=255).map(move |stale| (held, stale)));
+    let flags = (0..3).flat_map(|dirty| [0, 1, 2, 3, 4, 255].map(|busy| (dirty, busy)));
+    let flags: Vec<_> = flags.collect();
+    masks.flat_map(move |(held, stale)| {
+        let flags = flags.clone();
+        flags
+            .into_iter()
+            .map(move |(dirty, busy)| [held, stale, dirty, busy])
+    })
+}
+
+/// Every record that keeps the rules, with its numbers.
+fn all_records() -> impl Iterator<Item = (Numbers, Record)> {
+    all_numbers().filter_map(|numbers| Some((numbers, record(numbers).ok()?)))
+}
+
+#[test]
+fn the_rules_of_the_busy_mark() {
+    for numbers @ [held, stale, dirty, busy] in all_numbers() {
+        let masks_and_flag =
+            held & stale == 0 && (dirty == 0 || dirty == 1 && held.is_power_of_two());
+        let mark = match busy {
+            0 => true,
+            1 => dirty == 0,
+            2 => held == 0 && dirty == 0,
+            _ => false,
+        };
+        let right = if masks_and_flag && mark {
+            None
+        } else {
+            Some(Refusal::Rules)
+        };
+        assert_eq!(record(numbers).err(), right, "{numbers:?}");
+    }
+    assert_eq!(record([0; 4]), Ok(Record::default()));
+    // Stale colours are free to be there.
+    let kept = [[0, 0xff, 0, 2], [0, 0, 0, 2], [0xff, 0, 0, 1], [1, 2, 0, 1]];
+    let broken = [[1, 0, 1, 1], [1, 0, 0, 2], [1, 0, 1, 2], [0, 0, 0, 3]];
+    assert!(kept.into_iter().all(|numbers| record(numbers).is_ok()));
+    assert!(broken.into_iter().all(|numbers| record(numbers).is_err()));
+}
+
+/// Holds a step of a record to the numbers after it and to what is due, or to its refusal, which leaves the record
+/// as it was.
+fn check_step(
+    (before, record_before): (Numbers, Record),
+    step: impl Fn(&mut Record) -> Result<[Option<Operation>; 2], Refusal>,
+    right: Result<(Numbers, [Option<Operation>; 2]), Refusal>,
+) {
+    let mut after = record_before;
+    let due = step(&mut after);
+    let right_after = right.map_or(before, |(numbers, _)| numbers);
+    assert_eq!(Ok(after), record(right_after), "{before:?}");
+    assert_eq!(due, right.map(|(_, due)| due), "{before:?}");
+}
+
+#[test]
+fn begins_of_every_record() {
+    let frame = Frame::new(5).unwrap();
+    for row @ ([held, stale, dirty, busy], _) in all_records() {
+        let colour = Colour::all().nth(held.trailing_zeros() as usize);
+        let flush = colour.filter(|_| dirty == 1);
+        let due = [flush.map(|colour| Operation::Flush(frame, colour)), None];
+        let kept = if dirty == 1 { 0 } else { held };
+        let begun = [
+            (Direction::Read, [kept, stale, 0, 1]),
+            (Direction::Write, [0, stale | kept, 0, 2]),
+        ];
+        for (direction, next) in begun {
+            let right = match busy {
+                0 => Ok((next, due)),
+                _ => Err(Refusal::Busy),
+            };
+            let begin = Transfer::Begin(direction);
+            check_step(row, |record| record.transfer(frame, begin), right);
+        }
+    }
+}
+
+#[test]
+fn one_step_transfers_of_every_busy_record() {
+    let frame = Frame::new(5).unwrap();
+    for row @ ([.., busy], _) in all_records() {
+        if busy != 0 {
+            for transfer in [Transfer::Read, Transfer::Write, Transfer::WritePart] {
+                let step = |record: &mut Record| record.transfer(frame, transfer);
+                check_step(row, step, Err(Refusal::Busy));
+            }
+        }
+    }
+}
+
+/// A read while the device reads goes by the table: its colour becomes held, with a purge if it was stale.
+#[test]
+fn accesses_of_every_busy_record() {
+    let frame = Frame::new(5).unwrap();
+    for row @ ([held, stale, _, busy], _) in all_records() {
+        for colour in Colour::all() {
+            let read = |record: &mut Record| record.access(frame, Access::Read, colour);
+            let write = |record: &mut Record| record.access(frame, Access::Write, colour);
+            let own = 1 << colour.index();
+            let purge = (stale & own != 0).then_some(Operation::Purge(frame, colour));
+            match busy {
+                0 => continue,
+                1 => {
+                    let next = [held | own, stale & !own, 0, 1];
+                    check_step(row, read, Ok((next, [purge, None])));
+                }
+                _ => check_step(row, read, Err(Refusal::Busy)),
+            }
+            check_step(row, write, Err(Refusal::Busy));
+        }
+    }
+}
+
+#[test]
+fn words_and_ends_of_every_record() {
+    for row @ ([held, stale, dirty, busy], record_before) in all_records() {
+        for (direction, mark) in [(Direction::Read, 1), (Direction::Write, 2)] {
+            let right = if busy == mark {
+                Ok(())
+            } else {
+                Err(Refusal::NotBegun)
+            };
+            assert_eq!(record_before.word(direction), right);
+        }
+        let right = match busy {
+            0 => Err(Refusal::NotBegun),
+            _ => Ok(([held, stale, dirty, 0], [None, None])),
+        };
+        check_step(row, |record| record.end().map(|()| [None, None]), right);
+    }
+}
+
+// ---- begins
+
+#[test]
+fn numbers() {
+    assert_eq!(Refusal::Busy.number(), 15);
+    assert_eq!(Refusal::NotBegun.number(), 16);
+}
+
+/// The dirty colour is flushed, so that the device finds what the processor wrote, and empty then.
+#[test]
+fn a_begin_read_over_a_dirty_page() {
+    let dirty = [write(2, 0, 70), write(2, 63, 71)];
+    let rows = [
+        (begin_read(5), "F5.2", None),
+        (take(5, 0), "", Some(70)),
+        (take(5, 63), "", Some(71)),
+        (take(5, 1), "", Some(1001)),
+        // Empty and not stale: no purge is due.
+        (read(2, 63), "", Some(71)),
+        (read(0, 0), "", Some(70)),
+        (end(5), "", None),
+    ];
+    check(&mut after(&dirty), &rows);
+}
+
+/// Where the whole one-step transfer purges, a begin flushes: the words that do not come are kept.
+#[test]
+fn a_begin_write_over_a_dirty_page() {
+    let dirty = [write(2, 0, 70), write(2, 1, 71), write(2, 63, 72)];
+    let rows = [
+        (begin_write(5), "F5.2", None),
+        (bring(5, 1, 80), "", None),
+        (end(5), "", None),
+        (read(2, 0), "", Some(70)),
+        (read(2, 1), "", Some(80)),
+        (read(2, 63), "", Some(72)),
+        (read(2, 2), "", Some(1002)),
+    ];
+    check(&mut after(&dirty), &rows);
+    // Also where all words come.
+    let mut pair = after(&dirty);
+    check(&mut pair, &[(begin_write(5), "F5.2", None)]);
+    for offset in 0..64 {
+        check(&mut pair, &[(bring(5, offset, 80), "", None)]);
+    }
+    let rows = [(end(5), "", None), (read(2, 63), "", Some(80))];
+    check(&mut pair, &rows);
+}
+
+#[test]
+fn held_colours_stay_held_at_a_begin_read() {
+    let rows = [
+        (begin_read(5), "", None),
+        (read(0, 0), "", Some(1000)),
+        (read(1, 8), "", Some(1008)),
+        (read(2, 0), "", Some(1000)),
+        (end(5), "", None),
+        (read(0, 0), "", Some(1000)),
+        // They were held: now they go stale.
+        (write(0, 0, 70), "", None),
+        (read(1, 0), "F5.0 P5.1", Some(70)),
+        (read(2, 0), "P5.2", Some(70)),
+    ];
+    check(&mut after(&[read(0, 0), read(1, 8)]), &rows);
+}
+
+#[test]
+fn held_colours_go_stale_at_a_begin_write() {
+    let held = [read(0, 0), read(1, 8)];
+    // Whether words come or not, in their lines or not.
+    let brought: [&[Call]; 3] = [&[], &[bring(5, 0, 1000)], &[bring(5, 63, 80)]];
+    for words in brought {
+        let mut pair = after(&held);
+        check(&mut pair, &[(begin_write(5), "", None)]);
+        for &word in words {
+            check(&mut pair, &[(word, "", None)]);
+        }
+        let rows = [
+            (end(5), "", None),
+            (read(0, 0), "P5.0", Some(1000)),
+            (write(1, 8, 70), "P5.1", None),
+            (read(2, 8), "F5.1", Some(70)),
+        ];
+        check(&mut pair, &rows);
+    }
+}
+
+#[test]
+fn stale_colours_stay_stale_at_a_begin() {
+    // Colour 1 is stale since the write, colour 0 dirty.
+    let before = [read(1, 0), write(0, 0, 70)];
+    let rows = [
+        (begin_read(5), "F5.0", None),
+        (take(5, 0), "", Some(70)),
+        (read(1, 0), "P5.1", Some(70)),
+        (read(1, 0), "", Some(70)),
+        (end(5), "", None),
+    ];
+    check(&mut after(&before), &rows);
+    let rows = [
+        (begin_write(5), "F5.0", None),
+        (bring(5, 1, 80), "", None),
+        (end(5), "", None),
+        (read(0, 0), "", Some(70)),
+        (read(1, 1), "P5.1", Some(80)),
+        (read(1, 0), "", Some(70)),
+    ];
+    check(&mut after(&before), &rows);
+}
+
+/// Neither the end nor a word orders anything or changes a state; a second begin has nothing to do.
+#[test]
+fn begins_one_after_the_other() {
+    let rows = [
+        (begin_read(5), "F5.0", None),
+        (end(5), "", None),
+        (begin_read(5), "", None),
+        (end(5), "", None),
+        (begin_write(5), "", None),
+        (end(5), "", None),
+        (begin_write(5), "", None),
+        (end(5), "", None),
+        (write(1, 1, 71), "", None),
+        (begin_write(5), "F5.1", None),
+        (end(5), "", None),
+        (read(0, 1), "", Some(71)),
+    ];
+    check(&mut after(&[write(0, 0, 70)]), &rows);
+}
+
+/// What a begin orders and makes of the states is what the one-step device read or the part does: what follows is
+/// the same.
+#[test]
+fn begins_beside_one_step_transfers() {
+    let befores: [&[Call]; 5] = [
+        &[],
+        &[read(0, 0), read(1, 8)],
+        &[write(2, 7, 70)],
+        &[read(1, 0), write(0, 0, 70)],
+        &[read(1, 0), write(0, 0, 70), read(2, 0)],
+    ];
+    for before in befores {
+        let (mut one, mut other) = (after(before), after(before));
+        let begun = accept(&mut one, begin_read(5));
+        let Found::Page(words) = accept(&mut other, device_read(5)).found else {
+            panic!("a device read finds a page");
+        };
+        for (offset, word) in (0..).zip(*words) {
+            assert_eq!(accept(&mut one, take(5, offset)).found, Found::Word(word));
+        }
+        accept(&mut one, end(5));
+        assert!(one == other, "after {before:?}");
+
+        let (mut one, mut other) = (after(before), after(before));
+        assert_eq!(
+            begun.operations,
+            accept(&mut one, begin_write(5)).operations
+        );
+        let sent = accept(&mut other, part(5, 20, 12, 100));
+        assert_eq!(begun.operations, sent.operations);
+        for k in 0..12 {
+            accept(&mut one, bring(5, 20 + k, 100 + u32::from(k)));
+        }
+        accept(&mut one, end(5));
+        assert!(one == other, "after {before:?}");
+    }
+}
+
+// ---- processor accesses
+
+#[test]
+fn no_access_while_the_device_writes() {
+    let befores: [&[Call]; 4] = [&[], &[read(0, 0)], &[write(0, 0, 70)], &[write(1, 0, 70)]];
+    for before in befores {
+        let mut pair = after(before);
+        accept(&mut pair, begin_write(5));
+        let accesses = [
+            read(0, 0),
+            read(1, 63),
+            read(3, 0),
+            write(0, 0, 7),
+            write(2, 63, 7),
+        ];
+        let rows = accesses.map(|access| (access, 15));
+        check_refused(&mut pair, &rows);
+        accept(&mut pair, bring(5, 0, 80));
+        check_refused(&mut pair, &rows);
+        accept(&mut pair, end(5));
+        assert_eq!(accept(&mut pair, read(0, 0)).found, Found::Word(80));
+        accept(&mut pair, write(0, 0, 7));
+        pair.settle().unwrap();
+    }
+}
+
+#[test]
+fn only_reads_while_the_device_reads() {
+    let befores: [&[Call]; 4] = [
+        &[],
+        &[read(0, 0)],
+        &[write(0, 0, 1000)],
+        &[write(1, 0, 1000)],
+    ];
+    for before in befores {
+        let mut pair = after(before);
+        accept(&mut pair, begin_read(5));
+        // Whatever the colour's state, and whether the word would change or not.
+        let writes = [
+            write(0, 0, 70),
+            write(0, 0, 1000),
+            write(1, 63, 7),
+            write(2, 0, 7),
+        ];
+        let rows = writes.map(|write| (write, 15));
+        check_refused(&mut pair, &rows);
+        for page in 0..4 {
+            assert_eq!(accept(&mut pair, read(page, 0)).found, Found::Word(1000));
+            check_refused(&mut pair, &rows);
+        }
+        assert_eq!(accept(&mut pair, take(5, 0)).found, Found::Word(1000));
+        accept(&mut pair, end(5));
+        for write in writes {
+            accept(&mut pair, write);
+        }
+        pair.settle().unwrap();
+    }
+}
+
+/// Reads purge stale colours and hold new ones while the device reads, and the end leaves them so.
+#[test]
+fn reads_between_the_words() {
+    let before = [read(0, 0), read(1, 0), write(2, 9, 70), part(5, 16, 1, 80)];
+    let rows = [
+        (begin_read(5), "", None),
+        (read(0, 9), "P5.0", Some(70)),
+        (take(5, 9), "", Some(70)),
+        (read(2, 16), "", Some(80)),
+        (take(5, 16), "", Some(80)),
+        (read(1, 9), "P5.1", Some(70)),
+        (read(3, 63), "", Some(1063)),
+        (take(5, 63), "", Some(1063)),
+        (end(5), "", None),
+        (read(1, 9), "", Some(70)),
+        (write(0, 9, 71), "", None),
+        (read(1, 9), "F5.0 P5.1", Some(71)),
+        (read(3, 9), "P5.3", Some(71)),
+    ];
+    check(&mut after(&before), &rows);
+}
+
+// ---- new transfers
+
+#[test]
+fn no_new_transfer_of_a_busy_frame() {
+    for begin in BEGINS {
+        let befores: [&[Call]; 3] = [&[], &[read(0, 0)], &[write(0, 0, 70)]];
+        for before in befores {
+            let mut pair = after(before);
+            accept(&mut pair, begin(5));
+            let rows = transfers().map(|transfer| (transfer, 15));
+            check_refused(&mut pair, &rows);
+            accept(&mut pair, end(5));
+            for transfer in transfers() {
+                accept(&mut pair.clone(), transfer);
+            }
+        }
+    }
+}
+
+// ---- words and ends
+
+#[test]
+fn words_and_ends_without_a_transfer() {
+    let rows = [
+        (bring(5, 0, 80), 16),
+        (bring(5, 63, 1063), 16),
+        (take(5, 0), 16),
+        (end(5), 16),
+    ];
+    check_refused(&mut Pair::default(), &rows);
+    // Also after a transfer in one step, which is over, and after one that was ended.
+    for transfer in transfers() {
+        let mut pair = after(&[read(1, 0), write(0, 0, 70), transfer]);
+        if matches!(transfer, Call::BeginRead { .. } | Call::BeginWrite { .. }) {
+            accept(&mut pair, end(5));
+        }
+        check_refused(&mut pair, &rows);
+    }
+    // That another frame is busy does not help.
+    for begin in BEGINS {
+        check_refused(&mut after(&[begin(4), begin(6)]), &rows);
+    }
+}
+
+#[test]
+fn words_in_the_wrong_direction() {
+    let mut pair = after(&[begin_read(5)]);
+    check_refused(
+        &mut pair,
+        &[(bring(5, 0, 80), 16), (bring(5, 63, 1063), 16)],
+    );
+    assert_eq!(accept(&mut pair, take(5, 0)).found, Found::Word(1000));
+
+    let mut pair = after(&[begin_write(5)]);
+    check_refused(&mut pair, &[(take(5, 0), 16), (take(5, 63), 16)]);
+    accept(&mut pair, bring(5, 0, 80));
+    check_refused(&mut pair, &[(take(5, 0), 16)]);
+}
+
+/// Each word moves at once: any offset, in any order, as often as one likes.
+#[test]
+fn words_that_are_brought() {
+    let rows = [
+        (begin_write(5), "", None),
+        (bring(5, 63, 80), "", None),
+        (bring(5, 0, 81), "", None),
+        (bring(5, 7, u32::MAX), "", None),
+        (bring(5, 8, 82), "", None),
+        (bring(5, 63, 83), "", None),
+        (bring(5, 9, 0), "", None),
+        (end(5), "", None),
+        (read(0, 63), "", Some(83)),
+        (read(0, 0), "", Some(81)),
+        (read(0, 7), "", Some(u32::MAX)),
+        (read(0, 8), "", Some(82)),
+        (read(0, 9), "", Some(0)),
+        (read(0, 10), "", Some(1010)),
+    ];
+    check(&mut after(&[]), &rows);
+}
+
+#[test]
+fn words_that_are_taken() {
+    let rows = [
+        (begin_read(5), "", None),
+        (take(5, 63), "", Some(1063)),
+        (take(5, 0), "", Some(1000)),
+        (take(5, 0), "", Some(1000)),
+        (take(5, 8), "", Some(1008)),
+        (end(5), "", None),
+    ];
+    check(&mut after(&[]), &rows);
+    let mut pair = after(&[begin_read(5)]);
+    let before = pair.clone();
+    for offset in 0..64 {
+        let word = 1000 + u32::from(offset);
+        assert_eq!(accept(&mut pair, take(5, offset)).found, Found::Word(word));
+    }
+    assert!(pair == before, "a word taken changes nothing");
+}
+
+/// A transfer that ends without a word.
+#[test]
+fn no_words() {
+    for begin in BEGINS {
+        let mut pair = after(&[begin(5), end(5)]);
+        check_refused(&mut pair, &[(end(5), 16)]);
+        assert!(pair == after(&[]));
+    }
+}
+
+#[test]
+fn the_first_and_the_last_frame() {
+    for frame in [0, 63] {
+        let rows = [
+            (begin_write(frame), "", None),
+            (bring(frame, 0, 80), "", None),
+            (bring(frame, 63, 81), "", None),
+            (end(frame), "", None),
+            (begin_read(frame), "", None),
+            (take(frame, 0), "", Some(80)),
+            (take(frame, 63), "", Some(81)),
+            (take(frame, 1), "", Some(0)),
+        ];
+        check(&mut after(&[]), &rows);
+    }
+}
+
+// ---- the order of the refusals
+
+#[test]
+fn before_15_of_an_access() {
+    for begin in BEGINS {
+        let mut pair = after(&[begin(5)]);
+        let space_16 = Call::Write {
+            space: 16,
+            page: 0,
+            offset: 64,
+            word: 7,
+        };
+        let rows = [
+            (space_16, 3),
+            (write(1024, 64, 7), 3),
+            (write(0, 64, 7), 6),
+            (write(3, 64, 7), 6),
+            // Not mapped, so of no frame that could be busy.
+            (write(4, 0, 7), 8),
+            (write(3, 0, 7), 10),
+            (write(0, 0, 7), 15),
+            (read(1024, 0), 3),
+            (read(0, 64), 6),
+            (read(4, 0), 8),
+        ];
+        check_refused(&mut pair, &rows);
+    }
+    check_refused(&mut after(&[begin_write(5)]), &[(read(3, 0), 15)]);
+}
+
+#[test]
+fn before_15_of_a_transfer() {
+    for begin in BEGINS {
+        let mut pair = after(&[begin(5)]);
+        let mut rows = vec![
+            (device_read(64), 4),
+            (device_write(64 + 5, 100), 4),
+            (begin_read(64 + 5), 4),
+            (begin_write(255), 4),
+            (part(64 + 5, 0, 0, 100), 4),
+        ];
+        for (offset, count) in [(0, 0), (63, 2), (64, 1), (0, 65), (usize::MAX, 1)] {
+            rows.push((part(5, offset, count, 100), 13));
+        }
+        rows.push((part(5, 63, 1, 100), 15));
+        check_refused(&mut pair, &rows);
+    }
+}
+
+#[test]
+fn before_16() {
+    // Whether a transfer runs, and in which direction, or none.
+    let befores: [&[Call]; 3] = [&[], &[begin_read(5)], &[begin_write(5)]];
+    for before in befores {
+        let mut pair = after(before);
+        let rows = [
+            (bring(64, 64, 80), 4),
+            (bring(64 + 5, 0, 80), 4),
+            (take(64, 64), 4),
+            (take(255, 255), 4),
+            (end(64), 4),
+            (end(64 + 5), 4),
+            (bring(5, 64, 80), 6),
+            (bring(5, 255, 80), 6),
+            (take(5, 64), 6),
+            (take(5, 128), 6),
+            (take(6, 64), 6),
+            (bring(6, 63, 80), 16),
+            (take(6, 63), 16),
+            (end(6), 16),
+        ];
+        check_refused(&mut pair, &rows);
+    }
+}
+
+// ---- beside other calls
+
+/// Lines of the frame, and dirty ones of another in the same colour, leave the cache between the words.
+#[test]
+fn evictions_between_the_words() {
+    let evict = |line| Call::Evict { line };
+    let before = [read(0, 0), map(1, 8, 6, 2)];
+    let write_other = Call::Write {
+        space: 1,
+        page: 8,
+        offset: 8,
+        word: 70,
+    };
+    let rows = [
+        (write_other, "", None),
+        (begin_write(5), "", None),
+        (bring(5, 0, 80), "", None),
+        // Of frame 5, stale; then of frame 6, dirty.
+        (evict(0), "", None),
+        (bring(5, 1, 81), "", None),
+        (evict(1), "", None),
+        (bring(5, 8, 82), "", None),
+        (end(5), "", None),
+        (read(0, 0), "P5.0", Some(80)),
+        (read(0, 1), "", Some(81)),
+        (read(0, 8), "", Some(82)),
+        (begin_read(6), "F6.0", None),
+        (take(6, 8), "", Some(70)),
+    ];
+    check(&mut after(&before), &rows);
+    let rows = [
+        (write(0, 0, 70), "", None),
+        (evict(0), "", None),
+        // The record is dirty still, though no line is.
+        (begin_read(5), "F5.0", None),
+        (read(0, 0), "", Some(70)),
+        (evict(0), "", None),
+        (take(5, 0), "", Some(70)),
+        (read(0, 0), "", Some(70)),
+        (evict(0), "", None),
+        (end(5), "", None),
+    ];
+    check(&mut after(&[]), &rows);
+    // The line that holds a word the device has changed since: it is clean, so that it is not written back.
+    let rows = [
+        (read(0, 0), "", Some(1000)),
+        (begin_write(5), "", None),
+        (bring(5, 0, 80), "", None),
+        (evict(0), "", None),
+        (end(5), "", None),
+        (begin_read(5), "", None),
+        (take(5, 0), "", Some(80)),
+    ];
+    check(&mut after(&[]), &rows);
+}
+
+/// A miss of another frame turns the busy frame's line out, and the other way round.
+#[test]
+fn misses_between_the_words() {
+    let other = |offset, word| Call::Write {
+        space: 1,
+        page: 8,
+        offset,
+        word,
+    };
+    let rows = [
+        (read(0, 0), "", Some(1000)),
+        (begin_read(5), "", None),
+        (other(0, 70), "", None),
+        (take(5, 0), "", Some(1000)),
+        (read(0, 0), "", Some(1000)),
+        (other(1, 71), "", None),
+        (take(5, 1), "", Some(1001)),
+        (end(5), "", None),
+        (begin_write(5), "", None),
+        (other(2, 72), "", None),
+        (bring(5, 2, 80), "", None),
+        (other(3, 73), "", None),
+        (end(5), "", None),
+        (read(0, 2), "P5.0", Some(80)),
+    ];
+    check(&mut after(&[map(1, 8, 6, 2)]), &rows);
+}
+
+/// Neither is an access or a transfer.
+#[test]
+fn maps_and_unmaps_of_a_busy_frame() {
+    let rows = [
+        (write(0, 0, 70), "", None),
+        (begin_read(5), "F5.0", None),
+        (map(0, 9, 5, 2), "", None),
+        (read(9, 0), "", Some(70)),
+        (unmap(0), "", None),
+        (unmap(9), "", None),
+        (take(5, 0), "", Some(70)),
+        (map(0, 0, 5, 1), "", None),
+        (read(0, 0), "", Some(70)),
+        (end(5), "", None),
+    ];
+    check(&mut after(&[]), &rows);
+
+    let mut pair = after(&[]);
+    let rows = [
+        (read(0, 0), "", Some(1000)),
+        (begin_write(5), "", None),
+        (unmap(0), "", None),
+        (bring(5, 0, 80), "", None),
+        (map(0, 0, 5, 2), "", None),
+        (map(0, 9, 5, 2), "", None),
+    ];
+    check(&mut pair, &rows);
+    let rows = [(read(0, 0), 15), (read(9, 0), 15), (write(9, 0, 7), 15)];
+    check_refused(&mut pair, &rows);
+    // Unmapped and mapped again, colour 0 is stale still.
+    let rows = [
+        (end(5), "", None),
+        (read(0, 0), "P5.0", Some(80)),
+        (read(9, 0), "", Some(80)),
+    ];
+    check(&mut pair, &rows);
+}
+
+/// The frame of no mapping, and a page whose frame is another now.
+#[test]
+fn a_page_that_leaves_the_busy_frame() {
+    let mut pair = after(&[begin_write(5)]);
+    check_refused(&mut pair, &[(write(0, 0, 7), 15)]);
+    for page in 0..4 {
+        accept(&mut pair, unmap(page));
+    }
+    check_refused(&mut pair, &[(write(0, 0, 7), 8), (device_read(5), 15)]);
+    let rows = [
+        (map(0, 0, 6, 2), "", None),
+        (write(0, 0, 70), "", None),
+        (bring(5, 0, 80), "", None),
+        (read(0, 0), "", Some(70)),
+        (end(5), "", None),
+    ];
+    check(&mut pair, &rows);
+}
+
+/// The list of mappings (N1) takes busy frames too.
+#[test]
+fn many_mappings_of_a_busy_frame() {
+    for begin in BEGINS {
+        let mut pair = after(&[begin(5)]);
+        let items = [8, 9, 0].map(|page| Mapping {
+            space: 0,
+            page,
+            frame: 5,
+            rights: 2,
+        });
+        let mut answers = [99; 3];
+        assert_eq!(pair.map_all(&items, &mut answers), Ok(()));
+        assert_eq!(answers, [0, 0, 7]);
+        check_refused(&mut pair, &[(write(9, 0, 7), 15)]);
+    }
+}
+
+/// Both directions at once, and one-step transfers of a third frame: each frame has its own mark.
+#[test]
+fn several_frames() {
+    let other = |page, offset| Call::Read {
+        space: 1,
+        page,
+        offset,
+    };
+    let mut pair = after(&[map(1, 0, 6, 2), map(1, 1, 7, 2), device_write(6, 2000)]);
+    let rows = [
+        (begin_read(5), "", None),
+        (begin_write(6), "", None),
+        (take(5, 1), "", Some(1001)),
+        (bring(6, 1, 80), "", None),
+        (device_write(7, 3000), "", None),
+        (other(1, 1), "", Some(3001)),
+        (part(7, 1, 1, 81), "", None),
+        (other(1, 1), "P7.1", Some(81)),
+        (take(5, 2), "", Some(1002)),
+    ];
+    check(&mut pair, &rows);
+    let rows = [
+        (take(6, 1), 16),
+        (bring(5, 1, 80), 16),
+        (take(7, 1), 16),
+        (bring(7, 1, 80), 16),
+        (end(7), 16),
+        (other(0, 1), 15),
+        (begin_read(6), 15),
+        (begin_write(5), 15),
+    ];
+    check_refused(&mut pair, &rows);
+    // The end of one is not that of the other.
+    let rows = [
+        (end(5), "", None),
+        (write(0, 1, 70), "", None),
+        (bring(6, 2, 82), "", None),
+        (begin_read(7), "", None),
+        (end(6), "", None),
+        (other(0, 1), "", Some(80)),
+        (take(7, 2), "", Some(3002)),
+        (other(0, 2), "", Some(82)),
+        (begin_write(5), "F5.0", None),
+    ];
+    check(&mut pair, &rows);
+}
+
+// ---- at random
+
+/// What decides a refusal: the mappings with frame and rights, and the busy marks that are not 0.
+#[derive(Default)]
+struct Tables {
+    mapped: BTreeMap<(u8, u16), (u8, u8)>,
+    busy: BTreeMap<u8, u8>,
+}
+
+impl Tables {
+    /// The first cause that applies, of those that the call tests in order; 0 if none does.
+    fn number(&self, call: Call) -> u8 {
+        let mark = |frame: u8| self.busy.get(&frame).copied().unwrap_or(0);
+        let place = |space: u8, page: u16| (3, space > 15 || page > 1023);
+        let frame_past = |frame: u8| (4, frame > 63);
+        let offset_past = |offset: u8| (6, offset > 63);
+        let found = |space, page| self.mapped.get(&(space, page)).copied();
+        let causes = match call {
+            Call::Map(Mapping {
+                space,
+                page,
+                frame,
+                rights,
+            }) => vec![
+                place(space, page),
+                frame_past(frame),
+                (5, !matches!(rights, 1 | 2)),
+                (7, found(space, page).is_some()),
+            ],
+            Call::Unmap { space, page } => {
+                vec![place(space, page), (8, found(space, page).is_none())]
+            }
+            Call::Read {
+                space,
+                page,
+                offset,
+            } => {
+                let (frame, _) = found(space, page).unwrap_or_default();
+                vec![
+                    place(space, page),
+                    offset_past(offset),
+                    (8, found(space, page).is_none()),
+                    (15, mark(frame) == 2),
+                ]
+            }
+            Call::Write {
+                space,
+                page,
+                offset,
+                ..
+            } => {
+                let (frame, rights) = found(space, page).unwrap_or_default();
+                vec![
+                    place(space, page),
+                    offset_past(offset),
+                    (8, found(space, page).is_none()),
+                    (10, rights == 1),
+                    (15, mark(frame) != 0),
+                ]
+            }
+            Call::DeviceRead { frame }
+            | Call::DeviceWrite { frame, .. }
+            | Call::BeginRead { frame }
+            | Call::BeginWrite { frame } => vec![frame_past(frame), (15, mark(frame) != 0)],
+            Call::DeviceWritePart {
+                frame,
+                offset,
+                count,
+                ..
+            } => vec![
+                frame_past(frame),
+                (13, count == 0 || offset + count > 64),
+                (15, mark(frame) != 0),
+            ],
+            Call::BringWord { frame, offset, .. } => vec![
+                frame_past(frame),
+                offset_past(offset),
+                (16, mark(frame) != 2),
+            ],
+            Call::TakeWord { frame, offset } => vec![
+                frame_past(frame),
+                offset_past(offset),
+                (16, mark(frame) != 1),
+            ],
+            Call::EndTransfer { frame } => vec![frame_past(frame), (16, mark(frame) == 0)],
+            Call::Evict { line } => vec![(6, line > 63)],
+        };
+        let first = causes.into_iter().find(|&(_, applies)| applies);
+        first.map_or(0, |(number, _)| number)
+    }
+
+    fn follow(&mut self, call: Call) {
+        match call {
+            Call::Map(Mapping {
+                space,
+                page,
+                frame,
+                rights,
+            }) => _ = self.mapped.insert((space, page), (frame, rights)),
+            Call::Unmap { space, page } => _ = self.mapped.remove(&(space, page)),
+            Call::BeginRead { frame } => _ = self.busy.insert(frame, 1),
+            Call::BeginWrite { frame } => _ = self.busy.insert(frame, 2),
+            Call::EndTransfer { frame } => _ = self.busy.remove(&frame),
+            _ => {}
+        }
+    }
+}
+
+/// Random numbers from a seed: splitmix64.
+struct Random(u64);
+
+impl Random {
+    /// A number below the limit, which is not 0.
+    fn below(&mut self, limit: u32) -> u32 {
+        self.0 = self.0.wrapping_add(0x9e37_79b9_7f4a_7c15);
+        let mut z = self.0;
+        z = (z ^ (z >> 30)).wrapping_mul(0xbf58_476d_1ce4_e5b9);
+        z = (z ^ (z >> 27)).wrapping_mul(0x94d0_49bb_1331_11eb);
+        ((z ^ (z >> 31)) % u64::from(limit)) as u32
+    }
+
+    fn pick<T: Copy>(&mut self, from: &[T]) -> T {
+        from[self.below(from.len() as u32) as usize]
+    }
+
+    /// One of these, or once in thirty the other.
+    fn mostly<T: Copy>(&mut self, from: &[T], other: T) -> T {
+        if self.below(30) == 0 {
+            other
+        } else {
+            self.pick(from)
+        }
+    }
+
+    fn call(&mut self) -> Call {
+        let space = self.mostly(&[0, 1], 16);
+        let page = self.mostly(&[0, 1, 8, 9], 1024);
+        let frame = self.mostly(&[0, 5, 63], 64);
+        let offset = self.mostly(&[0, 1, 8, 63], 64);
+        let word = self.below(1000);
+        match self.below(32) {
+            0..3 => map(space, page, frame, self.mostly(&[1, 2, 2], 3)),
+            3 => Call::Unmap { space, page },
+            4..9 => Call::Read {
+                space,
+                page,
+                offset,
+            },
+            9..14 => Call::Write {
+                space,
+                page,
+                offset,
+                word,
+            },
+            14 => device_read(frame),
+            15 => device_write(frame, word),
+            16 => part(frame, offset.into(), self.pick(&[0, 1, 1, 12, 64]), word),
+            17..19 => Call::Evict {
+                line: self.mostly(&[0, 1, 7, 8, 9, 15], 64),
+            },
+            19 => begin_read(frame),
+            20 => begin_write(frame),
+            21..25 => bring(frame, offset, word),
+            25..29 => take(frame, offset),
+            _ => end(frame),
+        }
+    }
+}
+
+/// 500 runs from the start, each of 400 calls: each is refused as the tables and its numbers say, and every word
+/// found is that of the cacheless memory.
+#[test]
+fn random_calls() {
+    let mut random = Random(1);
+    let mut seen = BTreeMap::new();
+    for run in 0..500 {
+        let (mut pair, mut tables) = (Pair::default(), Tables::default());
+        for _ in 0..400 {
+            let call = random.call();
+            let answer = number(&pair.call(call).unwrap());
+            assert_eq!(answer, tables.number(call), "run {run}: {call:?}");
+            if answer == 0 {
+                tables.follow(call);
+            }
+            *seen.entry(answer).or_insert(0) += 1;
+        }
+        pair.settle().unwrap();
+    }
+    let numbers: Vec<u8> = seen.keys().copied().collect();
+    assert_eq!(numbers, [0, 3, 4, 5, 6, 7, 8, 10, 13, 15, 16], "{seen:?}");
+    assert!(seen.values().all(|&count| count > 200), "{seen:?}");
+}
