@@ -2,7 +2,7 @@
 -- changes that at the same moment. While a device reads no colour is dirty, and while it writes none is present or dirty, so no line of the
 -- frame is dirty and memory has its words.
 use mathlib.Core.Path.{_≡_, refl, sym, ap, _∙_, fun-ext, subst, subst⁻¹}
-use mathlib.Core.Bool.{Bool, false, not, false≢true, true≢false}
+use mathlib.Core.Bool.{false, true≢false}
 use mathlib.Core.List.{List}
 use mathlib.Core.Logic.{_≢_}
 use mathlib.Core.Option.{Option, some}
@@ -12,7 +12,6 @@ use lib.ListN.{getD}
 use borrow.Author.Tests.{eqb-true, not-false}
 use Rattle.board.specs.declared.Board.{Board}
 use Rattle.board.specs.Board.{Regular, lineOf}
-use Rattle.page_model.specs.declared.FrameRecord.{FrameRecord}
 use Rattle.page_model.specs.Busy.{reading, writing, bars}
 use Rattle.page_model.specs.Record.{stateOf, isHeld, isDirty, ended}
 use Rattle.page_model.specs.Table as table
@@ -32,7 +31,7 @@ use Rattle.machine.specs.Refusals.{causes, ownCauses}
 use Rattle.machine.specs.State.{State, state, beginRead, beginWrite, bringWord, takeWord, endTransfer}
 use Rattle.machine.specs.Step.{accept}
 use Rattle.machine.proofs.StepLaws.{clear, frame-ready, word-ready}
-use Rattle.consistency.specs.Cacheless.{Cacheless, cacheless, replaced, afterAccepted}
+use Rattle.consistency.specs.Cacheless.{Cacheless, replaced, afterAccepted}
 use Rattle.consistency.proofs.Agrees.{Agrees, Untouched, emptied, untouched-tagged, untouched-agrees}
 use Rattle.consistency.proofs.Commit.{refill-invariant, record-invariant, commit-invariant}
 use Rattle.consistency.proofs.Invariant.{Invariant, Taken}

@@ -10,7 +10,7 @@ use Rattle.page_model.specs.Step.{stepped}
 use Rattle.page_model.specs.Table.{Step}
 use Rattle.manager.specs.declared.Change.{Change}
 use Rattle.manager.specs.declared.Plan.the-variants as step-plan
-use Rattle.manager.specs.Calls.{planned, changeOf, Result, result, noOps, plainResult}
+use Rattle.manager.specs.Calls.{planned, changeOf, result, noOps, plainResult}
 use Rattle.manager.specs.Answers as answer
 use Rattle.manager.specs.Answers.{Outcome, accepted}
 use Rattle.manager.specs.Refusals.{Cause, firstRefusal, busyCause}

@@ -1,6 +1,5 @@
 -- `machine::device_read` meets its contract.
 use mathlib.Core.Path.{refl, sym, _∙_}
-use mathlib.Core.List.{[]}
 use mathlib.Core.Option.{none}
 use borrow.Author.Needs.{needs}
 use Rattle.board.specs.Board.{board01}
