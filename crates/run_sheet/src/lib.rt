@@ -1,6 +1,7 @@
 // The run sheet: bytes of a sheet in, bytes of text out.
 mod run;
 mod steps;
+mod transfers;
 
 use manager::Answer;
 use mapping::MappingList;

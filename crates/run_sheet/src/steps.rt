@@ -1,5 +1,6 @@
 // One step of a sheet, made on the machine: each kind but the unmap, which the run makes itself.
 use crate::Told;
+use crate::transfers;
 use board::BOARD01;
 use machine::Loaded;
 use manager::Answer;
@@ -36,6 +37,11 @@ pub fn is_unmap(kind: Kind) -> bool
         Kind::DeviceRead => false,
         Kind::DeviceWrite => false,
         Kind::DeviceWritePart => false,
+        Kind::BeginRead => false,
+        Kind::BeginWrite => false,
+        Kind::BringWord => false,
+        Kind::TakeWord => false,
+        Kind::EndTransfer => false,
         Kind::Evict => false,
         Kind::Unmap => true,
         Kind::Other => true,
@@ -67,6 +73,19 @@ pub fn step(
         Kind::DeviceWrite => device_write(list, records, protections, memory, words, tags, f),
         Kind::DeviceWritePart => {
             device_write_part(list, records, protections, memory, words, tags, f)
+        }
+        Kind::BeginRead => {
+            transfers::begin_read(list, records, protections, memory, words, tags, f)
+        }
+        Kind::BeginWrite => {
+            transfers::begin_write(list, records, protections, memory, words, tags, f)
+        }
+        Kind::BringWord => {
+            transfers::bring_word(list, records, protections, memory, words, tags, f)
+        }
+        Kind::TakeWord => transfers::take_word(list, records, protections, memory, words, tags, f),
+        Kind::EndTransfer => {
+            transfers::end_transfer(list, records, protections, memory, words, tags, f)
         }
         _ => evict(list, records, protections, memory, words, tags, f),
     }
@@ -270,8 +289,8 @@ fn evict(
     }
 }
 
-// What a read tells.
-fn told_of(got: Loaded) -> Told
+// What a read, or a word that a device takes, tells.
+pub fn told_of(got: Loaded) -> Told
     ensures { λ r. ⌜ (outcome (r .answer) ≡ loaded got .outcome) × (shownWord (r .shown) ≡ loaded got .word) ⌝ }
 {
     match got {

@@ -97,6 +97,11 @@ fn keeps(kind: Kind, f: Fields) -> bool
         Kind::DeviceRead => all_zero(f.p, f.o, f.w),
         Kind::DeviceWrite => all_zero(f.p, f.o, 0),
         Kind::DeviceWritePart => true,
+        Kind::BeginRead => all_zero(f.p, f.o, f.w),
+        Kind::BeginWrite => all_zero(f.p, f.o, f.w),
+        Kind::BringWord => all_zero(f.p, 0, 0),
+        Kind::TakeWord => all_zero(f.p, 0, f.w),
+        Kind::EndTransfer => all_zero(f.p, f.o, f.w),
         Kind::Evict => all_zero(f.p, f.o, f.w),
         Kind::Unmap => all_zero(0, f.o, f.w),
         Kind::Other => false,
@@ -127,6 +132,11 @@ pub fn kind_of(n: u8) -> Kind
         5 => Kind::Evict,
         6 => Kind::Unmap,
         7 => Kind::DeviceWritePart,
+        8 => Kind::BeginRead,
+        9 => Kind::BeginWrite,
+        10 => Kind::BringWord,
+        11 => Kind::TakeWord,
+        12 => Kind::EndTransfer,
         _ => Kind::Other,
     }
 }

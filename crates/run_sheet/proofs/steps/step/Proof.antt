@@ -14,7 +14,7 @@ abbrev start : tie.After-slice-known5 → tie.Start
 start c = c .before .before .before .before .before
 
 -- past the kinds that it names
-past : {n : ℕ} → OneOf (5 ∷ 6 ∷ 7 ∷ []) n → 5 ≤ n
+past : {n : ℕ} → OneOf (10 ∷ 11 ∷ 12 ∷ []) n → 10 ≤ n
 past h = ⊎-elim (λ e. omega arith) (λ h. ⊎-elim (λ e. omega arith) (λ e. omega arith) h) h
 
 -- what each kind's call did, from its call back to the kind
@@ -50,20 +50,57 @@ returns-5 c =
 
 returns-6 : tie.Need-returns-6
 returns-6 c =
+    let made = c .before .before .before .before .before .before .before .before in
+    let told = made .before .before .before .before .before .before in
+    did-kind (start (told .before .before) .args .f) (sym (told .enum-told6 .given .1)) (made .begin-read .ensures)
+
+returns-7 : tie.Need-returns-7
+returns-7 c =
+    let made = c .before .before .before .before .before .before .before .before in
+    let told = made .before .before .before .before .before .before in
+    did-kind (start (told .before .before) .args .f) (sym (told .enum-told7 .given .1)) (made .begin-write .ensures)
+
+returns-8 : tie.Need-returns-8
+returns-8 c =
+    let made = c .before .before .before .before in
+    let told = made .before .before .before .before .before .before in
+    did-kind (start (told .before .before) .args .f) (sym (told .enum-told8 .given .1)) (made .bring-word .ensures)
+
+returns-9 : tie.Need-returns-9
+returns-9 c =
+    let made = c .before .before in
+    let told = made .before .before .before .before .before .before in
+    did-kind (start (told .before .before) .args .f) (sym (told .enum-told9 .given .1)) (made .take-word .ensures)
+
+returns-10 : tie.Need-returns-10
+returns-10 c =
+    let made = c .before .before .before .before in
+    let told = made .before .before .before .before .before .before in
+    did-kind (start (told .before .before) .args .f) (sym (told .enum-told10 .given .1)) (made .end-transfer .ensures)
+
+returns-11 : tie.Need-returns-11
+returns-11 c =
     let made = c .before .before .before .before .before .before in
     let left = made .before .before .before .before .before .before in
     let a = start (left .before) in
-    did-as (evict-is (a .args .f) (a .args .kind) (a .pre) (past (left .match .keys6))) (made .evict .ensures)
+    did-as (evict-is (a .args .f) (a .args .kind) (a .pre) (past (left .match .keys11))) (made .evict .ensures)
 
 pub step-spec : {M : Type 1} → statement M
 step-spec =
     tie.close
     (tie.spec
     (λ c. search needs) (λ c κs. search needs) (λ c. search needs) (λ c κs. search needs) (λ c. search needs) (λ c κs. search needs)
-    (λ c. search needs) (λ c κs. search needs) (λ c. search needs) (λ c κs. search needs) (λ c κs. search needs)
+    (λ c. search needs) (λ c κs. search needs) (λ c. search needs) (λ c κs. search needs) (λ c. search needs) (λ c κs. search needs)
+    (λ c. search needs) (λ c κs. search needs) (λ c. search needs) (λ c κs. search needs) (λ c. search needs) (λ c κs. search needs)
+    (λ c. search needs) (λ c κs. search needs) (λ c κs. search needs)
     (λ c. search needs) (λ c. search needs) (λ c. search needs) (λ c. search needs) (λ c. search needs) returns
     (λ c. search needs) (λ c. search needs) (λ c. search needs) (λ c. search needs) (λ c. search needs) returns-2
     (λ c. search needs) (λ c. search needs) (λ c. search needs) (λ c. search needs) (λ c. search needs) returns-3
     (λ c. search needs) (λ c. search needs) (λ c. search needs) (λ c. search needs) (λ c. search needs) returns-4
     (λ c. search needs) (λ c. search needs) (λ c. search needs) (λ c. search needs) (λ c. search needs) returns-5
-    (λ c. search needs) (λ c. search needs) (λ c. search needs) (λ c. search needs) (λ c. search needs) returns-6)
+    (λ c. search needs) (λ c. search needs) (λ c. search needs) (λ c. search needs) (λ c. search needs) returns-6
+    (λ c. search needs) (λ c. search needs) (λ c. search needs) (λ c. search needs) (λ c. search needs) returns-7
+    (λ c. search needs) (λ c. search needs) (λ c. search needs) (λ c. search needs) (λ c. search needs) returns-8
+    (λ c. search needs) (λ c. search needs) (λ c. search needs) (λ c. search needs) (λ c. search needs) returns-9
+    (λ c. search needs) (λ c. search needs) (λ c. search needs) (λ c. search needs) (λ c. search needs) returns-10
+    (λ c. search needs) (λ c. search needs) (λ c. search needs) (λ c. search needs) (λ c. search needs) returns-11)

@@ -26,12 +26,42 @@ returns-7 : tie.Need-returns-7
 returns-7 c = let e : c .before .args .n ≡ 7 = c .match .keys7 in rw e
 
 returns-8 : tie.Need-returns-8
-returns-8 c =
+returns-8 c = let e : c .before .args .n ≡ 8 = c .match .keys8 in rw e
+
+returns-9 : tie.Need-returns-9
+returns-9 c = let e : c .before .args .n ≡ 9 = c .match .keys9 in rw e
+
+returns-10 : tie.Need-returns-10
+returns-10 c = let e : c .before .args .n ≡ 10 = c .match .keys10 in rw e
+
+returns-11 : tie.Need-returns-11
+returns-11 c = let e : c .before .args .n ≡ 11 = c .match .keys11 in rw e
+
+returns-12 : tie.Need-returns-12
+returns-12 c = let e : c .before .args .n ≡ 12 = c .match .keys12 in rw e
+
+returns-13 : tie.Need-returns-13
+returns-13 c =
     let n = c .before .args .n in
     let r = c .match .rest in
-    simp
-    (ne-eqb n 1 (r .0 .0 .0 .0 .0 .0 .1), ne-eqb n 2 (r .0 .0 .0 .0 .0 .1), ne-eqb n 3 (r .0 .0 .0 .0 .1), ne-eqb n 4 (r .0 .0 .0 .1), ne-eqb n 5 (r .0 .0 .1), ne-eqb n 6 (r .0 .1), ne-eqb n 7 (r .1))
+    let low = r .0 .0 .0 .0 .0 .0 in
+    simp (
+      ne-eqb n 1 (low .0 .0 .0 .0 .0 .1),
+      ne-eqb n 2 (low .0 .0 .0 .0 .1),
+      ne-eqb n 3 (low .0 .0 .0 .1),
+      ne-eqb n 4 (low .0 .0 .1),
+      ne-eqb n 5 (low .0 .1),
+      ne-eqb n 6 (low .1),
+      ne-eqb n 7 (r .0 .0 .0 .0 .0 .1),
+      ne-eqb n 8 (r .0 .0 .0 .0 .1),
+      ne-eqb n 9 (r .0 .0 .0 .1),
+      ne-eqb n 10 (r .0 .0 .1),
+      ne-eqb n 11 (r .0 .1),
+      ne-eqb n 12 (r .1),
+    )
 
 pub kind-of-spec : {M : Type 1} → statement M
 kind-of-spec =
-    tie.close (tie.spec returns returns-2 returns-3 returns-4 returns-5 returns-6 returns-7 returns-8)
+    tie.close
+    (tie.spec returns returns-2 returns-3 returns-4 returns-5 returns-6 returns-7 returns-8 returns-9 returns-10 returns-11 returns-12
+    returns-13)
