@@ -29,8 +29,9 @@ use Rattle.cache.specs.Tag as tag
 use Rattle.machine.specs.Refusals as machine-refusals
 use Rattle.machine.specs.Step as machine-step
 use Rattle.run_sheet.specs.Run as run
+use Rattle.edges.specs.Calls.{ask, askFrom, pageMapping, itemAt, itemsOf, pagesMapped, listing}
 use Rattle.edges.specs.Rows.{Holds, Seen, answers}
-use Rattle.edges.specs.Table.{roomForOne, freshPair, mappedPair, ask, askFrom, pageMapping, itemAt, itemsOf, pagesMapped, listing}
+use Rattle.edges.specs.Table.{roomForOne, freshPair, mappedPair}
 
 -- ---- what stands where
 
@@ -72,7 +73,7 @@ module _ (b : Board) (st : State) (call : Single) where
   lent-clear e f = rw (e, f)
 
 lent-rules : (n : ℕ) → n ≤ capacity → (manager-tables.rulesKept board01 (listing n .tables) && tag.tagsKeepRules board01 (listing n .store .tags)) ≡ true
-unfolding manager-tables.rulesKept manager-tables.recordsKeepRules manager-tables.recordAt mask.all mask.bit mask.countOf frame-record.keepsRules run.zeros run.start board.lines board.pageLines tag.tagsKeepRules
+unfolding manager-tables.rulesKept manager-tables.recordsKeepRules manager-tables.recordAt mask.all mask.bit mask.countOf frame-record.coloursKeepRules frame-record.keepsRules run.zeros run.start board.lines board.pageLines tag.tagsKeepRules
 lent-rules n room = rw (rules-keepsRules board01 (pagesMapped n) (pages-rules n room))
 
 first-of : (n : ℕ) → n ≤ capacity → (call : Single) → bufferRight board01 call ≡ true → firstRefusal (causes board01 (listing n) call) ≡ firstRefusal (ownCauses board01 (listing n) call)

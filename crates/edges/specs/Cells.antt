@@ -1,5 +1,5 @@
--- Document 01, "The page model": both tables and request N3's row, cell by cell in their order, as rows. Each speaks of the cases by number
--- that the contract of `page_model::table::case_at` names, and so of the code too.
+-- Document 01, "The page model": both tables, request N3's row and request N6's two, cell by cell in their order, as rows. Each speaks of the
+-- cases by number that the contract of `page_model::table::case_at` names, and so of the code too.
 use mathlib.Core.Bool.{Bool, true, false}
 use mathlib.Core.List.{List, [], _∷_, _++_}
 use Prim.Native.Nat.{ℕ}
@@ -23,6 +23,12 @@ deviceWrite = 3
 
 abbrev pub deviceWritePart : ℕ
 deviceWritePart = 4
+
+abbrev pub beginRead : ℕ
+beginRead = 5
+
+abbrev pub beginWrite : ℕ
+beginWrite = 6
 
 -- ---- rows
 
@@ -80,4 +86,14 @@ cells =
     ∷ atEvery deviceWritePart present (none ⇒ stale)
     ∷ atEvery deviceWritePart dirty (flush ⇒ empty)
     ∷ atEvery deviceWritePart stale (none ⇒ stale)
+    -- begin read
+    ∷ atEvery beginRead empty (none ⇒ empty)
+    ∷ atEvery beginRead present (none ⇒ present)
+    ∷ atEvery beginRead dirty (flush ⇒ empty)
+    ∷ atEvery beginRead stale (none ⇒ stale)
+    -- begin write
+    ∷ atEvery beginWrite empty (none ⇒ empty)
+    ∷ atEvery beginWrite present (none ⇒ stale)
+    ∷ atEvery beginWrite dirty (flush ⇒ empty)
+    ∷ atEvery beginWrite stale (none ⇒ stale)
     ∷ []

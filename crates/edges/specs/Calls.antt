@@ -1,0 +1,136 @@
+-- How a case is asked: calls one after the other, the answers that they must give, and the states from which they are made.
+use mathlib.Core.Bool.{cond}
+use mathlib.Core.List.{List, [], _∷_}
+use mathlib.Core.Option.{Option, none, some}
+use Prim.Native.Nat.{ℕ, zero, suc}
+use lib.Dec.{ltb}
+use lib.ListN.{replicate, set}
+use Rattle.board.specs.Board.{board01}
+use Rattle.mapping.specs.declared.Mapping.{Mapping}
+use Rattle.mapping.specs.declared.MappingList.{MappingList}
+use Rattle.mapping.specs.Entry.{capacity, zeroMapping}
+use Rattle.page_model.specs.declared.Op.{Op}
+use Rattle.page_model.specs.declared.Op.the-variants.{None}
+use Rattle.page_model.specs.declared.Ops.{Ops}
+use Rattle.manager.specs.Answers.{refused, accepted}
+use Rattle.manager.specs.Calls.{noOps}
+use Rattle.manager.specs.Tables.{tables, putRecord}
+use Rattle.cache.specs.Store.{store}
+use Rattle.machine.specs.State.{State, state, Single, map, read, write, deviceWritePart, beginRead, beginWrite, Answer, Result}
+use Rattle.machine.specs.Step.{answer, step}
+use Rattle.run_sheet.specs.Run.{start}
+
+-- ---- calls
+
+-- the state after calls
+unfoldable pub after : State → List Single → State
+unfolding step
+after st [] = st
+after st (call ∷ calls) = after (step board01 st call .after) calls
+
+-- the answers of calls, one after the other, the state of each from the one before it
+unfoldable pub askFrom : Result → List Single → List Answer
+unfolding step
+askFrom got [] = got .answer ∷ []
+askFrom got (call ∷ calls) = got .answer ∷ askFrom (step board01 (got .after) call) calls
+
+unfoldable pub ask : State → List Single → List Answer
+unfolding askFrom
+ask st [] = []
+ask st (call ∷ calls) = askFrom (step board01 st call) calls
+
+-- ---- answers
+
+abbrev pub refuses : ℕ → Answer
+refuses n = answer (refused n) none []
+
+-- accepted, with the frame of its orders, the orders and a word
+abbrev pub accepts : ℕ → Ops → Option ℕ → Answer
+accepts frame ops word = answer (accepted frame ops) word []
+
+-- the first of two orders, with no second
+abbrev pub only : Op → Ops
+only op = record { first = op; second = None }
+
+-- a change of the list
+abbrev pub done : Answer
+done = accepts 0 noOps none
+
+-- a write on a frame, with no order
+abbrev pub written : ℕ → Answer
+written frame = accepts frame noOps none
+
+-- a read on a frame, with no order, and its word
+abbrev pub finds : ℕ → ℕ → Answer
+finds frame word = accepts frame noOps (some word)
+
+-- the beginning of a transfer of a frame, with no order
+abbrev pub begun : ℕ → Answer
+begun frame = accepts frame noOps none
+
+-- a word that a device takes, which orders nothing, and so has no frame
+abbrev pub takes : ℕ → Answer
+takes word = accepts 0 noOps (some word)
+
+-- ---- states
+
+abbrev pub fresh : State
+fresh = start board01
+
+-- the state with other mappings, records or cache
+abbrev pub withList : MappingList → State → State
+withList l st = state (tables l (st .tables .records) (st .tables .protections)) (st .store)
+
+abbrev pub withRecords : List ℕ → State → State
+withRecords records st = state (tables (st .tables .list) records (st .tables .protections)) (st .store)
+
+abbrev pub withCache : List ℕ → List ℕ → State → State
+withCache words tags st = state (st .tables) (store (st .store .memory) words tags)
+
+-- the start with pages 0 to n - 1 of space 0 mapped to frame 0, to read
+abbrev pub pageMapping : ℕ → Mapping
+pageMapping page = record { space = 0; page = page; frame = 0; rights = 1 }
+
+abbrev pub itemAt : ℕ → ℕ → Mapping
+itemAt n i = cond (ltb i n) (pageMapping i) zeroMapping
+
+unfoldable pub itemsOf : ℕ → (ℕ → Mapping) → List Mapping
+itemsOf zero f = []
+itemsOf (suc k) f = f 0 ∷ itemsOf k (λ i. f (suc i))
+
+abbrev pub pagesMapped : ℕ → MappingList
+pagesMapped n = record { items = itemsOf capacity (itemAt n); count = n }
+
+abbrev pub listing : ℕ → State
+listing n = withList (pagesMapped n) fresh
+
+-- the start with these held and stale masks, flag and busy mark in the record of frame 0
+abbrev pub recorded : ℕ → ℕ → ℕ → ℕ → State
+recorded held stale dirty busy = withRecords (putRecord (fresh .tables .records) 0 (record { held = held; stale = stale; dirty = dirty; busy = busy })) fresh
+
+-- the first line of the cache with this tag, and word 77 in it
+abbrev pub tagged : ℕ → State
+tagged tag = withCache (set (fresh .store .words) 0 77) (set (fresh .store .tags) 0 tag) fresh
+
+-- a page mapped, and a word of it read
+abbrev pub readOnce : State
+readOnce = after fresh (map 0 2 5 1 ∷ read 0 2 3 ∷ [])
+
+-- page 0 mapped to frame 3, and a word of it written
+abbrev pub wroteOnce : State
+wroteOnce = after fresh (map 0 0 3 2 ∷ write 0 0 0 17 ∷ [])
+
+-- page 2 mapped to frame 5, and its last word written
+abbrev pub wroteLast : State
+wroteLast = after fresh (map 0 2 5 2 ∷ write 0 2 63 42 ∷ [])
+
+-- a device has begun to read frame 5, or to write it
+abbrev pub deviceReads : State
+deviceReads = after fresh (beginRead 5 ∷ [])
+
+abbrev pub deviceWrites : State
+deviceWrites = after fresh (beginWrite 5 ∷ [])
+
+-- so many words from an offset of frame 5 on, all 7
+abbrev pub sevens : ℕ → ℕ → Single
+sevens first number = deviceWritePart 5 first number (replicate number 7)
