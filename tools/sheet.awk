@@ -21,6 +21,11 @@ BEGIN {
     instruction("evict", "step", 5, "LINE s")
     instruction("unmap", "step", 6, "SPACE s PAGE p")
     instruction("device-write-part", "step", 7, "FRAME s FIRST p NUMBER o WORD w")
+    instruction("begin-read", "step", 8, "FRAME s")
+    instruction("begin-write", "step", 9, "FRAME s")
+    instruction("bring-word", "step", 10, "FRAME s OFFSET o WORD w")
+    instruction("take-word", "step", 11, "FRAME s OFFSET o")
+    instruction("end-transfer", "step", 12, "FRAME s")
 
     # A word that stands for a number in a field.
     word_for("RIGHTS", 1, "r")
