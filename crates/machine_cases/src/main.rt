@@ -46,7 +46,7 @@ fn tried(
     flag: u32,
 ) {
     show::case(r, p, m, w, t, b, tag, flag);
-    if r <= 193 && p <= 257 && m <= 4097 && w <= 513 && t <= 65 && b <= 65 {
+    if r <= 257 && p <= 257 && m <= 4097 && w <= 513 && t <= 65 && b <= 65 {
         row(list, r, p, m, w, t, b, tag, flag, 0, 3, 0);
         row(list, r, p, m, w, t, b, tag, flag, 16, 64, 64);
     }
@@ -67,17 +67,17 @@ fn row(
     frame: u8,
     place: usize,
 )
-    requires { ⌜ (r ≤ 193) × (p ≤ 257) × (m ≤ 4097) × (w ≤ 513) × (t ≤ 65) × (b ≤ 65) ⌝ }
+    requires { ⌜ (r ≤ 257) × (p ≤ 257) × (m ≤ 4097) × (w ≤ 513) × (t ≤ 65) × (b ≤ 65) ⌝ }
 {
-    let mut records = [0u32; 193];
+    let mut records = [0u32; 257];
     let mut protections = [9u8; 257];
     let mut memory = [70u32; 4097];
     let mut words = [80u32; 513];
     let mut tags = [0u8; 65];
     let mut buffer = [90u32; 65];
-    records[9] = 1;
-    records[11] = 1;
-    records[191] = flag;
+    records[12] = 1;
+    records[14] = 1;
+    records[254] = flag;
     tags[0] = 132;
     tags[40] = tag;
     let r = &mut records[0..r];
@@ -100,31 +100,31 @@ fn row(
 fn lengths() {
     io::write_all(STDOUT_FILENO, b"lengths\n");
     let list = two_pages();
-    tried(list, 192, 256, 4096, 512, 64, 64, 0, 0);
-    tried(list, 192, 256, 4095, 512, 64, 64, 0, 0);
-    tried(list, 192, 256, 4097, 512, 64, 64, 0, 0);
-    tried(list, 192, 256, 4096, 511, 64, 64, 0, 0);
-    tried(list, 192, 256, 4096, 513, 64, 64, 0, 0);
-    tried(list, 192, 256, 4096, 512, 63, 64, 0, 0);
-    tried(list, 192, 256, 4096, 512, 65, 64, 0, 0);
-    tried(list, 193, 257, 4096, 512, 64, 64, 0, 0);
-    tried(list, 191, 255, 4095, 511, 63, 63, 0, 0);
-    tried(list, 192, 256, 4096, 512, 64, 63, 0, 0);
-    tried(list, 192, 256, 4096, 512, 64, 65, 0, 0);
+    tried(list, 256, 256, 4096, 512, 64, 64, 0, 0);
+    tried(list, 256, 256, 4095, 512, 64, 64, 0, 0);
+    tried(list, 256, 256, 4097, 512, 64, 64, 0, 0);
+    tried(list, 256, 256, 4096, 511, 64, 64, 0, 0);
+    tried(list, 256, 256, 4096, 513, 64, 64, 0, 0);
+    tried(list, 256, 256, 4096, 512, 63, 64, 0, 0);
+    tried(list, 256, 256, 4096, 512, 65, 64, 0, 0);
+    tried(list, 257, 257, 4096, 512, 64, 64, 0, 0);
+    tried(list, 255, 255, 4095, 511, 63, 63, 0, 0);
+    tried(list, 256, 256, 4096, 512, 64, 63, 0, 0);
+    tried(list, 256, 256, 4096, 512, 64, 65, 0, 0);
 }
 
 // Tags that keep the rules, and tags that break them; then beside lengths of the manager and of the machine.
 fn tags() {
     io::write_all(STDOUT_FILENO, b"tags\n");
     let list = two_pages();
-    tried(list, 192, 256, 4096, 512, 64, 64, 64, 0);
-    tried(list, 192, 256, 4096, 512, 64, 64, 192, 0);
-    tried(list, 192, 256, 4096, 512, 64, 64, 65, 0);
-    tried(list, 192, 256, 4096, 512, 64, 64, 128, 0);
-    tried(list, 192, 256, 4096, 512, 64, 64, 193, 0);
-    tried(list, 192, 256, 4096, 512, 64, 64, 255, 0);
-    tried(list, 191, 256, 4096, 512, 64, 64, 65, 0);
-    tried(list, 192, 256, 4096, 513, 64, 64, 65, 0);
+    tried(list, 256, 256, 4096, 512, 64, 64, 64, 0);
+    tried(list, 256, 256, 4096, 512, 64, 64, 192, 0);
+    tried(list, 256, 256, 4096, 512, 64, 64, 65, 0);
+    tried(list, 256, 256, 4096, 512, 64, 64, 128, 0);
+    tried(list, 256, 256, 4096, 512, 64, 64, 193, 0);
+    tried(list, 256, 256, 4096, 512, 64, 64, 255, 0);
+    tried(list, 255, 256, 4096, 512, 64, 64, 65, 0);
+    tried(list, 256, 256, 4096, 513, 64, 64, 65, 0);
 }
 
 // A record whose flag is 2, a list with a pair twice, one with a count of 257; then beside a length of the machine.
@@ -134,10 +134,10 @@ fn tables() {
     let double = mapping::insert_at(list, 1, entry(0, 0, 5, 2));
     let mut over = list;
     over.count = 257;
-    tried(list, 192, 256, 4096, 512, 64, 64, 0, 2);
-    tried(double, 192, 256, 4096, 512, 64, 64, 0, 0);
-    tried(over, 192, 256, 4096, 512, 64, 64, 0, 0);
-    tried(list, 192, 256, 4095, 512, 64, 64, 0, 2);
+    tried(list, 256, 256, 4096, 512, 64, 64, 0, 2);
+    tried(double, 256, 256, 4096, 512, 64, 64, 0, 0);
+    tried(over, 256, 256, 4096, 512, 64, 64, 0, 0);
+    tried(list, 256, 256, 4095, 512, 64, 64, 0, 2);
 }
 
 // ---- a list of mappings
@@ -157,7 +157,7 @@ fn lists() {
 fn laid(m: usize, w: usize, t: usize, a: usize, tag: u8)
     requires { ⌜ (m ≤ 4096) × (w ≤ 513) × (t ≤ 64) × (a ≤ 3) ⌝ }
 {
-    let records = [0u32; 192];
+    let records = [0u32; 256];
     let mut protections = [9u8; 256];
     let memory = [70u32; 4096];
     let words = [80u32; 513];
@@ -212,14 +212,14 @@ fn parts() {
 fn part(b: usize, tag: u8, frame: u8, first: usize, number: usize)
     requires { ⌜ b ≤ 65 ⌝ }
 {
-    let mut r = [0u32; 192];
+    let mut r = [0u32; 256];
     let mut p = [9u8; 256];
     let mut m = [70u32; 4096];
     let w = [80u32; 512];
     let mut t = [0u8; 64];
     let buffer = [90u32; 65];
-    r[9] = 1;
-    r[11] = 1;
+    r[12] = 1;
+    r[14] = 1;
     t[0] = 132;
     t[40] = tag;
     let b = &buffer[0..b];
@@ -242,13 +242,13 @@ fn part(b: usize, tag: u8, frame: u8, first: usize, number: usize)
 // ---- other refusals, on what the rows are given
 
 fn refused() {
-    let mut r = [0u32; 192];
+    let mut r = [0u32; 256];
     let mut p = [9u8; 256];
     let mut m = [70u32; 4096];
     let mut w = [80u32; 512];
     let mut t = [0u8; 64];
-    r[9] = 1;
-    r[11] = 1;
+    r[12] = 1;
+    r[14] = 1;
     t[0] = 132;
     let list = two_pages();
     offsets(list, &mut r, &mut p, &mut m, &mut w, &mut t);
@@ -260,7 +260,7 @@ fn refused() {
 // An offset of 64 by itself, and beside 8 and 10, which stand later.
 fn offsets(
     list: MappingList,
-    r: &mut [u32; 192],
+    r: &mut [u32; 256],
     p: &mut [u8; 256],
     m: &mut [u32; 4096],
     w: &mut [u32; 512],
@@ -278,7 +278,7 @@ fn offsets(
 // The manager's refusals: each by itself, and the first of several.
 fn handed_page(
     list: MappingList,
-    r: &mut [u32; 192],
+    r: &mut [u32; 256],
     p: &mut [u8; 256],
     m: &mut [u32; 4096],
     w: &mut [u32; 512],
@@ -295,7 +295,7 @@ fn handed_page(
 
 fn handed_map(
     list: MappingList,
-    r: &[u32; 192],
+    r: &[u32; 256],
     p: &mut [u8; 256],
     m: &[u32; 4096],
     w: &[u32; 512],
@@ -312,7 +312,7 @@ fn handed_map(
 }
 
 // The full list: a mapped pair, and a fresh one.
-fn full(r: &[u32; 192], p: &mut [u8; 256], m: &[u32; 4096], w: &[u32; 512], t: &[u8; 64]) {
+fn full(r: &[u32; 256], p: &mut [u8; 256], m: &[u32; 4096], w: &[u32; 512], t: &[u8; 64]) {
     let all = pages(256);
     show::map(all, r, p, m, w, t, entry(0, 255, 3, 1));
     show::map(all, r, p, m, w, t, entry(0, 256, 3, 1));
@@ -334,7 +334,7 @@ fn pages(n: u16) -> MappingList {
 
 fn accepted() {
     io::write_all(STDOUT_FILENO, b"accesses\n");
-    let mut r = [0u32; 192];
+    let mut r = [0u32; 256];
     let mut p = [9u8; 256];
     let mut m = [0u32; 4096];
     let mut w = [7u32; 512];
@@ -354,7 +354,7 @@ fn accepted() {
 // A read, a write and an eviction, each with what it leaves.
 fn read(
     list: MappingList,
-    r: &mut [u32; 192],
+    r: &mut [u32; 256],
     p: &mut [u8; 256],
     m: &mut [u32; 4096],
     w: &mut [u32; 512],
@@ -369,7 +369,7 @@ fn read(
 
 fn write(
     list: MappingList,
-    r: &mut [u32; 192],
+    r: &mut [u32; 256],
     p: &mut [u8; 256],
     m: &mut [u32; 4096],
     w: &mut [u32; 512],
@@ -385,7 +385,7 @@ fn write(
 
 fn evict(
     list: MappingList,
-    r: &[u32; 192],
+    r: &[u32; 256],
     p: &mut [u8; 256],
     m: &mut [u32; 4096],
     w: &[u32; 512],
@@ -399,7 +399,7 @@ fn evict(
 // A miss; a hit, which does not see what memory holds meanwhile; a write; a read through the other colour; a write through rights 1.
 fn accesses(
     list: MappingList,
-    r: &mut [u32; 192],
+    r: &mut [u32; 256],
     p: &mut [u8; 256],
     m: &mut [u32; 4096],
     w: &mut [u32; 512],
@@ -417,7 +417,7 @@ fn accesses(
 // A device write over a dirty page, its neighbours in memory, and a read that no longer finds the old line.
 fn writes_in(
     list: MappingList,
-    r: &mut [u32; 192],
+    r: &mut [u32; 256],
     p: &mut [u8; 256],
     m: &mut [u32; 4096],
     w: &mut [u32; 512],
@@ -438,7 +438,7 @@ fn writes_in(
 // A device read of a dirty page.
 fn reads_out(
     list: MappingList,
-    r: &mut [u32; 192],
+    r: &mut [u32; 256],
     p: &mut [u8; 256],
     m: &mut [u32; 4096],
     w: &mut [u32; 512],
@@ -455,7 +455,7 @@ fn reads_out(
 // A dirty line, with protections that were spoilt before; the same line, now empty, with a word changed in it; and a clean line older than memory.
 fn evictions(
     list: MappingList,
-    r: &mut [u32; 192],
+    r: &mut [u32; 256],
     p: &mut [u8; 256],
     m: &mut [u32; 4096],
     w: &mut [u32; 512],
@@ -474,7 +474,7 @@ fn evictions(
 // A page unmapped with a word in the cache, its frame mapped again in the other colour by a list of mappings, and a read through that.
 fn unmapped(
     list: MappingList,
-    r: &mut [u32; 192],
+    r: &mut [u32; 256],
     p: &mut [u8; 256],
     m: &mut [u32; 4096],
     w: &mut [u32; 512],
@@ -494,7 +494,7 @@ fn unmapped(
 // Twelve words under a page that a program reads: it then finds them, and the others.
 fn received(
     list: MappingList,
-    r: &mut [u32; 192],
+    r: &mut [u32; 256],
     p: &mut [u8; 256],
     m: &mut [u32; 4096],
     w: &mut [u32; 512],

@@ -1,7 +1,7 @@
 // Calls of the machine, and text on each: the refusal, or 0, the two operations and the word read; of a transfer also b, the first word of the buffer, and
 // of a list of mappings a, the first two answers.
-// Then `left` ends the line with parts of what the calls left: p the first three protections, r the record of frame 3, m the frame's first word in
-// memory, l tag and first word of line 0, and of line 8, where the frame's first words lie in colours 0 and 1.
+// Then `left` ends the line with parts of what the calls left: p the first three protections, r the record of frame 3 with its busy mark, m the frame's first
+// word in memory, l tag and first word of line 0, and of line 8, where the frame's first words lie in colours 0 and 1.
 use libc::STDOUT_FILENO;
 use machine::Loaded;
 use manager::Answer;
@@ -355,7 +355,7 @@ fn on(letter: u8, frame: u8, colour: usize) {
 
 // Ends a line with what the calls left.
 pub fn left(
-    records: &[u32; 192],
+    records: &[u32; 256],
     protections: &[u8; 256],
     memory: &[u32; 4096],
     words: &[u32; 512],
@@ -390,10 +390,11 @@ fn three(protections: &[u8]) {
 // The record of frame 3.
 fn record(records: &[u32]) {
     io::write_all(STDOUT_FILENO, b" r");
-    if records.len() > 11 {
-        spaced(long(records[9]));
-        spaced(long(records[10]));
-        spaced(long(records[11]));
+    if records.len() > 15 {
+        spaced(long(records[12]));
+        spaced(long(records[13]));
+        spaced(long(records[14]));
+        spaced(long(records[15]));
     }
 }
 

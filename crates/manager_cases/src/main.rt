@@ -29,7 +29,7 @@ fn main() {
 // Hands back the list of the two mappings that are accepted.
 fn limits() -> MappingList {
     io::write_all(STDOUT_FILENO, b"limits\n");
-    let mut records = [0u32; 192];
+    let mut records = [0u32; 256];
     let mut protections = [9u8; 256];
     let list = accepted_maps(&records, &mut protections);
     map_limits(list, &records, &mut protections);
@@ -41,14 +41,14 @@ fn limits() -> MappingList {
     list
 }
 
-fn accepted_maps(records: &[u32; 192], protections: &mut [u8; 256]) -> MappingList {
+fn accepted_maps(records: &[u32; 256], protections: &mut [u8; 256]) -> MappingList {
     let start = mapping::empty();
     show::map(start, records, protections, entry(16, 0, 0, 1));
     let one = show::map(start, records, protections, entry(0, 0, 0, 1));
     show::map(one, records, protections, entry(15, 1023, 63, 2))
 }
 
-fn map_limits(list: MappingList, records: &[u32; 192], protections: &mut [u8; 256]) {
+fn map_limits(list: MappingList, records: &[u32; 256], protections: &mut [u8; 256]) {
     show::map(list, records, protections, entry(0, 1024, 0, 1));
     show::map(list, records, protections, entry(0, 1, 64, 1));
     show::map(list, records, protections, entry(0, 1, 0, 0));
@@ -57,13 +57,13 @@ fn map_limits(list: MappingList, records: &[u32; 192], protections: &mut [u8; 25
 }
 
 // Where several apply.
-fn first_refusals(list: MappingList, records: &[u32; 192], protections: &mut [u8; 256]) {
+fn first_refusals(list: MappingList, records: &[u32; 256], protections: &mut [u8; 256]) {
     show::map(list, records, protections, entry(16, 0, 64, 3));
     show::map(list, records, protections, entry(0, 1, 64, 3));
     show::map(list, records, protections, entry(0, 0, 0, 0));
 }
 
-fn page_limits(list: MappingList, records: &mut [u32; 192], protections: &mut [u8; 256]) {
+fn page_limits(list: MappingList, records: &mut [u32; 256], protections: &mut [u8; 256]) {
     show::unmap(list, records, protections, 0, 5);
     show::unmap(list, records, protections, 16, 0);
     show::read(list, records, protections, 1, 0);
@@ -73,13 +73,13 @@ fn page_limits(list: MappingList, records: &mut [u32; 192], protections: &mut [u
     show::write(list, records, protections, 255, 1023);
 }
 
-fn frame_limits(list: MappingList, records: &mut [u32; 192], protections: &mut [u8; 256]) {
+fn frame_limits(list: MappingList, records: &mut [u32; 256], protections: &mut [u8; 256]) {
     show::device_read(list, records, protections, 64);
     show::device_write(list, records, protections, 255);
 }
 
 // Twelve words from offset 53 on, of a frame that is not there and of one that is; 65 words; none; sums that no word holds; and twelve from 52 on.
-fn part_limits(list: MappingList, records: &mut [u32; 192], protections: &mut [u8; 256]) {
+fn part_limits(list: MappingList, records: &mut [u32; 256], protections: &mut [u8; 256]) {
     show::device_write_part(list, records, protections, 64, 53, 12);
     show::device_write_part(list, records, protections, 63, 53, 12);
     show::device_write_part(list, records, protections, 63, 0, 65);
@@ -89,7 +89,7 @@ fn part_limits(list: MappingList, records: &mut [u32; 192], protections: &mut [u
     show::device_write_part(list, records, protections, 63, 52, 12);
 }
 
-fn unmap_limits(list: MappingList, records: &mut [u32; 192], protections: &mut [u8; 256]) {
+fn unmap_limits(list: MappingList, records: &mut [u32; 256], protections: &mut [u8; 256]) {
     let left = show::unmap(list, records, protections, 0, 0);
     show::unmap(left, records, protections, 0, 0);
     show::write(left, records, protections, 15, 1023);
@@ -100,7 +100,7 @@ fn unmap_limits(list: MappingList, records: &mut [u32; 192], protections: &mut [
 
 fn orders() {
     io::write_all(STDOUT_FILENO, b"orders\n");
-    let mut records = [0u32; 192];
+    let mut records = [0u32; 256];
     let mut protections = [9u8; 256];
     let start = mapping::empty();
     let one = show::map(start, &records, &mut protections, entry(0, 0, 3, 2));
@@ -112,7 +112,7 @@ fn orders() {
 }
 
 // Document 01's sheet.
-fn accesses(list: MappingList, records: &mut [u32; 192], protections: &mut [u8; 256]) {
+fn accesses(list: MappingList, records: &mut [u32; 256], protections: &mut [u8; 256]) {
     show::read(list, records, protections, 1, 9);
     show::write(list, records, protections, 0, 0);
     show::read(list, records, protections, 1, 9);
@@ -122,7 +122,7 @@ fn accesses(list: MappingList, records: &mut [u32; 192], protections: &mut [u8; 
     show::read(list, records, protections, 1, 9);
 }
 
-fn transfers(list: MappingList, records: &mut [u32; 192], protections: &mut [u8; 256]) {
+fn transfers(list: MappingList, records: &mut [u32; 256], protections: &mut [u8; 256]) {
     show::write(list, records, protections, 0, 0);
     show::device_read(list, records, protections, 3);
     show::write(list, records, protections, 0, 0);
@@ -132,7 +132,7 @@ fn transfers(list: MappingList, records: &mut [u32; 192], protections: &mut [u8;
 }
 
 // A part over a dirty page is flushed, under a page that is read goes stale; all the words are the page.
-fn parts(list: MappingList, records: &mut [u32; 192], protections: &mut [u8; 256]) {
+fn parts(list: MappingList, records: &mut [u32; 256], protections: &mut [u8; 256]) {
     show::device_write_part(list, records, protections, 3, 4, 12);
     show::read(list, records, protections, 1, 9);
     show::device_write_part(list, records, protections, 3, 0, 63);
@@ -143,7 +143,7 @@ fn parts(list: MappingList, records: &mut [u32; 192], protections: &mut [u8; 256
 }
 
 // An unmap moves the later mappings down and leaves the record.
-fn unmapped(list: MappingList, records: &mut [u32; 192], protections: &mut [u8; 256]) {
+fn unmapped(list: MappingList, records: &mut [u32; 256], protections: &mut [u8; 256]) {
     let three = show::map(list, records, protections, entry(2, 8, 3, 2));
     show::write(three, records, protections, 2, 8);
     let two = show::unmap(three, records, protections, 0, 0);
@@ -152,7 +152,7 @@ fn unmapped(list: MappingList, records: &mut [u32; 192], protections: &mut [u8; 
 }
 
 // The frame in other colours, whose pages go first: the next access flushes the colour that is dirty.
-fn mapped_again(list: MappingList, records: &mut [u32; 192], protections: &mut [u8; 256]) {
+fn mapped_again(list: MappingList, records: &mut [u32; 256], protections: &mut [u8; 256]) {
     let again = show::map(list, records, protections, entry(0, 2, 3, 2));
     show::write(again, records, protections, 0, 2);
     let gone = show::unmap(again, records, protections, 0, 2);
@@ -164,12 +164,12 @@ fn mapped_again(list: MappingList, records: &mut [u32; 192], protections: &mut [
 
 fn moves() {
     io::write_all(STDOUT_FILENO, b"moves\n");
-    let mut records = [0u32; 192];
+    let mut records = [0u32; 256];
     let mut protections = [9u8; 256];
-    records[9] = 1;
-    records[11] = 1;
-    records[15] = 1;
-    records[17] = 1;
+    records[12] = 1;
+    records[14] = 1;
+    records[20] = 1;
+    records[22] = 1;
     let two = before(&records, &mut protections);
     each_page(two, &mut records, &mut protections);
     between(two, &records, &mut protections);
@@ -177,7 +177,7 @@ fn moves() {
 }
 
 // A mapping by itself, and one that goes before it.
-fn before(records: &[u32; 192], protections: &mut [u8; 256]) -> MappingList {
+fn before(records: &[u32; 256], protections: &mut [u8; 256]) -> MappingList {
     let start = mapping::empty();
     let one = show::map(start, records, protections, entry(1, 9, 3, 2));
     show::places(one);
@@ -187,14 +187,14 @@ fn before(records: &[u32; 192], protections: &mut [u8; 256]) -> MappingList {
 }
 
 // The same page of two spaces: each has its own frame.
-fn each_page(list: MappingList, records: &mut [u32; 192], protections: &mut [u8; 256]) {
+fn each_page(list: MappingList, records: &mut [u32; 256], protections: &mut [u8; 256]) {
     show::read(list, records, protections, 0, 9);
     show::write(list, records, protections, 1, 9);
 }
 
 // One that goes between them, since its space counts before its page, and off again. The later page takes its protection, 2, along; the new one has 1,
 // from its own frame.
-fn between(list: MappingList, records: &[u32; 192], protections: &mut [u8; 256]) {
+fn between(list: MappingList, records: &[u32; 256], protections: &mut [u8; 256]) {
     let three = show::map(list, records, protections, entry(0, 1001, 5, 2));
     show::places(three);
     let two = show::unmap(three, records, protections, 0, 1001);
@@ -202,7 +202,7 @@ fn between(list: MappingList, records: &[u32; 192], protections: &mut [u8; 256])
 }
 
 // One that goes behind them, and off again; then the first is taken off.
-fn behind(list: MappingList, records: &[u32; 192], protections: &mut [u8; 256]) {
+fn behind(list: MappingList, records: &[u32; 256], protections: &mut [u8; 256]) {
     let three = show::map(list, records, protections, entry(1, 17, 3, 1));
     show::places(three);
     let two = show::unmap(three, records, protections, 1, 17);
@@ -215,9 +215,9 @@ fn behind(list: MappingList, records: &[u32; 192], protections: &mut [u8; 256]) 
 
 fn lengths() {
     io::write_all(STDOUT_FILENO, b"lengths\n");
-    let mut records = [0u32; 192];
-    let mut short_records = [0u32; 191];
-    let mut long_records = [0u32; 193];
+    let mut records = [0u32; 256];
+    let mut short_records = [0u32; 255];
+    let mut long_records = [0u32; 257];
     let mut protections = [9u8; 256];
     let mut short = [9u8; 255];
     let mut long = [9u8; 257];
@@ -254,10 +254,10 @@ fn lists() {
 // A mapping that stands after the list's one and belongs before it: each call is refused, and leaves the list and the protections as they were. Frame 3 is
 // dirty in colour 0 before, and still is: the last call, with the list of one, flushes it.
 fn exchanged(one: MappingList) {
-    let mut records = [0u32; 192];
+    let mut records = [0u32; 256];
     let mut protections = [9u8; 256];
-    records[9] = 1;
-    records[11] = 1;
+    records[12] = 1;
+    records[14] = 1;
     let list = mapping::insert_at(one, 1, entry(1, 8, 3, 2));
     show::places(show::map(list, &records, &mut protections, entry(0, 0, 0, 1)));
     show::unmap(list, &records, &mut protections, 1, 8);
@@ -284,7 +284,7 @@ fn counted(list: MappingList) {
 
 // Calls that would be accepted, and one that has another refusal besides.
 fn tried(list: MappingList) {
-    let mut records = [0u32; 192];
+    let mut records = [0u32; 256];
     let mut protections = [9u8; 256];
     show::map(list, &records, &mut protections, entry(16, 0, 0, 1));
     show::read(list, &mut records, &mut protections, 1, 9);
@@ -307,11 +307,11 @@ fn records() {
 
 // Device reads of frames 63 and 64 with this record of frame 63.
 fn last_record(held: u32, stale: u32, dirty: u32) {
-    let mut records = [0u32; 192];
+    let mut records = [0u32; 256];
     let mut protections = [9u8; 256];
-    records[189] = held;
-    records[190] = stale;
-    records[191] = dirty;
+    records[252] = held;
+    records[253] = stale;
+    records[254] = dirty;
     show::device_read(mapping::empty(), &mut records, &mut protections, 64);
     show::device_read(mapping::empty(), &mut records, &mut protections, 63);
 }
@@ -332,7 +332,7 @@ fn map_all(two: MappingList) -> MappingList {
         entry(0, 0, 0, 1),
         entry(1, 2, 0, 3),
     );
-    laid(pages(254), last, 192, 256, 6)
+    laid(pages(254), last, 256, 256, 6)
 }
 
 // A list with a double of its first item and with items that 3, 4 and 5 refuse; its last item takes the page that these name. It goes to an empty
@@ -348,32 +348,32 @@ fn items(two: MappingList) {
         entry(0, 8, 0, 1),
     );
     let start = mapping::empty();
-    let next = laid(start, mixed, 192, 256, 6);
-    laid(next, mixed, 192, 256, 6);
-    laid(two, mixed, 192, 256, 6);
+    let next = laid(start, mixed, 256, 256, 6);
+    laid(next, mixed, 256, 256, 6);
+    laid(two, mixed, 256, 256, 6);
     let mut over = start;
     over.count = 257;
-    laid(over, mixed, 192, 256, 6);
-    laid(over, mixed, 192, 256, 5);
+    laid(over, mixed, 256, 256, 6);
+    laid(over, mixed, 256, 256, 5);
 }
 
 // 64 and 65 items; answers one short and one long; no items. Then lengths that are wrong beside both: 1 stands before 12.
 fn batches(two: MappingList) {
-    laid(two, first_pages(64), 192, 256, 64);
-    laid(two, first_pages(65), 192, 256, 65);
-    laid(two, first_pages(5), 192, 256, 4);
-    laid(two, first_pages(5), 192, 256, 6);
-    laid(two, first_pages(0), 192, 256, 0);
-    laid(two, first_pages(65), 191, 256, 65);
-    laid(two, first_pages(5), 192, 255, 4);
+    laid(two, first_pages(64), 256, 256, 64);
+    laid(two, first_pages(65), 256, 256, 65);
+    laid(two, first_pages(5), 256, 256, 4);
+    laid(two, first_pages(5), 256, 256, 6);
+    laid(two, first_pages(0), 256, 256, 0);
+    laid(two, first_pages(65), 255, 256, 65);
+    laid(two, first_pages(5), 256, 255, 4);
 }
 
 // The call on r words of records and p protections, with n answers, each 8 before it, which no map gives. Frame 0 is dirty in colour 0, so its
 // mappings have the protection 2 or, to read only, 1 there, and 0 elsewhere.
 fn laid(list: MappingList, batch: Batch, r: usize, p: usize, n: usize) -> MappingList
-    requires { ⌜ (r ≤ 192) × (p ≤ 256) × (n ≤ 65) ⌝ }
+    requires { ⌜ (r ≤ 256) × (p ≤ 256) × (n ≤ 65) ⌝ }
 {
-    let mut records = [0u32; 192];
+    let mut records = [0u32; 256];
     let mut protections = [9u8; 256];
     let mut answers = [8u8; 65];
     records[0] = 1;
@@ -426,7 +426,7 @@ fn pages(n: u16) -> MappingList {
 // last two of the list up: the last is still found.
 fn full(all: MappingList) {
     io::write_all(STDOUT_FILENO, b"full\n");
-    let records = [0u32; 192];
+    let records = [0u32; 256];
     let mut protections = [9u8; 256];
     show::map(all, &records, &mut protections, entry(0, 256, 0, 1));
     show::map(all, &records, &mut protections, entry(1, 1, 0, 1));

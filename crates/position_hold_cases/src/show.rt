@@ -1,6 +1,6 @@
 // Calls on a machine whose fix page is frame 3, and text on each. A look's line is its space, page, clock and hold, then what is drawn: `position` with
 // latitude and longitude as words, `blank`, or `refused` with its number.
-// `left` is a line with parts of what the calls left: p the first two protections, r the record of frame 3, t the tags of lines 0 and 8, where the
+// `left` is a line with parts of what the calls left: p the first two protections, r the record of frame 3 with its busy mark, t the tags of lines 0 and 8, where the
 // fix lies in colours 0 and 1, m its four words in memory and the word at offset 40.
 use libc::STDOUT_FILENO;
 use mapping::Mapping;
@@ -102,10 +102,11 @@ pub fn left(records: &[u32], protections: &[u8], memory: &[u32], tags: &[u8]) {
         byte(protections[1]);
     }
     io::write_all(STDOUT_FILENO, b" r");
-    if records.len() > 11 {
-        word(records[9]);
-        word(records[10]);
-        word(records[11]);
+    if records.len() > 15 {
+        word(records[12]);
+        word(records[13]);
+        word(records[14]);
+        word(records[15]);
     }
     io::write_all(STDOUT_FILENO, b" t");
     if tags.len() > 8 {
