@@ -1,5 +1,6 @@
 // Runs the manager on cases worked out by hand from documents 01 and 02: each refusal, broken tables, and accepted calls with their orders and protections.
 // Records and lists start empty, protections as nines.
+mod busy;
 mod show;
 
 use libc::STDOUT_FILENO;
@@ -20,6 +21,8 @@ fn main() {
     lengths();
     lists();
     records();
+    marks();
+    busy::transfers();
     let all = map_all(two);
     full(all);
 }
@@ -294,24 +297,39 @@ fn tried(list: MappingList) {
 
 fn records() {
     io::write_all(STDOUT_FILENO, b"records\n");
-    last_record(1, 2, 1);
-    last_record(1, 1, 0);
-    last_record(255, 0, 2);
-    last_record(3, 0, 1);
-    last_record(0, 3, 1);
-    last_record(3, 252, 0);
-    last_record(256, 0, 0);
-    last_record(0, 2147483648, 0);
-    last_record(1, 0, 257);
+    last_record(1, 2, 1, 0);
+    last_record(1, 1, 0, 0);
+    last_record(255, 0, 2, 0);
+    last_record(3, 0, 1, 0);
+    last_record(0, 3, 1, 0);
+    last_record(3, 252, 0, 0);
+    last_record(256, 0, 0, 0);
+    last_record(0, 2147483648, 0, 0);
+    last_record(1, 0, 257, 0);
+}
+
+// Busy marks that are none; a device that reads, beside a dirty colour and beside present and stale ones; one that writes, beside a present colour, a
+// dirty one and stale ones.
+fn marks() {
+    io::write_all(STDOUT_FILENO, b"marks\n");
+    last_record(0, 0, 0, 3);
+    last_record(0, 0, 0, 256);
+    last_record(0, 0, 0, 4294967295);
+    last_record(128, 0, 1, 1);
+    last_record(128, 127, 0, 1);
+    last_record(128, 0, 0, 2);
+    last_record(1, 0, 1, 2);
+    last_record(0, 255, 0, 2);
 }
 
 // Device reads of frames 63 and 64 with this record of frame 63.
-fn last_record(held: u32, stale: u32, dirty: u32) {
+fn last_record(held: u32, stale: u32, dirty: u32, busy: u32) {
     let mut records = [0u32; 256];
     let mut protections = [9u8; 256];
     records[252] = held;
     records[253] = stale;
     records[254] = dirty;
+    records[255] = busy;
     show::device_read(mapping::empty(), &mut records, &mut protections, 64);
     show::device_read(mapping::empty(), &mut records, &mut protections, 63);
 }

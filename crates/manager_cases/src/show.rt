@@ -103,6 +103,65 @@ pub fn device_write_part(
     line(answer, protections);
 }
 
+// A device begins to read a frame.
+pub fn begin_read(list: MappingList, records: &mut [u32], protections: &mut [u8], frame: u8) {
+    let answer = manager::begin_read(list, records, protections, frame);
+    io::write_all(STDOUT_FILENO, b"begin read ");
+    line(answer, protections);
+}
+
+// A device begins to write a frame.
+pub fn begin_write(list: MappingList, records: &mut [u32], protections: &mut [u8], frame: u8) {
+    let answer = manager::begin_write(list, records, protections, frame);
+    io::write_all(STDOUT_FILENO, b"begin write ");
+    line(answer, protections);
+}
+
+// A device brings a word to an offset of a frame.
+pub fn bring_word(
+    list: MappingList,
+    records: &[u32],
+    protections: &mut [u8],
+    frame: u8,
+    offset: usize,
+) {
+    let answer = manager::bring_word(list, records, protections, frame, offset);
+    io::write_all(STDOUT_FILENO, b"bring word ");
+    line(answer, protections);
+}
+
+// A device takes the word at an offset of a frame.
+pub fn take_word(
+    list: MappingList,
+    records: &[u32],
+    protections: &mut [u8],
+    frame: u8,
+    offset: usize,
+) {
+    let answer = manager::take_word(list, records, protections, frame, offset);
+    io::write_all(STDOUT_FILENO, b"take word ");
+    line(answer, protections);
+}
+
+// A device ends its transfer of a frame.
+pub fn end_transfer(list: MappingList, records: &mut [u32], protections: &mut [u8], frame: u8) {
+    let answer = manager::end_transfer(list, records, protections, frame);
+    io::write_all(STDOUT_FILENO, b"end transfer ");
+    line(answer, protections);
+}
+
+// r: the record of frame 3 with its busy mark.
+pub fn record(records: &[u32]) {
+    io::write_all(STDOUT_FILENO, b"r");
+    if records.len() > 15 {
+        word(records[12]);
+        word(records[13]);
+        word(records[14]);
+        word(records[15]);
+    }
+    io::write_all(STDOUT_FILENO, b"\n");
+}
+
 // The list: n, how many are listed, and l, the first four places by space, page, frame and rights.
 pub fn places(list: MappingList) {
     io::write_all(STDOUT_FILENO, b"n ");
@@ -196,6 +255,11 @@ fn items(count: usize, answers: &[u8]) {
 fn byte(b: u8) {
     io::write_all(STDOUT_FILENO, b" ");
     io::print_decimal(STDOUT_FILENO, wide(b));
+}
+
+fn word(w: u32) {
+    io::write_all(STDOUT_FILENO, b" ");
+    io::print_decimal(STDOUT_FILENO, w as u64);
 }
 
 fn wide(b: u8) -> u64 {
