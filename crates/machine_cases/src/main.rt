@@ -1,6 +1,7 @@
 // Runs the machine on cases worked out by hand from documents 01 and 02: each refusal beside others that stand earlier or later, and accepted calls.
 // Each line ends with parts of what was lent; src/show.rt says which.
 // What is lent goes by letters: r records, p protections, m memory, w the cache's words, t its tags, b the device's buffer.
+mod busy;
 mod show;
 
 use libc::STDOUT_FILENO;
@@ -22,6 +23,7 @@ fn main() {
     parts();
     refused();
     accepted();
+    busy::transfers();
 }
 
 // Frame 3 behind pages of colours 0 and 1: page 0 of space 0, and page 9 of space 1, which is read only.
@@ -30,9 +32,9 @@ fn two_pages() -> MappingList {
     mapping::insert_at(one, 1, entry(1, 9, 3, 1))
 }
 
-// ---- rows of seven single calls: wrong lengths, broken rules
+// ---- rows of single calls: wrong lengths, broken rules
 
-// The single calls but that of a part in a row, none with the list of another: on space 0, frame 3, offset 0 and line 0, which nothing but the case refuses, and again on space 16, frame 64, offset 64 and line 64.
+// The single calls but that of a part, none with the list of another: a row of those made in one step, and one of a read and a write that take a while. On space 0, frame 3, offset 0 and line 0, which nothing but the case refuses, and again on space 16, frame 64, offset 64 and line 64.
 // A case is the lengths of what is lent, the tag of line 40, and the flag of frame 63.
 fn tried(
     list: MappingList,
@@ -93,6 +95,12 @@ fn row(
     show::device_read(list, r, p, m, w, t, b, frame);
     show::device_write(list, r, p, m, w, t, b, frame);
     show::evict(list, r, p, m, w, t, place);
+    show::parts(r, p, m, w, t);
+    show::begin_read(list, r, p, m, w, t, frame);
+    show::take_word(list, r, p, m, w, t, frame, place);
+    show::end_transfer(list, r, p, m, w, t, frame);
+    show::begin_write(list, r, p, m, w, t, frame);
+    show::bring_word(list, r, p, m, w, t, frame, place, 6);
     show::parts(r, p, m, w, t);
 }
 

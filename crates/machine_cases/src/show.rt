@@ -248,7 +248,109 @@ pub fn evict(
     apart();
 }
 
-// What the next two rows are given: the six lengths, a tag and a flag.
+// A device begins to read a frame.
+pub fn begin_read(
+    list: MappingList,
+    records: &mut [u32],
+    protections: &mut [u8],
+    memory: &mut [u32],
+    words: &[u32],
+    tags: &mut [u8],
+    frame: u8,
+) {
+    let answer = machine::begin_read(list, records, protections, memory, words, tags, frame);
+    io::write_all(STDOUT_FILENO, b"begin read");
+    told(answer);
+    apart();
+}
+
+// A device begins to write a frame.
+pub fn begin_write(
+    list: MappingList,
+    records: &mut [u32],
+    protections: &mut [u8],
+    memory: &mut [u32],
+    words: &[u32],
+    tags: &mut [u8],
+    frame: u8,
+) {
+    let answer = machine::begin_write(list, records, protections, memory, words, tags, frame);
+    io::write_all(STDOUT_FILENO, b"begin write");
+    told(answer);
+    apart();
+}
+
+// A device brings a word to an offset of a frame.
+pub fn bring_word(
+    list: MappingList,
+    records: &[u32],
+    protections: &mut [u8],
+    memory: &mut [u32],
+    words: &[u32],
+    tags: &[u8],
+    frame: u8,
+    offset: usize,
+    word: u32,
+) {
+    let answer = machine::bring_word(
+        list,
+        records,
+        protections,
+        memory,
+        words,
+        tags,
+        frame,
+        offset,
+        word,
+    );
+    io::write_all(STDOUT_FILENO, b"bring word");
+    told(answer);
+    apart();
+}
+
+// A device takes the word at an offset of a frame.
+pub fn take_word(
+    list: MappingList,
+    records: &[u32],
+    protections: &mut [u8],
+    memory: &[u32],
+    words: &[u32],
+    tags: &[u8],
+    frame: u8,
+    offset: usize,
+) {
+    let loaded = machine::take_word(
+        list,
+        records,
+        protections,
+        memory,
+        words,
+        tags,
+        frame,
+        offset,
+    );
+    io::write_all(STDOUT_FILENO, b"take word");
+    found(loaded);
+    apart();
+}
+
+// A device ends its transfer of a frame.
+pub fn end_transfer(
+    list: MappingList,
+    records: &mut [u32],
+    protections: &mut [u8],
+    memory: &[u32],
+    words: &[u32],
+    tags: &[u8],
+    frame: u8,
+) {
+    let answer = machine::end_transfer(list, records, protections, memory, words, tags, frame);
+    io::write_all(STDOUT_FILENO, b"end transfer");
+    told(answer);
+    apart();
+}
+
+// What the next rows are given: the six lengths, a tag and a flag.
 pub fn case(
     records: usize,
     protections: usize,
