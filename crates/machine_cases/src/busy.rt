@@ -227,7 +227,7 @@ fn barred_reading(
     show::left(r, p, m, w, t);
 }
 
-// Programs read through the stale and the empty colour, a line is evicted, a further word taken; the end, with protections that were spoilt before.
+// Programs read through the stale and the empty colour, and a line is evicted; a further word and the end, with protections that were spoilt before.
 fn read_meanwhile(
     list: MappingList,
     r: &mut [u32; 256],
@@ -240,6 +240,7 @@ fn read_meanwhile(
     read(list, r, p, m, w, t, 0, 0, 63);
     show::evict(list, r, p, m, w, t, 8);
     show::left(r, p, m, w, t);
+    p[1] = 9;
     show::take_word(list, r, p, m, w, t, 3, 1);
     show::left(r, p, m, w, t);
     p[0] = 9;
@@ -271,7 +272,8 @@ fn brought(
     show::left(r, p, m, w, t);
 }
 
-// After the end both programs find the words: the first has line 7 of before, with the old one.
+// After the end both programs find the words: the first has line 7 of before, with the old one. Then a device begins to read the page, which leaves it
+// present in both colours, and ends.
 fn found(
     list: MappingList,
     r: &mut [u32; 256],
@@ -284,6 +286,10 @@ fn found(
     show::left(r, p, m, w, t);
     read(list, r, p, m, w, t, 0, 0, 63);
     read(list, r, p, m, w, t, 1, 9, 0);
+    show::begin_read(list, r, p, m, w, t, 3);
+    show::left(r, p, m, w, t);
+    show::end_transfer(list, r, p, m, w, t, 3);
+    show::left(r, p, m, w, t);
 }
 
 // A device begins to write a page that a program has written: its word is flushed, not lost. Map, unmap and eviction go on.
