@@ -15,6 +15,7 @@ fn main() {
     losses(&mut memory, &mut words, &mut tags);
     evictions(&mut memory, &mut words, &mut tags);
     transfers(&mut memory);
+    words_moved(&mut memory);
     rules(&mut tags);
 }
 
@@ -91,6 +92,21 @@ fn transfers(memory: &mut [u32; 4096]) {
     show::buffer_word(&buffer, 0);
     show::buffer_word(&buffer, 11);
     show::buffer_word(&buffer, 63);
+}
+
+// A word that a device brings, to the last offset and to the first, touches no neighbour; one that it takes is memory's.
+fn words_moved(memory: &mut [u32; 4096]) {
+    io::write_all(STDOUT_FILENO, b"words\n");
+    show::bring_word(memory, 62, 63, 500);
+    show::memory_word(memory, 62, 62);
+    show::memory_word(memory, 62, 63);
+    show::memory_word(memory, 63, 0);
+    show::bring_word(memory, 62, 0, 600);
+    show::memory_word(memory, 61, 63);
+    show::memory_word(memory, 62, 0);
+    show::memory_word(memory, 62, 1);
+    show::take_word(memory, 62, 63);
+    show::take_word(memory, 3, 11);
 }
 
 // Which tag bytes keep the rules.

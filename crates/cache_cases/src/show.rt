@@ -100,6 +100,24 @@ pub fn device_read(memory: &[u32; 4096], buffer: &mut [u32; 64], frame: usize)
     one(frame as u64);
 }
 
+// Brings a word to an offset of a frame.
+pub fn bring_word(memory: &mut [u32; 4096], frame: usize, offset: usize, word: u32)
+    requires { ⌜ (frame < board01 .frames) × (offset < board01 .page) ⌝ }
+{
+    cache::device::bring_word(BOARD01, memory, frame, offset, word);
+    io::write_all(STDOUT_FILENO, b"bring word ");
+    two(frame as u64, offset as u64);
+}
+
+// Takes the word at an offset of a frame.
+pub fn take_word(memory: &[u32; 4096], frame: usize, offset: usize)
+    requires { ⌜ (frame < board01 .frames) × (offset < board01 .page) ⌝ }
+{
+    let word = cache::device::take_word(BOARD01, memory, frame, offset);
+    io::write_all(STDOUT_FILENO, b"take word ");
+    one(wide(word));
+}
+
 // Writes a line's tag and one of its words.
 pub fn line(words: &[u32; 512], tags: &[u8; 64], line: usize, place: usize)
     requires { ⌜ (line < 64) × (place < board01 .line) ⌝ }
