@@ -220,6 +220,22 @@ fn two_programs() {
         &mut words,
         &mut tags,
     );
+    slowly(
+        list,
+        &mut records,
+        &mut protections,
+        &mut memory,
+        &mut words,
+        &mut tags,
+    );
+    read_out(
+        list,
+        &mut records,
+        &mut protections,
+        &mut memory,
+        &mut words,
+        &mut tags,
+    );
 }
 
 // A look through each page, and what they left.
@@ -390,4 +406,82 @@ fn dirty(
     );
     show::left(records, protections, memory, tags);
     both(list, records, protections, memory, words, tags, 1006, 2);
+}
+
+// A fix is brought word by word (N6): until the end no look finds a part of it, and a wrong hold still stands before.
+fn slowly(
+    list: MappingList,
+    records: &mut [u32; 256],
+    protections: &mut [u8; 256],
+    memory: &mut [u32; 4096],
+    words: &mut [u32; 512],
+    tags: &mut [u8; 64],
+) {
+    io::write_all(STDOUT_FILENO, b"a fix that takes a while\n");
+    machine::begin_write(list, records, protections, memory, words, tags, 3);
+    show::left(records, protections, memory, tags);
+    machine::bring_word(list, records, protections, memory, words, tags, 3, 0, 5);
+    both(list, records, protections, memory, words, tags, 1007, 2);
+    show::look(
+        list,
+        records,
+        protections,
+        memory,
+        words,
+        tags,
+        0,
+        0,
+        1007,
+        31,
+    );
+    rest(list, records, protections, memory, words, tags);
+    machine::end_transfer(list, records, protections, memory, words, tags, 3);
+    both(list, records, protections, memory, words, tags, 1007, 2);
+}
+
+// The other words of the fix.
+fn rest(
+    list: MappingList,
+    records: &[u32; 256],
+    protections: &mut [u8; 256],
+    memory: &mut [u32; 4096],
+    words: &[u32; 512],
+    tags: &[u8; 64],
+) {
+    machine::bring_word(list, records, protections, memory, words, tags, 3, 1, 1007);
+    machine::bring_word(
+        list,
+        records,
+        protections,
+        memory,
+        words,
+        tags,
+        3,
+        2,
+        435_000_200,
+    );
+    machine::bring_word(
+        list,
+        records,
+        protections,
+        memory,
+        words,
+        tags,
+        3,
+        3,
+        4_242_467_400,
+    );
+}
+
+// A device that reads the page lets looks through.
+fn read_out(
+    list: MappingList,
+    records: &mut [u32; 256],
+    protections: &mut [u8; 256],
+    memory: &mut [u32; 4096],
+    words: &mut [u32; 512],
+    tags: &mut [u8; 64],
+) {
+    machine::begin_read(list, records, protections, memory, words, tags, 3);
+    both(list, records, protections, memory, words, tags, 1007, 2);
 }
