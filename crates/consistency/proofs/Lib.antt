@@ -16,7 +16,7 @@ pub mod Map
 pub mod Processor
 pub mod Device
 pub mod Evict
-pub mod Slow
+pub mod Begun
 pub mod Start
 pub mod Evicted
 pub mod Theorem

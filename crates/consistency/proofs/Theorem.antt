@@ -25,7 +25,7 @@ use Rattle.consistency.proofs.Evict.{evict-taken}
 use Rattle.consistency.proofs.Invariant.{Invariant, Taken}
 use Rattle.consistency.proofs.Map.{map-taken, unmap-taken}
 use Rattle.consistency.proofs.Processor.{read-taken, write-taken}
-use Rattle.consistency.proofs.Slow.{begin-read-taken, begin-write-taken, bring-word-taken, take-word-taken, end-transfer-taken}
+use Rattle.consistency.proofs.Begun.{begin-read-taken, begin-write-taken, bring-word-taken, take-word-taken, end-transfer-taken}
 use Rattle.consistency.proofs.Start.{start-invariant}
 use Rattle.consistency.proofs.Evicted.{all-evicted}
 

@@ -15,7 +15,7 @@ use Rattle.board.proofs.Geometry.{colourOf-lt}
 use Rattle.page_model.specs.declared.FrameRecord.{FrameRecord}
 use Rattle.page_model.specs.declared.Stepped.{Stepped}
 use Rattle.page_model.specs.Busy.{bars}
-use Rattle.page_model.specs.Record.{stateOf, encode, ended}
+use Rattle.page_model.specs.Record.{stateOf, encode, freed}
 use Rattle.page_model.specs.Step.{cellOf, recordAfter, stepped}
 use Rattle.page_model.specs.Table as table
 use Rattle.page_model.specs.Theorems.{Passes}
@@ -197,7 +197,7 @@ module _ (b : Board) (t : Tables) (w : WellFormed b t) (f : ℕ) (h : f < b .fra
   unfolding refill
   ended-by =
       let n = lengths-known b t (w .0) in
-      let next = ended (recordAt (t .records) f) in
+      let next = freed (recordAt (t .records) f) in
       record {
         ordered = refl;
         unmarked = recordAt-putRecord-same (t .records) f next (omega arith);

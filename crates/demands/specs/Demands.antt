@@ -9,7 +9,7 @@ use lib.ListN.{length, getD}
 use Rattle.board.specs.declared.Board.{Board}
 use Rattle.board.specs.Board.{Regular, board01, colourOf}
 use Rattle.page_model.specs.Busy.{markAfter}
-use Rattle.page_model.specs.Record.{stateOf, ended}
+use Rattle.page_model.specs.Record.{stateOf, freed}
 use Rattle.page_model.specs.Step.{operations, firstTwo}
 use Rattle.page_model.specs.Table as table
 use Rattle.page_model.specs.Table.{cellAt}
@@ -93,7 +93,7 @@ pub record ByTable (b : Board) (before after : Tables) (o : Outcome) (f : ℕ) (
 -- no order; this frame's record has its mark taken off, and is else as it was, and so are other frames
 pub record ByEnd (before after : Tables) (o : Outcome) (f : ℕ) : Type 0 where
   pub ordered : o ≡ accepted 0 noOps
-  pub unmarked : recordAt (after .records) f ≡ ended (recordAt (before .records) f)
+  pub unmarked : recordAt (after .records) f ≡ freed (recordAt (before .records) f)
   pub others : (g : ℕ) → g ≢ f → recordAt (after .records) g ≡ recordAt (before .records) g
 
 -- a call that does neither orders nothing and leaves every record

@@ -9,7 +9,7 @@ use Rattle.page_model.specs.Busy.{bars}
 use Rattle.page_model.specs.Record.{keepsRules}
 use Rattle.page_model.specs.Step.{stepped}
 use Rattle.page_model.specs.Table as step
-use Rattle.page_model.proofs.Theorems.{step-keeps-rules, ended-record}
+use Rattle.page_model.proofs.Theorems.{step-keeps-rules, freed-record}
 use Rattle.mapping.specs.declared.Found.the-variants.{Nothing}
 use Rattle.mapping.specs.declared.Mapping.{Mapping}
 use Rattle.mapping.specs.Change.{insert, remove}
@@ -55,7 +55,7 @@ module _ (b : Board) (t : Tables) (w : WellFormed b t) where
 
   -- the end of a transfer
   pub end-keeps : (f : ℕ) → f < b .frames → WellFormed b (endedTables b t f)
-  end-keeps f h = commit-keeps f _ h (ended-record (b .colours) _ (record-rules b t (w .1) f h) .0)
+  end-keeps f h = commit-keeps f _ h (freed-record (b .colours) _ (record-rules b t (w .1) f h) .0)
 
   pub map-keeps : (m : Mapping) → InRange b m → lookup (t .list) (m .space) (m .page) ≡ Nothing → t .list .count < capacity → WellFormed b (commitMap b t (placeFor (t .list) (m .space) (m .page)) m)
   map-keeps m range fresh room =

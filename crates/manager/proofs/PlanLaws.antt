@@ -33,7 +33,7 @@ pub planned-barred : (b : Board) (t : Tables) (cs : List Cause) (f : ℕ) (s : S
     ≡ planned (firstRefusal (cs ++ busyCause (t .records) f s ∷ [])) (changeOf b t f s)
 unfolding firstRefusal
 planned-barred b t cs f s n none eb eg em =
-    ap₂ planned (ap (λ (t : Bool). cond t 15 0) eb ∙ refusal-rest cs (busyCause (t .records) f s ∷ []) n none)
+    ap₂ planned (ap (λ (x : Bool). cond x 15 0) eb ∙ refusal-rest cs (busyCause (t .records) f s ∷ []) n none)
     (λ i. record { frame = eg i; next = em i .next; ops = em i .ops })
 
 -- ---- a call without orders

@@ -9,7 +9,7 @@ use Rattle.page_model.specs.declared.Op.the-variants.{None}
 use Rattle.page_model.specs.declared.Ops.{Ops}
 use Rattle.page_model.specs.Step.{stepped}
 use Rattle.page_model.specs.Busy.{reading, writing}
-use Rattle.page_model.specs.Record.{ended}
+use Rattle.page_model.specs.Record.{freed}
 use Rattle.page_model.specs.Table.{Step, read, write, deviceRead, deviceWrite, deviceWritePart, beginRead, beginWrite}
 use Rattle.mapping.specs.declared.Mapping.{Mapping}
 use Rattle.mapping.specs.Change.{insertAt, remove}
@@ -131,18 +131,18 @@ plainResult zero t next = result (accepted 0 noOps) next
 plainResult (suc n) t next = result (refused (suc n)) t
 
 -- a word changes no record: the protections are filled, since every accepted call leaves them so
-abbrev pub wordCall : Board → Tables → ℕ → ℕ → ℕ → Result
-wordCall b t frame offset mark = plainResult (firstRefusal (wordCauses b t frame offset mark)) t (refill b t)
+abbrev pub moveWordCall : Board → Tables → ℕ → ℕ → ℕ → Result
+moveWordCall b t frame offset mark = plainResult (firstRefusal (wordCauses b t frame offset mark)) t (refill b t)
 
 abbrev pub bringWordCall : Board → Tables → ℕ → ℕ → Result
-bringWordCall b t frame offset = wordCall b t frame offset writing
+bringWordCall b t frame offset = moveWordCall b t frame offset writing
 
 abbrev pub takeWordCall : Board → Tables → ℕ → ℕ → Result
-takeWordCall b t frame offset = wordCall b t frame offset reading
+takeWordCall b t frame offset = moveWordCall b t frame offset reading
 
 -- the tables once a frame's transfer has ended
 abbrev pub endedTables : Board → Tables → ℕ → Tables
-endedTables b t frame = commitChange b t frame (ended (recordAt (t .records) frame))
+endedTables b t frame = commitChange b t frame (freed (recordAt (t .records) frame))
 
 abbrev pub endTransferCall : Board → Tables → ℕ → Result
 endTransferCall b t frame = plainResult (firstRefusal (endCauses b t frame)) t (endedTables b t frame)

@@ -1,4 +1,4 @@
-// The manager: keeps the page states of all frames and says which operations are due (document 01: orders). A call is a plan, which changes nothing, and a commit; a list of mappings is its items in order.
+// The manager: keeps the page states of all frames and says which operations are due (document 01: orders). A call is a plan, which changes nothing, and a commit; a word and the end of a transfer order nothing, and have a refusal in the place of a plan; a list of mappings is its items in order.
 pub mod batch;
 pub mod records;
 pub mod refusals;
@@ -11,7 +11,7 @@ ghost use Rattle.mapping.specs.Batch.{itemsOf};
 ghost use Rattle.manager.specs.Answers.{outcome, refused, accepted};
 ghost use Rattle.manager.specs.Batch.{batchResult, mapAllCall};
 ghost use Rattle.manager.specs.Tables.{tables, Colours};
-ghost use Rattle.manager.specs.Calls.{result, noOps, stepResult, planMap, planUnmap, planned, planRead, planWrite, planTransfer, beginStep, planDeviceWritePart, commitMap, commitUnmap, commitChange, mapCall, unmapCall, readCall, writeCall, deviceReadCall, deviceWriteCall, deviceWritePartCall, beginReadCall, beginWriteCall, wordCall, bringWordCall, takeWordCall, endTransferCall};
+ghost use Rattle.manager.specs.Calls.{result, noOps, stepResult, planMap, planUnmap, planned, planRead, planWrite, planTransfer, beginStep, planDeviceWritePart, commitMap, commitUnmap, commitChange, mapCall, unmapCall, readCall, writeCall, deviceReadCall, deviceWriteCall, deviceWritePartCall, beginReadCall, beginWriteCall, moveWordCall, bringWordCall, takeWordCall, endTransferCall};
 ghost use Rattle.page_model.specs.Table.{deviceRead};
 use batch::map_batch;
 use board::BOARD01;
@@ -296,7 +296,7 @@ fn move_word(
     mark: u32,
 ) -> Answer
     ensures { λ r. ⌜ result (outcome r) (tables list (now (records .entry)) (now (protections .exit)))
-        ≡ wordCall board01 (tables list (now (records .entry)) (now (protections .entry))) frame offset mark ⌝ }
+        ≡ moveWordCall board01 (tables list (now (records .entry)) (now (protections .entry))) frame offset mark ⌝ }
 {
     let kept = mapping::keeps_rules(BOARD01, list);
     let refusal = word_refusal(BOARD01, kept, records, protections, frame, offset, mark);

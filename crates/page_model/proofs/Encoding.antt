@@ -12,7 +12,7 @@ use Rattle.bits.proofs.Mask.{mask-of, maskOf-lt, bit-maskOf, any-cong, any-none
 use Rattle.page_model.specs.declared.FrameRecord.{FrameRecord}
 use Rattle.page_model.specs.Record.{stateFrom, stateOf, markFits, encode, isHeld, isDirty, isStale}
 use Rattle.page_model.specs.Table.{ColourState, empty, present, dirty, stale}
-use Rattle.page_model.specs.Theorems.{EncodeDecode, OneOwner, MarkFits, DecodeEncode, KeptMark, EndedRecord}
+use Rattle.page_model.specs.Theorems.{EncodeDecode, OneOwner, MarkFits, DecodeEncode, KeptMark, FreedRecord}
 use Rattle.page_model.proofs.Rules.{Keeps, keeps, kept, flag, flag-digit, dirty-only, dirty-at}
 use Rattle.page_model.proofs.Cells.{kept-state, each-state}
 
@@ -57,9 +57,9 @@ kept-mark n r e =
           sym (kept-state n r kr isHeld (λ o s h d. h) refl k l) ∙ ap (λ (x : ℕ). bit x k) z ∙ bit-none k;
     }
 
-pub ended-record : EndedRecord
+pub freed-record : FreedRecord
 unfolding stateOf
-ended-record n r e =
+freed-record n r e =
     let kr = keeps n r e in (
       kept n _
           (record {
@@ -71,6 +71,7 @@ ended-record n r e =
             mark-fits = refl;
           }),
       λ k. refl,
+      refl,
     )
 
 -- ---- states that are encoded and decoded

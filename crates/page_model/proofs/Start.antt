@@ -21,4 +21,5 @@ start-record n = (
         mark-fits = refl;
       }),
   λ k. simp bit-none,
+  refl,
 )

@@ -61,7 +61,7 @@ caseAt step own state = caseIn (rowAt step (roleIf own)) state
 
 -- the mark that a step's number leaves; any but that of a beginning leaves it as it is
 abbrev pub markAt : ℕ → ℕ → ℕ
-markAt step mark = cond (eqb step 5) reading (cond (eqb step 6) writing mark)
+markAt step mark = cond (eqb step (stepNumber beginRead)) reading (cond (eqb step (stepNumber beginWrite)) writing mark)
 
 -- ---- a record, colour by colour
 

@@ -5,6 +5,7 @@ use Prim.Native.Nat.{ℕ, zero, suc, _^_}
 use lib.Dec.{eqb, leb, ltb}
 use Rattle.bits.specs.Mask.{bit, digit, maskOf, countOf, all, any}
 use Rattle.page_model.specs.declared.FrameRecord.{FrameRecord}
+use Rattle.page_model.specs.Busy.{free}
 use Rattle.page_model.specs.Table.{ColourState, empty, present, dirty, stale}
 
 -- ---- decoding
@@ -72,8 +73,8 @@ encode n mark states =
 
 -- the record that every frame has at the start
 abbrev pub startRecord : FrameRecord
-startRecord = record { held = 0; stale = 0; dirty = 0; busy = 0 }
+startRecord = record { held = 0; stale = 0; dirty = 0; busy = free }
 
 -- the record once its transfer has ended
-abbrev pub ended : FrameRecord → FrameRecord
-ended r = record { held = r .held; stale = r .stale; dirty = r .dirty; busy = 0 }
+abbrev pub freed : FrameRecord → FrameRecord
+freed r = record { held = r .held; stale = r .stale; dirty = r .dirty; busy = free }

@@ -8,16 +8,16 @@ use lib.ListN.{length}
 use Rattle.page_model.specs.declared.FrameRecord.{FrameRecord}
 use Rattle.page_model.specs.declared.Op.{Op}
 use Rattle.page_model.specs.declared.Op.the-variants.{Flush, Purge}
-use Rattle.page_model.specs.Busy.{reading, writing, bars}
-use Rattle.page_model.specs.Record.{stateOf, keepsRules, encode, isHeld, isDirty, startRecord, ended}
+use Rattle.page_model.specs.Busy.{free, reading, writing, bars}
+use Rattle.page_model.specs.Record.{stateOf, keepsRules, encode, isHeld, isDirty, startRecord, freed}
 use Rattle.page_model.specs.Step.{cellOf, recordAfter, operations, opList, OpBelow, stepped}
 use Rattle.page_model.specs.Table.{ColourState, empty, present, dirty, stale, Step, read, write}
 
 -- ---- records and states
 
--- the start record keeps the rules, and every colour is empty in it
+-- the start record keeps the rules, every colour is empty in it, and the frame is free
 abbrev pub StartRecord : Type 0
-StartRecord = (n : ℕ) → (keepsRules n startRecord ≡ true) × ((k : ℕ) → stateOf startRecord k ≡ empty)
+StartRecord = (n : ℕ) → (keepsRules n startRecord ≡ true) × ((k : ℕ) → stateOf startRecord k ≡ empty) × (startRecord .busy ≡ free)
 
 -- encoding what a record says gives the record
 abbrev pub EncodeDecode : Type 0
@@ -43,9 +43,11 @@ DecodeEncode =
 abbrev pub KeptMark : Type 0
 KeptMark = (n : ℕ) (r : FrameRecord) → keepsRules n r ≡ true → MarkFits n (r .busy) (stateOf r)
 
--- a record whose transfer has ended keeps the rules, and each colour's state is as it was
-abbrev pub EndedRecord : Type 0
-EndedRecord = (n : ℕ) (r : FrameRecord) → keepsRules n r ≡ true → (keepsRules n (ended r) ≡ true) × ((k : ℕ) → stateOf (ended r) k ≡ stateOf r k)
+-- a record whose transfer has ended keeps the rules, each colour's state is as it was, and the frame is free
+abbrev pub FreedRecord : Type 0
+FreedRecord =
+    (n : ℕ) (r : FrameRecord) → keepsRules n r ≡ true
+    → (keepsRules n (freed r) ≡ true) × ((k : ℕ) → stateOf (freed r) k ≡ stateOf r k) × (freed r .busy ≡ free)
 
 -- ---- a step
 

@@ -25,7 +25,7 @@ pub fn mark_fits(mark: u32, flag: u32, held: u32) -> bool
 }
 
 // The mark after a step: a beginning sets it, and any other leaves it.
-pub fn mark_after(step: u8, mark: u32) -> u32
+pub fn mark_at(step: u8, mark: u32) -> u32
     ensures { λ r. ⌜ r ≡ markAt step mark ⌝ }
 {
     if step == BEGIN_READ {

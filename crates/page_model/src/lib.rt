@@ -11,7 +11,7 @@ ghost use lib.Dec.{eqb};
 ghost use Rattle.bits.specs.Mask.{width, withBit};
 ghost use Rattle.page_model.specs.Cases.{stateNumber, stepNumber, withState};
 ghost use Rattle.page_model.specs.Busy.{free, bars};
-ghost use Rattle.page_model.specs.Record.{keepsRules, coloursKeepRules, stateOf, isHeld, isDirty, ended};
+ghost use Rattle.page_model.specs.Record.{keepsRules, coloursKeepRules, stateOf, isHeld, isDirty, freed};
 ghost use Rattle.page_model.specs.Step.{stepped, firstTwo, opList};
 ghost use Rattle.page_model.specs.Table.{Step, ownOf, reach, read, write, deviceRead, deviceWrite, deviceWritePart, beginRead, beginWrite};
 
@@ -128,7 +128,7 @@ impl FrameRecord {
 
     // A device ends its transfer.
     pub fn end(self) -> FrameRecord
-        ensures { λ r. ⌜ r ≡ ended self ⌝ }
+        ensures { λ r. ⌜ r ≡ freed self ⌝ }
     {
         FrameRecord {
             held: self.held,
@@ -177,7 +177,7 @@ impl FrameRecord {
             held: 0,
             stale: 0,
             dirty: 0,
-            busy: busy::mark_after(step, self.busy),
+            busy: busy::mark_at(step, self.busy),
         };
         let mut flushes = 0;
         let mut purges = 0;

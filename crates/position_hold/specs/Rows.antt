@@ -103,8 +103,8 @@ rows =
     ∷ []
 
 -- transfers that take a while
-abbrev pub slowRows : List Row
-slowRows =
+abbrev pub begunRows : List Row
+begunRows =
     -- a word that is brought is sent as it is, to its frame and offset alone; the last one counts
     row (chart ∷ four ∷ begins ∷ []) 3 2 (some 5)
     ∷ row (chart ∷ four ∷ begins ∷ brings 70 ∷ []) 3 2 (some 70)
@@ -122,4 +122,4 @@ slowRows =
     ∷ []
 
 abbrev pub LastSentRows : Type 0
-LastSentRows = EveryRowHolds rows × EveryRowHolds slowRows
+LastSentRows = EveryRowHolds rows × EveryRowHolds begunRows

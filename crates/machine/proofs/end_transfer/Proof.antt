@@ -3,7 +3,7 @@ use mathlib.Core.Path.{refl, sym, ap, _∙_}
 use borrow.Author.Needs.{needs}
 use Rattle.board.specs.Board.{board01}
 use Rattle.board.proofs.Geometry.{board01-regular}
-use Rattle.page_model.specs.Record.{ended}
+use Rattle.page_model.specs.Record.{freed}
 use Rattle.manager.specs.Calls.{commitChange}
 use Rattle.manager.specs.Tables.{tables}
 use Rattle.machine.specs.Step.{accept}
@@ -26,7 +26,7 @@ returns-2 c =
     let a = past .before .before .before .before .before .before .before .before .before .args in
     let t = tables (a .list) (a .records .now) (a .protections .now) in
     listed-made _ _ _ (sym (past .before .end-refusal .ensures) ∙ past .if1 .left) _ _ refl (c .no-operations .ensures)
-    (committed .commit-change .ensures board01 refl ∙ ap (commitChange board01 t (a .frame)) (ending .end .ensures ∙ ap ended (at-record .record-at .ensures))) refl
+    (committed .commit-change .ensures board01 refl ∙ ap (commitChange board01 t (a .frame)) (ending .end .ensures ∙ ap freed (at-record .record-at .ensures))) refl
 
 pub end-transfer-spec : {M : Type 1} → statement M
 end-transfer-spec =

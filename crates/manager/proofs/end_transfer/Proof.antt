@@ -3,7 +3,7 @@ use mathlib.Core.Path.{_≡_, refl, sym, ap, _∙_}
 use borrow.Author.Needs.{needs}
 use Rattle.board.specs.Board.{board01}
 use Rattle.board.proofs.Geometry.{board01-regular}
-use Rattle.page_model.specs.Record.{ended}
+use Rattle.page_model.specs.Record.{freed}
 use Rattle.mapping.proofs.Laws.{items-length}
 use Rattle.manager.specs.Calls.{commitChange}
 use Rattle.manager.specs.Refusals.{firstRefusal, endCauses}
@@ -38,7 +38,7 @@ returns-2 c =
     let t = tables (a .list) (a .records .now) (a .protections .now) in
     plain-made _ _ _ (sym (told (past .before)) ∙ past .if1 .left) (c .no-operations .ensures)
     (committed .commit-change .ensures board01 refl
-    ∙ ap (commitChange board01 t (a .frame)) (ending .end .ensures ∙ ap ended (at-record .record-at .ensures)))
+    ∙ ap (commitChange board01 t (a .frame)) (ending .end .ensures ∙ ap freed (at-record .record-at .ensures)))
 
 pub end-transfer-spec : {M : Type 1} → statement M
 end-transfer-spec =

@@ -40,10 +40,13 @@ unfolding firstRefusal
 decide past other ex ey = rw (ex, ey)
 
 -- whether the mark is another
-marked : (c : tie.After-record-at) (t : Bool) → eqb (c .record-at .result .busy) (start-of (c .before .before .before .before) .args .mark) ≡ t
-    → wordCause (start-of (c .before .before .before .before) .args .records .now) (start-of (c .before .before .before .before) .args .frame) (start-of (c .before .before .before .before) .args .mark) .applies ≡ not t
+abbrev start-at : tie.After-record-at → tie.Start
+start-at c = start-of (c .before .before .before .before)
+
+marked : (c : tie.After-record-at) (t : Bool) → eqb (c .record-at .result .busy) (start-at c .args .mark) ≡ t
+    → wordCause (start-at c .args .records .now) (start-at c .args .frame) (start-at c .args .mark) .applies ≡ not t
 marked c t e =
-    let a = start-of (c .before .before .before .before) .args in
+    let a = start-at c .args in
     ap (λ (r : FrameRecord). not (eqb (r .busy) (a .mark))) (sym (c .record-at .ensures)) ∙ ap not e
 
 returns-2 : tie.Need-returns-2

@@ -50,7 +50,7 @@ step-spec =
     Inv-loop
     μ-loop
     (λ c κs. search needs)
-    (λ c. (omega arith, λ s e f. made-none s _ (c .mark-after .ensures ∙ ap (λ (k : ℕ). markAt k (c .before .args .self .busy)) e ∙ mark-number s _)))
+    (λ c. (omega arith, λ s e f. made-none s _ (c .mark-at .ensures ∙ ap (λ (k : ℕ). markAt k (c .before .args .self .busy)) e ∙ mark-number s _)))
     (λ c κs. search needs)
     (λ c κs. search needs)
     (λ c κs. search needs)

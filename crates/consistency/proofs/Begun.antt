@@ -9,15 +9,15 @@ use mathlib.Core.Option.{Option, some}
 use Prim.Native.Nat.{ℕ, _<_}
 use native.Mathlib.Decide.{ℕ-discrete}
 use lib.ListN.{getD}
-use borrow.Author.Tests.{eqb-true, not-false}
+use borrow.Author.Tests.{eqb-true, leb-false, not-false}
 use Rattle.board.specs.declared.Board.{Board}
 use Rattle.board.specs.Board.{Regular, lineOf}
 use Rattle.page_model.specs.Busy.{reading, writing, bars}
-use Rattle.page_model.specs.Record.{stateOf, isHeld, isDirty, ended}
+use Rattle.page_model.specs.Record.{stateOf, isHeld, isDirty, freed}
 use Rattle.page_model.specs.Table as table
 use Rattle.page_model.specs.Table.{ColourState}
 use Rattle.page_model.specs.Theorems.{MarkFits}
-use Rattle.page_model.proofs.Theorems.{kept-mark, ended-record}
+use Rattle.page_model.proofs.Theorems.{kept-mark, freed-record}
 use Rattle.manager.specs.Calls.{changeOf, commitChange}
 use Rattle.manager.specs.Refusals.{firstRefusal}
 use Rattle.manager.specs.Tables.{recordAt}
@@ -116,10 +116,10 @@ module _ (b : Board) (reg : Regular b) (st : State) (m : Cacheless) (inv : Invar
   unfolding accept afterAccepted
   ends =
       let r = recordAt (st .tables .records) f in
-      let e = ended-record (b .colours) r (inv .sound .record-rules f hf) in
-      let same : stateOf r ≡ stateOf (ended r) = fun-ext (λ k. sym (e .1 k)) in (
+      let e = freed-record (b .colours) r (inv .sound .record-rules f hf) in
+      let same : stateOf r ≡ stateOf (freed r) = fun-ext (λ k. sym (e .1 k)) in (
         tt,
-        record-invariant b st m inv f hf (ended r) (e .0) (st .store) (m .word) (inv .kept)
+        record-invariant b st m inv f hf (freed r) (e .0) (st .store) (m .word) (inv .kept)
             (subst (λ (x : ℕ → ColourState). Agrees b f x (m .word f) (st .store)) same (inv .agrees f hf))
             (λ g hg ne. inv .agrees g hg),
       )
@@ -150,5 +150,5 @@ module _ (b : Board) (reg : Regular b) (st : State) (m : Cacheless) (inv : Invar
       )
 
   pub end-transfer-taken : firstRefusal (causes b st (endTransfer f)) ≡ 0 → Taken b st m (endTransfer f)
-  unfolding ownCauses
-  end-transfer-taken e = ends b reg st m inv f (frame-ready b st (endTransfer f) table.beginRead f _ refl e .1)
+  unfolding causes
+  end-transfer-taken e = ends b reg st m inv f (leb-false (b .frames) f (clear b st (endTransfer f) e .1 .1 .0))

@@ -1,10 +1,10 @@
--- `page_model::busy::mark_after` meets its contract.
+-- `page_model::busy::mark_at` meets its contract.
 use borrow.Author.Tests.{eq-eqb, ne-eqb}
-use Rattle.page_model.proofs.busy.mark_after.Statement.{statement}
-use Rattle.page_model.proofs.busy.mark_after.Tie as tie
+use Rattle.page_model.proofs.busy.mark_at.Statement.{statement}
+use Rattle.page_model.proofs.busy.mark_at.Tie as tie
 
-pub mark-after-spec : {M : Type 1} → statement M
-mark-after-spec =
+pub mark-at-spec : {M : Type 1} → statement M
+mark-at-spec =
     tie.close
     (tie.spec
     (λ c. rw (eq-eqb _ _ (c .if1 .taken)))
