@@ -52,7 +52,7 @@ accepts frame ops word = answer (accepted frame ops) word []
 abbrev pub only : Op → Ops
 only op = record { first = op; second = None }
 
--- a change of the list
+-- no order and no frame: a change of the list, an eviction, a word that a device brings, the end of a transfer
 abbrev pub done : Answer
 done = accepts 0 noOps none
 
