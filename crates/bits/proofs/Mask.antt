@@ -9,14 +9,14 @@ use native.Mathlib.Nat.{pow-suc, div-one, div-eq-of-lt, div-add-mod', mod-lt, ze
 use native.Mathlib.Numerals.{add-one, one-add}
 use borrow.Author.Tests.{eqb-true, eq-eqb, ne-eqb, lt-ltb, le-ltb, not-true}
 use lib.Arith.{lt-one}
-use lib.Bits.{bitAnd, bitOr, and-shr, or-shr, and-mod, or-mod, or-lt, or-add-and, and-le-l, and-le-r}
+use lib.Bits.{bitAnd, bitOr, bitXor, and-shr, or-shr, xor-shr, and-mod, or-mod, xor-mod, or-lt, xor-lt, or-add-and, and-le-l, and-le-r}
 use lib.Count.{ones, trailingZeros, under, ones-step, ones-cat}
 use lib.Dec.{eqb, ltb, lit<, eqb·zero-suc, eqb·suc-zero, eqb·suc-suc}
 use lib.ListN.{length, length-map}
 use lib.Pow.{pow-pos, pow-lt, pow-mono, shr-shr, shr-lt}
 use Rattle.bits.proofs.Tautology.{iff}
-pub use Rattle.bits.proofs.Places.{at-place, all-at, all-of, any-cong, any-none, any-of, any-at, any-one, any-more, countOf-cong, places-at, places-none, places-few}
-use Rattle.bits.specs.Mask.{bit, withBit, digit, maskOf, countOf, all, withZero, placesOf}
+pub use Rattle.bits.proofs.Places.{at-place, all-at, all-of, any-cong, any-none, any-false, any-of, any-at, any-one, any-more, first-cong, first-none, first-one, first-at, countOf-cong, places-at, places-none, places-one, places-few}
+use Rattle.bits.specs.Mask.{bit, withBit, withoutBit, digit, maskOf, countOf, all, firstOf, withZero, placesOf}
 
 half-lt : {n : ℕ} (k : ℕ) → n < 2 ^ suc k → n / 2 < 2 ^ k
 half-lt {n} k h = shr-lt k 1 (subst (λ (x : ℕ). n < 2 ^ x) (sym (add-one k)) h)
@@ -122,6 +122,9 @@ bit-and = bit-op bitAnd _&&_ and-shr and-mod refl refl refl refl
 pub bit-or : (a b k : ℕ) → bit (bitOr a b) k ≡ (bit a k || bit b k)
 bit-or = bit-op bitOr _||_ or-shr or-mod refl refl refl refl
 
+pub bit-xor : (a b k : ℕ) → bit (bitXor a b) k ≡ cond (bit b k) (not (bit a k)) (bit a k)
+bit-xor = bit-op bitXor (λ a b. cond b (not a) a) xor-shr xor-mod refl refl refl refl
+
 pub bit-none : (k : ℕ) → bit 0 k ≡ false
 unfolding bit
 bit-none k = rw zero-div
@@ -140,15 +143,28 @@ bit-one (suc j) (suc k) =
     let half : 2 ^ suc j / 2 ≡ 2 ^ j = omega (arith, pow-suc 2 j) in
     rw (bit-suc, half, eqb·suc-suc) (bit-one j k)
 
--- ---- a bit set
+-- ---- a bit set, and one cleared
 
 pub bit-with : (m j k : ℕ) → bit (withBit m j) k ≡ (bit m k || eqb j k)
 unfolding withBit
 bit-with m j k = rw (bit-or, bit-one)
 
+pub bit-without : (m j k : ℕ) → bit (withoutBit m j) k ≡ (bit m k && not (eqb j k))
+unfolding withoutBit
+bit-without m j k = rw (bit-xor, bit-and, bit-one) (cleared (bit m k) (eqb j k))
+  where
+    cleared : (h o : Bool) → cond (h && o) (not h) h ≡ (h && not o)
+    cleared true true = refl
+    cleared true false = refl
+    cleared false o = refl
+
 pub with-lt : (n m j : ℕ) → m < 2 ^ n → j < n → withBit m j < 2 ^ n
 unfolding withBit
 with-lt n m j l lj = or-lt n m (2 ^ j) l (pow-lt lj)
+
+pub without-lt : (n m j : ℕ) → m < 2 ^ n → withoutBit m j < 2 ^ n
+unfolding withoutBit
+without-lt n m j l = xor-lt n m (bitAnd m (2 ^ j)) l (omega (arith, and-le-l m (2 ^ j)))
 
 -- no bit stands past the first k places exactly if the mask is below 2 ^ k
 pub shr-none : (m k : ℕ) → eqb (m / 2 ^ k) 0 ≡ ltb m (2 ^ k)
@@ -236,6 +252,23 @@ ones-pow d = ap ones (sym (add-zero (2 ^ d)) ∙ ap (λ (x : ℕ). x + 0) (sym (
 pub one-countOf : (n d : ℕ) (p : ℕ → Bool) → d < n → ((k : ℕ) → k < n → p k ≡ eqb d k) → countOf n p ≡ 1
 one-countOf n d p l h =
     sym (ones-bits n (2 ^ d) (pow-lt l) ∙ countOf-cong n (bit (2 ^ d)) p (λ k j. bit-one d k ∙ sym (h k j))) ∙ ones-pow d
+
+-- the first bit of a mask that has one is the number of its trailing zeros, at any width that has room for it
+pub first-zeros : (n w m : ℕ) → n ≤ w → m < 2 ^ n → (m ≡ 0 → ⊥) → trailingZeros w m ≡ firstOf n (bit m)
+unfolding trailingZeros firstOf
+first-zeros zero w m l h z = absurd (z (lt-one h))
+first-zeros (suc n) zero m l h z = absurd (omega arith)
+first-zeros (suc n) (suc w) m l h z =
+    go (m % 2) refl (omega arith) (λ nz. first-zeros n w (m / 2) (omega arith) (half-lt n h) nz)
+  where
+    go : (d : ℕ) → m % 2 ≡ d → d < 2 → ((m / 2 ≡ 0 → ⊥) → trailingZeros w (m / 2) ≡ firstOf n (bit (m / 2)))
+        → under d (trailingZeros w (m / 2)) ≡ cond (bit m 0) 0 (suc (firstOf n (λ k. bit m (suc k))))
+    go zero e ld ih =
+        let low : bit m 0 ≡ false = bit-zero m ∙ ap (λ (x : ℕ). eqb x 1) e in
+        rw low (ap suc (ih (λ q. z (omega arith)) ∙ first-cong n _ _ (λ k l. sym (bit-suc m k))))
+    go (suc d) e ld ih =
+        let low : bit m 0 ≡ true = bit-zero m ∙ eq-eqb (m % 2) 1 (omega arith) in
+        rw low
 
 -- the only place that p picks, if it picks one, is the number of its mask's trailing zeros, at any width that has room for it
 pub places-only : (n w : ℕ) (p : ℕ → Bool) → n ≤ w → length (placesOf n p) ≤ 1

@@ -1,8 +1,8 @@
 -- Masks of any width. Bit k of a mask is its binary digit of weight 2 ^ k; a test says of each place whether its bit is set.
-use mathlib.Core.Bool.{Bool, true, false, _&&_, _||_}
+use mathlib.Core.Bool.{Bool, true, false, cond, _&&_, _||_}
 use mathlib.Core.List.{List, [], _∷_, map}
 use Prim.Native.Nat.{ℕ, zero, suc, _+_, _*_, _/_, _%_, _^_}
-use lib.Bits.{bitOr}
+use lib.Bits.{bitAnd, bitOr, bitXor}
 use lib.Dec.{eqb}
 
 -- the bits of a u32, the mask of the code
@@ -16,6 +16,10 @@ bit m k = eqb (m / 2 ^ k % 2) 1
 -- m with bit k set
 unfoldable pub withBit : ℕ → ℕ → ℕ
 withBit m k = bitOr m (2 ^ k)
+
+-- m with bit k cleared
+unfoldable pub withoutBit : ℕ → ℕ → ℕ
+withoutBit m k = bitXor m (bitAnd m (2 ^ k))
 
 -- a test as a binary digit
 abbrev pub digit : Bool → ℕ
@@ -41,6 +45,11 @@ all (suc n) p = p 0 && all n (λ k. p (suc k))
 unfoldable pub any : ℕ → (ℕ → Bool) → Bool
 any zero p = false
 any (suc n) p = p 0 || any n (λ k. p (suc k))
+
+-- the first place below n that p picks, and n if it picks none
+unfoldable pub firstOf : ℕ → (ℕ → Bool) → ℕ
+firstOf zero p = 0
+firstOf (suc n) p = cond (p 0) 0 (suc (firstOf n (λ k. p (suc k))))
 
 -- 0 in front of the places, if p picks it
 abbrev pub withZero : Bool → List ℕ → List ℕ

@@ -1,8 +1,8 @@
-// Masks of 32 bits: whether a bit is set, a mask with a bit set, whether all stand below a place.
+// Masks of 32 bits: whether a bit is set, a mask with a bit set or cleared, whether all stand below a place.
 ghost use mathlib.Core.Path.{_≡_};
 ghost use Prim.Native.Nat.{_≤_, _<_, _^_};
 ghost use lib.Dec.{ltb};
-ghost use Rattle.bits.specs.Mask.{width, bit, withBit};
+ghost use Rattle.bits.specs.Mask.{width, bit, withBit, withoutBit};
 
 // Whether the bit at a place is set.
 pub fn bit(mask: u32, place: usize) -> bool
@@ -18,6 +18,14 @@ pub fn with_bit(mask: u32, place: usize) -> u32
     ensures { λ r. ⌜ r ≡ withBit mask place ⌝ }
 {
     mask | 1 << place
+}
+
+// The mask with the bit at a place cleared.
+pub fn without_bit(mask: u32, place: usize) -> u32
+    requires { ⌜ place < width ⌝ }
+    ensures { λ r. ⌜ r ≡ withoutBit mask place ⌝ }
+{
+    mask ^ (mask & 1 << place)
 }
 
 // Whether every bit of the mask stands at one of the first places.

@@ -2,7 +2,7 @@
 use mathlib.Core.Path.{_≡_, refl, sym, ap, _∙_}
 use mathlib.Core.Bool.{true}
 use mathlib.Core.List.{List}
-use Prim.Native.Nat.{ℕ, _*_, _<_}
+use Prim.Native.Nat.{ℕ, _<_}
 use native.Mathlib.Omega.{arith}
 use lib.ListN.{length, getD, replicate, length-replicate, getD-replicate}
 use Rattle.board.specs.declared.Board.{Board}
@@ -12,8 +12,7 @@ use Rattle.page_model.specs.Record.{keepsRules}
 use Rattle.page_model.proofs.Theorems.{start-record}
 use Rattle.mapping.specs.Entry.{capacity}
 use Rattle.mapping.proofs.Laws.{empty-length, empty-rules, mappingOf-empty}
-use Rattle.manager.specs.Tables.{recordWords}
-use Rattle.manager.proofs.RecordLaws.{recordAt-start}
+use Rattle.manager.proofs.RecordLaws.{length-startRecords, recordAt-start}
 use Rattle.cache.specs.Store.{store, WellFormed}
 use Rattle.cache.specs.Tag.{emptyTag, names}
 use Rattle.cache.proofs.Laws.Tag.{names-dirty, names-not-empty, rules-all, rules-empty}
@@ -46,10 +45,10 @@ module _ (b : Board) (reg : Regular b) (memory words protections : List ℕ) (fu
       record {
         sound = record {
           items-length = empty-length;
-          records-length = length-replicate (b .frames * recordWords) 0;
+          records-length = length-startRecords (b .frames) (b .colours);
           protections-length = long;
           list-rules = empty-rules b;
-          record-rules = λ f hf. ap (keepsRules (b .colours)) (recordAt-start (b .frames) f hf) ∙ start-record (b .colours) .0;
+          record-rules = λ f hf. ap (keepsRules (b .colours)) (recordAt-start (b .frames) (b .colours) f hf) ∙ start-record (b .colours) .0;
         };
         kept = start-kept;
         agrees = λ f hf. record {

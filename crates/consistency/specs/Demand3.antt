@@ -12,7 +12,7 @@ use Rattle.board.specs.declared.Board.{Board}
 use Rattle.board.specs.Board.{memoryWords, cacheWords, lines}
 use Rattle.mapping.specs.Change.{empty}
 use Rattle.mapping.specs.Entry.{capacity}
-use Rattle.manager.specs.Tables.{tables, tabulate, recordWords}
+use Rattle.manager.specs.Tables.{tables, tabulate, startRecords}
 use Rattle.cache.specs.Store.{store, memoryWord}
 use Rattle.machine.specs.Call.{perform}
 use Rattle.machine.specs.State.{State, state, map, unmap, read, write, deviceRead, deviceWrite, deviceWritePart, evict, beginRead, beginWrite, bringWord, takeWord, endTransfer, Call, single, mapAll, Answer}
@@ -22,7 +22,7 @@ use Rattle.consistency.specs.Cacheless.{Cacheless, start, isRefused, fed
 
 abbrev pub startState : Board → List ℕ → List ℕ → List ℕ → State
 startState b memory words protections =
-    state (tables empty (replicate (b .frames * recordWords) 0) protections) (store memory words (replicate (lines b) 0))
+    state (tables empty (startRecords (b .frames) (b .colours)) protections) (store memory words (replicate (lines b) 0))
 
 -- ---- what an accepted read must find, a device's too, of a page or of a word; and an accepted write: a frame to write to
 

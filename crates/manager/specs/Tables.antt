@@ -1,13 +1,14 @@
 -- Document 01, "Frame records and mapping list": what the manager is lent, and the protections that agree with it.
 use mathlib.Core.Bool.{Bool, cond, _&&_}
 use mathlib.Core.List.{List, [], _∷_}
-use Prim.Native.Nat.{ℕ, zero, suc, _+_, _*_, _≤_, _<_}
+use Prim.Native.Nat.{ℕ, zero, suc, _+_, _*_, _%_, _≤_, _<_}
 use lib.Dec.{eqb, ltb}
 use lib.ListN.{length, getD, set}
 use Rattle.bits.specs.Mask.{width, digit, all}
 use Rattle.board.specs.declared.Board.{Board}
 use Rattle.board.specs.Board.{colourOf}
 use Rattle.page_model.specs.declared.FrameRecord.{FrameRecord}
+use Rattle.page_model.specs.Busy.{free}
 use Rattle.page_model.specs.Record as record-of
 use Rattle.page_model.specs.Table.{ColourState}
 use Rattle.mapping.specs.declared.Mapping.{Mapping}
@@ -26,9 +27,9 @@ tables l rs ps = record { list = l; records = rs; protections = ps }
 
 -- ---- frame records, one after the other
 
--- the words of a record: held, stale, dirty, busy
+-- the words of a record: held, stale, dirty, busy, owner
 abbrev pub recordWords : ℕ
-recordWords = 4
+recordWords = 5
 
 unfoldable pub recordAt : List ℕ → ℕ → FrameRecord
 recordAt rs f =
@@ -37,11 +38,24 @@ recordAt rs f =
       stale = getD rs (f * recordWords + 1) 0;
       dirty = getD rs (f * recordWords + 2) 0;
       busy = getD rs (f * recordWords + 3) 0;
+      owner = getD rs (f * recordWords + 4) 0;
     }
 
 unfoldable pub putRecord : List ℕ → ℕ → FrameRecord → List ℕ
 putRecord rs f r =
-    set (set (set (set rs (f * recordWords) (r .held)) (f * recordWords + 1) (r .stale)) (f * recordWords + 2) (r .dirty)) (f * recordWords + 3) (r .busy)
+    set
+    (set (set (set (set rs (f * recordWords) (r .held)) (f * recordWords + 1) (r .stale)) (f * recordWords + 2) (r .dirty)) (f * recordWords + 3) (r .busy))
+    (f * recordWords + 4)
+    (r .owner)
+
+-- the records of so many frames at the start, where there are n colours: nothing is cached, and none is dirty
+unfoldable pub startRecords : ℕ → ℕ → List ℕ
+startRecords zero n = []
+startRecords (suc frames) n = 0 ∷ (0 ∷ (0 ∷ (free ∷ (n ∷ startRecords frames n))))
+
+-- and the word at place i of them
+abbrev pub startWord : ℕ → ℕ → ℕ
+startWord n i = cond (eqb (i % recordWords) 4) n 0
 
 unfoldable pub recordsKeepRules : Board → List ℕ → Bool
 recordsKeepRules b rs = all (b .frames) (λ f. record-of.keepsRules (b .colours) (recordAt rs f))

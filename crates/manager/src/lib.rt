@@ -5,12 +5,13 @@ pub mod refusals;
 
 ghost use mathlib.Core.Path.{_≡_};
 ghost use mathlib.Core.Bool.{cond};
+ghost use lib.ListN.{length};
 ghost use Rattle.board.specs.declared.Board as any;
 ghost use Rattle.board.specs.Board.{Regular, board01};
 ghost use Rattle.mapping.specs.Batch.{itemsOf};
 ghost use Rattle.manager.specs.Answers.{outcome, refused, accepted};
 ghost use Rattle.manager.specs.Batch.{batchResult, mapAllCall};
-ghost use Rattle.manager.specs.Tables.{tables, Colours};
+ghost use Rattle.manager.specs.Tables.{tables, tabulate, startWord, Colours};
 ghost use Rattle.manager.specs.Calls.{result, noOps, stepResult, planMap, planUnmap, planned, planRead, planWrite, planTransfer, beginStep, planDeviceWritePart, commitMap, commitUnmap, commitChange, mapCall, unmapCall, readCall, writeCall, deviceReadCall, deviceWriteCall, deviceWritePartCall, beginReadCall, beginWriteCall, moveWordCall, bringWordCall, takeWordCall, endTransferCall};
 ghost use Rattle.page_model.specs.Table.{deviceRead};
 use batch::map_batch;
@@ -77,6 +78,13 @@ pub struct Listed {
 }
 
 // ---- the calls
+
+// Makes every frame's record that of the start, which a kernel lends first: nothing cached, and no dirty colour.
+pub fn start(records: &mut [u32])
+    ensures { λ _. ⌜ now (records .exit) ≡ tabulate (length (now (records .entry))) (startWord (board01 .colours)) ⌝ }
+{
+    records::start(COLOURS, records);
+}
 
 // Gives a page of a space its frame.
 pub fn map(list: MappingList, records: &[u32], protections: &mut [u8], m: Mapping) -> Listed
@@ -368,7 +376,11 @@ pub fn plan_read(
     let frame = seen.mapping.frame;
     let colour = board::colour_of(board, page as usize);
     let record = record_at(records, frame);
-    step_of(frame, record.bars_read(), record.read(colour))
+    step_of(
+        frame,
+        record.bars_read(),
+        record.read(board.colours, colour),
+    )
 }
 
 // What a write makes of the page's frame.
@@ -391,7 +403,7 @@ pub fn plan_write(
     let frame = seen.mapping.frame;
     let colour = board::colour_of(board, page as usize);
     let record = record_at(records, frame);
-    step_of(frame, record.is_busy(), record.write(colour))
+    step_of(frame, record.is_busy(), record.write(board.colours, colour))
 }
 
 // What a device read makes of a frame.
@@ -411,7 +423,7 @@ pub fn plan_device_read(
         return Plan::Refused(refusal);
     }
     let record = record_at(records, frame);
-    step_of(frame, record.is_busy(), record.device_read())
+    step_of(frame, record.is_busy(), record.device_read(board.colours))
 }
 
 // What a device's write of so many words from an offset on makes of a frame.
@@ -434,9 +446,13 @@ pub fn plan_device_write_part(
     }
     let record = record_at(records, frame);
     if number < board.page {
-        return step_of(frame, record.is_busy(), record.device_write_part());
+        return step_of(
+            frame,
+            record.is_busy(),
+            record.device_write_part(board.colours),
+        );
     }
-    step_of(frame, record.is_busy(), record.device_write())
+    step_of(frame, record.is_busy(), record.device_write(board.colours))
 }
 
 // What the beginning of a device's transfer makes of a frame, a write or a read.
@@ -458,9 +474,9 @@ pub fn plan_begin(
     }
     let record = record_at(records, frame);
     if writes {
-        return step_of(frame, record.is_busy(), record.begin_write());
+        return step_of(frame, record.is_busy(), record.begin_write(board.colours));
     }
-    step_of(frame, record.is_busy(), record.begin_read())
+    step_of(frame, record.is_busy(), record.begin_read(board.colours))
 }
 
 // ---- commits. Of the board they ask only how many colours it has.

@@ -3,14 +3,14 @@ ghost use mathlib.Core.Path.{_≡_};
 ghost use lib.ListN.{length, getD, set};
 ghost use Rattle.board.specs.declared.Board as any;
 ghost use Rattle.board.specs.Board.{Regular};
-ghost use Rattle.manager.specs.Tables.{recordAt, putRecord, recordsKeepRules, mappingState, protection, protectionAt, tabulate, Colours};
+ghost use Rattle.manager.specs.Tables.{recordAt, putRecord, startWord, recordsKeepRules, mappingState, protection, protectionAt, tabulate, Colours};
 use board::Board;
 use mapping::Mapping;
 use mapping::MappingList;
 use page_model::FrameRecord;
 
-// The words of a record: held, stale, dirty, busy.
-pub const RECORD_WORDS: usize = 4;
+// The words of a record: held, stale, dirty, busy, owner.
+pub const RECORD_WORDS: usize = 5;
 
 // The word at a place, 0 past the end.
 fn word_at(words: &[u32], i: usize) -> u32
@@ -33,12 +33,13 @@ pub fn record_at(records: &[u32], frame: u8) -> FrameRecord
     ensures { λ r. ⌜ r ≡ recordAt (now (records .entry)) frame ⌝ }
 {
     let at = frame as usize * RECORD_WORDS;
-    if at + 3 < records.len() {
+    if at + 4 < records.len() {
         return FrameRecord {
             held: records[at],
             stale: records[at + 1],
             dirty: records[at + 2],
             busy: records[at + 3],
+            owner: records[at + 4],
         };
     }
     FrameRecord {
@@ -46,6 +47,7 @@ pub fn record_at(records: &[u32], frame: u8) -> FrameRecord
         stale: word_at(records, at + 1),
         dirty: word_at(records, at + 2),
         busy: word_at(records, at + 3),
+        owner: word_at(records, at + 4),
     }
 }
 
@@ -58,6 +60,30 @@ pub fn put_record(records: &mut [u32], frame: u8, record: FrameRecord)
     put_word(records, at + 1, record.stale);
     put_word(records, at + 2, record.dirty);
     put_word(records, at + 3, record.busy);
+    put_word(records, at + 4, record.owner);
+}
+
+// Makes every record that of the start: nothing cached, and no dirty colour.
+pub fn start(colours: usize, records: &mut [u32])
+    requires { ⌜ Colours colours ⌝ }
+    ensures { λ _. ⌜ now (records .exit) ≡ tabulate (length (now (records .entry))) (startWord colours) ⌝ }
+{
+    let mut i = 0;
+    while i < records.len() {
+        records[i] = start_word(colours, i);
+        i += 1;
+    }
+}
+
+// The word at a place of the records at the start.
+fn start_word(colours: usize, i: usize) -> u32
+    requires { ⌜ Colours colours ⌝ }
+    ensures { λ r. ⌜ r ≡ startWord colours i ⌝ }
+{
+    if i % RECORD_WORDS == 4 {
+        return colours as u32;
+    }
+    0
 }
 
 // Whether the record of every frame keeps the rules.

@@ -1,46 +1,38 @@
--- A step as the code takes it, colour by colour: what it has made of the colours below k, of one more, and of all.
+-- A step as the code takes it: one cell for its own colour, and one for the others that are held.
 use mathlib.Core.Path.{_≡_, refl, sym, ap, ap₂, _∙_}
-use mathlib.Core.Bool.{Bool, true, false, _||_, cond, or-true, or-false}
-use mathlib.Core.List.{[], _∷_, _++_, map}
-use Prim.Native.Nat.{ℕ, zero, suc, _≤_, _<_}
+use mathlib.Core.Bool.{Bool, true, false, not, _&&_, _||_, cond, or-false, and-false, false≢true}
+use mathlib.Core.List.{[], _++_, map}
+use Prim.Native.Nat.{ℕ, _^_, _≤_, _<_}
 use native.Mathlib.Decide.{decLt}
 use native.Mathlib.Omega.{arith}
-use borrow.Author.Tests.{ne-eqb}
-use lib.Count.{trailingZeros}
+use borrow.Author.Tests.{eqb-true, eqb-false, eq-eqb, ne-eqb}
+use lib.Bits.{bitOr, or-lt}
 use lib.Dec.{eqb}
-use lib.ListN.{length}
-use Rattle.bits.specs.Mask.{withBit, digit, any, maskOf}
-use Rattle.bits.proofs.Mask.{bit-past, maskOf-more, any-more, places-only}
-use Rattle.page_model.specs.declared.table.Case.{Case}
+use lib.Pow.{pow-pos}
+use Rattle.bits.specs.Mask.{bit, withBit, withoutBit, digit, any, firstOf, all, placesOf}
+use Rattle.bits.proofs.Mask.{bit-past, bit-none, bit-one, bit-or, bit-with, bit-without, with-lt, without-lt, at-place, all-at, any-one, first-one, places-none, places-one}
+use Rattle.bits.proofs.Tautology.{all4, equalIf, law4}
 use Rattle.page_model.specs.declared.FrameRecord.{FrameRecord}
 use Rattle.page_model.specs.declared.Op.{Op}
 use Rattle.page_model.specs.declared.Op.the-variants.{None, Flush, Purge}
-use Rattle.page_model.specs.Cases.{stateNumber, operationNumber, stepNumber, caseOf, caseIn, caseAt, markAt, withState}
+use Rattle.page_model.specs.Cases.{stateNumber, operationNumber, stepNumber, rowAt, caseOf, caseIn, caseAt, markAt, operationAt, withState}
 use Rattle.page_model.specs.Busy.{markAfter}
-use Rattle.page_model.specs.Record.{stateOf, encode, isHeld, isDirty, isStale}
+use Rattle.page_model.specs.Record.{stateFrom, stateOf, isHeld, isDirty, isStale}
 use Rattle.page_model.specs.Step.{isFlush, isPurge, cellOf, recordAfter, operations, opList, firstTwo, stepped}
-use Rattle.page_model.specs.Table.{ColourState, empty, present, dirty, stale, Operation, none, flush, purge, Cell, _⇒_, Step, read, write, deviceRead, deviceWrite, deviceWritePart, beginRead, beginWrite, roleIf, readCell, writeCell, deviceReadCell, deviceWriteCell, deviceWritePartCell, beginReadCell, beginWriteCell, cellAt, ownOf, reach}
-use Rattle.page_model.proofs.Rules.{Keeps}
-use Rattle.page_model.proofs.Operations.{placesWith, few-flushes, few-purges}
+use Rattle.page_model.specs.Table.{ColourState, empty, present, dirty, stale, Operation, none, flush, purge, Cell, _⇒_, own, other, Step, read, write, deviceRead, deviceWrite, deviceWritePart, beginRead, beginWrite, roleIf, ownOf, reach}
+use Rattle.page_model.proofs.Rules.{Keeps, flag, dirty-only, dirty-at}
+use Rattle.page_model.proofs.Cells.{Test, Agree, apart, nextTest, operationTest, rowOf, row-cell, at, at-law, kept-next, kept-operation}
+use Rattle.page_model.proofs.Idle.{record-is}
 
 -- ---- the numbers
 
-state-number : (row : ColourState → Cell) (state : ColourState) → caseIn row (stateNumber state) ≡ caseOf (row state)
-state-number row empty = refl
-state-number row present = refl
-state-number row dirty = refl
-state-number row stale = refl
-
--- the case of a step's number and a state's is the cell
-case-cell : (s : Step) (k : ℕ) (state : ColourState) → caseAt (stepNumber s) (eqb (ownOf s) k) (stateNumber state) ≡ caseOf (cellAt s k state)
+-- the case of a state's number is the cell of its row
+pub case-cell : (step : ℕ) (b : Bool) (state : ColourState) → caseAt step b (stateNumber state) ≡ caseOf (rowAt step (roleIf b) state)
 unfolding caseAt
-case-cell (read c) k = state-number (readCell (roleIf (eqb c k)))
-case-cell (write c) k = state-number (writeCell (roleIf (eqb c k)))
-case-cell deviceRead k = state-number deviceReadCell
-case-cell deviceWrite k = state-number deviceWriteCell
-case-cell deviceWritePart k = state-number deviceWritePartCell
-case-cell beginRead k = state-number beginReadCell
-case-cell beginWrite k = state-number beginWriteCell
+case-cell step b empty = refl
+case-cell step b present = refl
+case-cell step b dirty = refl
+case-cell step b stale = refl
 
 -- the mark of a step's number is the step's
 pub mark-number : (s : Step) (mark : ℕ) → markAt (stepNumber s) mark ≡ markAfter s mark
@@ -52,105 +44,288 @@ mark-number deviceWritePart mark = refl
 mark-number beginRead mark = refl
 mark-number beginWrite mark = refl
 
--- an operation's number tells a flush, and a purge
-operation-number : (o : Operation) → (eqb (operationNumber o) 1 ≡ isFlush o) × (eqb (operationNumber o) 2 ≡ isPurge o)
-operation-number none = (refl, refl)
-operation-number flush = (refl, refl)
-operation-number purge = (refl, refl)
+-- what computes to true at each step's number holds of every step
+each-step : (p : ℕ → Bool) → all 7 p ≡ true → (s : Step) → p (stepNumber s) ≡ true
+each-step p e (read c) = all-at 7 p e 0 (omega arith)
+each-step p e (write c) = all-at 7 p e 1 (omega arith)
+each-step p e deviceRead = all-at 7 p e 2 (omega arith)
+each-step p e deviceWrite = all-at 7 p e 3 (omega arith)
+each-step p e deviceWritePart = all-at 7 p e 4 (omega arith)
+each-step p e beginRead = all-at 7 p e 5 (omega arith)
+each-step p e beginWrite = all-at 7 p e 6 (omega arith)
 
--- ---- one colour more
+-- so two tests of each step's row agree
+each-row : (p q : ℕ → Test) → all 7 (λ x. all4 (λ o s h d. equalIf (apart o s h d) (p x o s h d) (q x o s h d))) ≡ true → (s : Step) → Agree apart (p (stepNumber s)) (q (stepNumber s))
+each-row p q = each-step (λ x. all4 (λ o s h d. equalIf (apart o s h d) (p x o s h d) (q x o s h d)))
 
-put : (h t k mark : ℕ) (d : Bool) (state : ColourState)
-    → _≡_ {A = FrameRecord} (record { held = cond (isHeld state) (withBit h k) h; stale = cond (isStale state) (withBit t k) t; dirty = digit (d || isDirty state); busy = mark })
-    (withState (record { held = h; stale = t; dirty = digit d; busy = mark }) k (stateNumber state))
-put h t k mark d empty = rw or-false
-put h t k mark d present = rw or-false
-put h t k mark d dirty = rw or-true
-put h t k mark d stale = rw or-false
+-- ---- the cells, by a step's number: of the own colour in a state, and of the other colours that are held, by the flag
 
-encode-more : (k mark : ℕ) (states : ℕ → ColourState) → encode (suc k) mark states ≡ withState (encode k mark states) k (stateNumber (states k))
-unfolding encode
-encode-more k mark states =
-    let h = maskOf-more k (λ j. isHeld (states j)) in
-    let t = maskOf-more k (λ j. isStale (states j)) in
-    let d = any-more k (λ j. isDirty (states j)) in
-    (λ i. record { held = h i; stale = t i; dirty = digit (d i); busy = mark }) ∙ put _ _ k mark (any k (λ j. isDirty (states j))) (states k)
+abbrev ownCell : ℕ → ColourState → Cell
+ownCell x = rowAt x own
 
--- the colours below k on which a step has an operation that f picks, as a mask
-abbrev maskWith : ℕ → Step → FrameRecord → (Operation → Bool) → ℕ
-maskWith k s r f = maskOf k (λ j. f (cellOf s r j .operation))
+abbrev othersCell : ℕ → Bool → Cell
+othersCell x d = rowAt x other (stateFrom false true d)
 
--- what a step has made of the colours below k: a record, and the masks of the colours to flush and to purge
-pub record Made (s : Step) (r : FrameRecord) (k : ℕ) (next : FrameRecord) (fl pu : ℕ) : Type 0 where
-  pub next-is : next ≡ recordAfter k s r
-  pub flush-is : fl ≡ maskWith k s r isFlush
-  pub purge-is : pu ≡ maskWith k s r isPurge
+-- what they tell of any colour's state after the step, and of its operation
+abbrev heldAfter : ℕ → Test
+heldAfter x o s h d = (eqb (stateNumber (othersCell x d .next)) 1 && (h && not o)) || (o && isHeld (ownCell x (stateFrom s h d) .next))
 
-pub made-none : (s : Step) (r : FrameRecord) {mark : ℕ} → mark ≡ markAfter s (r .busy) → Made s r 0 (record { held = 0; stale = 0; dirty = 0; busy = mark }) 0 0
-unfolding recordAfter encode maskOf any
-made-none s r e = record { next-is = λ i. record { held = 0; stale = 0; dirty = 0; busy = e i }; flush-is = refl; purge-is = refl }
+abbrev staleAfter : ℕ → Test
+staleAfter x o s h d = (s && not o || eqb (stateNumber (othersCell x d .next)) 3 && (h && not o)) || (o && isStale (ownCell x (stateFrom s h d) .next))
 
-pub made-more : (s : Step) (r : FrameRecord) (k : ℕ) {next : FrameRecord} {fl pu : ℕ} {x : Case} → Made s r k next fl pu
-    → x ≡ caseAt (stepNumber s) (eqb (ownOf s) k) (stateNumber (stateOf r k))
-    → Made s r (suc k) (withState next k (x .1)) (cond (eqb (x .0) 1) (withBit fl k) fl) (cond (eqb (x .0) 2) (withBit pu k) pu)
-unfolding recordAfter cellOf
-made-more s r k m e =
-    let cell = e ∙ case-cell s k (stateOf r k) in
-    let number = operation-number (cellAt s k (stateOf r k) .operation) in
-    record {
-      next-is = ap₂ (λ (n : FrameRecord) (y : Case). withState n k (y .1)) (m .next-is) cell ∙ sym (encode-more k _ _);
-      flush-is = picked isFlush (m .flush-is) (ap (λ (y : Case). eqb (y .0) 1) cell ∙ number .0);
-      purge-is = picked isPurge (m .purge-is) (ap (λ (y : Case). eqb (y .0) 2) cell ∙ number .1);
-    }
+abbrev dirtyAfter : ℕ → Test
+dirtyAfter x o s h d = o && isDirty (ownCell x (stateFrom s h d) .next)
+
+abbrev operationAfter : (Operation → Bool) → ℕ → Test
+operationAfter f x o s h d = f (othersCell x d .operation) && ((d && h) && not o) || (o && f (ownCell x (stateFrom s h d) .operation))
+
+held-after : (s : Step) → Agree apart (heldAfter (stepNumber s)) (nextTest s isHeld)
+unfolding all
+held-after s = each-row heldAfter (λ x o t h d. isHeld (rowAt x (roleIf o) (stateFrom t h d) .next)) refl s
+
+stale-after : (s : Step) → Agree apart (staleAfter (stepNumber s)) (nextTest s isStale)
+unfolding all
+stale-after s = each-row staleAfter (λ x o t h d. isStale (rowAt x (roleIf o) (stateFrom t h d) .next)) refl s
+
+dirty-after : (s : Step) → Agree apart (dirtyAfter (stepNumber s)) (nextTest s isDirty)
+unfolding all
+dirty-after s = each-row dirtyAfter (λ x o t h d. isDirty (rowAt x (roleIf o) (stateFrom t h d) .next)) refl s
+
+flush-after : (s : Step) → Agree apart (operationAfter isFlush (stepNumber s)) (operationTest s isFlush)
+unfolding all
+flush-after s = each-row (operationAfter isFlush) (λ x o t h d. isFlush (rowAt x (roleIf o) (stateFrom t h d) .operation)) refl s
+
+purge-after : (s : Step) → Agree apart (operationAfter isPurge (stepNumber s)) (operationTest s isPurge)
+unfolding all
+purge-after s = each-row (operationAfter isPurge) (λ x o t h d. isPurge (rowAt x (roleIf o) (stateFrom t h d) .operation)) refl s
+
+-- ---- the record after the step
+
+-- a bit that is set if it is picked
+bit-with-if : (b : Bool) (m c k : ℕ) → bit (cond b (withBit m c) m) k ≡ (bit m k || (b && eqb c k))
+bit-with-if true m c k = bit-with m c k
+bit-with-if false m c k = sym (or-false (bit m k))
+
+with-if-lt : (n : ℕ) (b : Bool) (m c : ℕ) → m < 2 ^ n → (b ≡ true → c < n) → cond b (withBit m c) m < 2 ^ n
+with-if-lt n true m c l lc = with-lt n m c l (lc refl)
+with-if-lt n false m c l lc = l
+
+-- a colour put in a state where none is dirty
+put : (h t k mark n : ℕ) (state : ColourState)
+    → withState (record { held = h; stale = t; dirty = 0; busy = mark; owner = n }) k (stateNumber state)
+    ≡ record { held = cond (isHeld state) (withBit h k) h; stale = cond (isStale state) (withBit t k) t; dirty = digit (isDirty state); busy = mark; owner = cond (isDirty state) k n }
+put h t k mark n empty = refl
+put h t k mark n present = refl
+put h t k mark n dirty = refl
+put h t k mark n stale = refl
+
+-- a colour past the board's is empty, and only a transfer goes through it
+past-state : (n : ℕ) (r : FrameRecord) → Keeps n r → (k : ℕ) → n ≤ k → stateOf r k ≡ empty
+unfolding stateOf
+past-state n r kr k l = rw (bit-past n (r .stale) k (kr .stale-lt) l, bit-past n (r .held) k (kr .held-lt) l)
+
+past-own : (n : ℕ) (r : FrameRecord) → Keeps n r → (s : Step) → reach s ≤ n → n ≤ ownOf s → ownCell (stepNumber s) (stateOf r (ownOf s)) ≡ none ⇒ empty
+past-own n r kr (read c) t l = absurd (omega arith)
+past-own n r kr (write c) t l = absurd (omega arith)
+past-own n r kr deviceRead t l = rw (past-state n r kr 0 l)
+past-own n r kr deviceWrite t l = rw (past-state n r kr 0 l)
+past-own n r kr deviceWritePart t l = rw (past-state n r kr 0 l)
+past-own n r kr beginRead t l = rw (past-state n r kr 0 l)
+past-own n r kr beginWrite t l = rw (past-state n r kr 0 l)
+
+-- ---- its operations, on the owner and on the own colour
+
+-- two operations in order: no purge before another, and no two flushes
+abbrev inOrder : Operation → Operation → Bool
+inOrder none b = true
+inOrder flush none = true
+inOrder flush flush = false
+inOrder flush purge = true
+inOrder purge none = true
+inOrder purge flush = false
+inOrder purge purge = false
+
+abbrev isNone : Operation → Bool
+isNone none = true
+isNone flush = false
+isNone purge = false
+
+-- the places of two operations in order
+two-places : (n d c : ℕ) (a b : Operation) (p q : ℕ → Bool) → inOrder a b ≡ true → (not (isNone a) ≡ true → d < n) → (not (isNone b) ≡ true → c < n)
+    → ((k : ℕ) → k < n → p k ≡ (isFlush a && eqb d k || isFlush b && eqb c k))
+    → ((k : ℕ) → k < n → q k ≡ (isPurge a && eqb d k || isPurge b && eqb c k))
+    → opList (operationAt (operationNumber a) d) ++ opList (operationAt (operationNumber b) c) ≡ map Flush (placesOf n p) ++ map Purge (placesOf n q)
+two-places n d c none none p q e ld lc hp hq = rw (places-none n p hp, places-none n q hq)
+two-places n d c none flush p q e ld lc hp hq = rw (places-one n c true p lc hp, places-none n q hq)
+two-places n d c none purge p q e ld lc hp hq = rw (places-none n p hp, places-one n c true q lc hq)
+two-places n d c flush none p q e ld lc hp hq = rw (places-one n d true p ld (λ k l. hp k l ∙ or-false _), places-none n q hq)
+two-places n d c flush flush p q e ld lc hp hq = absurd (false≢true e)
+two-places n d c flush purge p q e ld lc hp hq = rw (places-one n d true p ld (λ k l. hp k l ∙ or-false _), places-one n c true q lc hq)
+two-places n d c purge none p q e ld lc hp hq = rw (places-none n p hp, places-one n d true q ld (λ k l. hq k l ∙ or-false _))
+two-places n d c purge flush p q e ld lc hp hq = absurd (false≢true e)
+two-places n d c purge purge p q e ld lc hp hq = absurd (false≢true e)
+
+-- an operation on d, if that is not c
+not-own : (f : Operation → Bool) → f none ≡ false → (a : Operation) (d c k : ℕ) → (f a && (eqb d k && not (eqb c k))) ≡ (f (cond (not (eqb d c)) a none) && eqb d k)
+not-own f z a d c k = go (eqb d c) (eqb d k) refl refl
   where
-    picked : (f : Operation → Bool) {mask : ℕ} {b : Bool} → mask ≡ maskWith k s r f → b ≡ f (cellOf s r k .operation) → cond b (withBit mask k) mask ≡ maskWith (suc k) s r f
-    picked f em eb = ap₂ (λ (b : Bool) (m : ℕ). cond b (withBit m k) m) eb em ∙ sym (maskOf-more k _)
+    go : (q t : Bool) → eqb d c ≡ q → eqb d k ≡ t → (f a && (t && not (eqb c k))) ≡ (f (cond (not q) a none) && t)
+    go true true e h =
+        let same : eqb c k ≡ true = eq-eqb c k (sym (eqb-true d c e) ∙ eqb-true d k h) in
+        rw (same, z) (and-false (f a))
+    go false true e h =
+        let apart : eqb c k ≡ false = ne-eqb c k (λ q. eqb-false d c e (eqb-true d k h ∙ sym q)) in
+        rw apart
+    go true false e h = rw (and-false (f a), and-false (f none))
+    go false false e h = refl
 
--- ---- the colours past the board's
+no-operation : (o : Operation) → isNone o ≡ true → o ≡ none
+no-operation none e = refl
+no-operation flush e = absurd (false≢true e)
+no-operation purge e = absurd (false≢true e)
 
-steady : {A : Type 0} (f : ℕ → A) (n w : ℕ) → n ≤ w → ((k : ℕ) → n ≤ k → f (suc k) ≡ f k) → f w ≡ f n
-steady f n zero l h = let e : n ≡ 0 = omega arith in rw e
-steady f n (suc w) l h = go (decLt w n) (λ m. steady f n w m h)
-  where
-    go : Dec (w < n) → (n ≤ w → f w ≡ f n) → f (suc w) ≡ f n
-    go (yes m) ih = let e : n ≡ suc w = omega arith in rw e
-    go (no m) ih = h w (omega arith) ∙ ih (omega arith)
+-- the others that are held have no operation where none is dirty
+none-elsewhere : (s : Step) → othersCell (stepNumber s) false .operation ≡ none
+unfolding all
+none-elsewhere s = no-operation _ (each-step (λ x. isNone (othersCell x false .operation)) refl s)
 
--- the only place that a test picks, as an operation
-operation-of : (op : ℕ → Op) → ((k : ℕ) → opList (op k) ≡ op k ∷ []) → (b : Bool) (k : ℕ) → opList (cond b None (op k)) ≡ map op (cond b [] (k ∷ []))
-operation-of op o true k = refl
-operation-of op o false k = o k
+orderly : (s : Step) (t h d : Bool) → inOrder (cond (d && not h) (othersCell (stepNumber s) d .operation) none) (ownCell (stepNumber s) (stateFrom t h d) .operation) ≡ true
+unfolding all
+orderly s t h d =
+    let first : ℕ → Test = λ x o t h d. inOrder (cond (d && not h) (othersCell x d .operation) none) (ownCell x (stateFrom t h d) .operation) in
+    law4 (λ o t h d. true) (first (stepNumber s)) (λ o t h d. true)
+    (each-step (λ x. all4 (λ o t h d. equalIf true (first x o t h d) true)) refl s) false t h d refl
 
-module _ (n : ℕ) (r : FrameRecord) (kr : Keeps n r) where
-  past-state : (k : ℕ) → n ≤ k → stateOf r k ≡ empty
-  unfolding stateOf
-  past-state k l = rw (bit-past n (r .stale) k (kr .stale-lt) l, bit-past n (r .held) k (kr .held-lt) l)
+-- ---- both
 
-  past-cell : (s : Step) → reach s ≤ n → (k : ℕ) → n ≤ k → cellOf s r k ≡ none ⇒ empty
-  unfolding cellOf
-  past-cell (read c) t k l = rw (past-state k l, ne-eqb c k (λ e. omega arith))
-  past-cell (write c) t k l = rw (past-state k l, ne-eqb c k (λ e. omega arith))
-  past-cell deviceRead t k l = rw (past-state k l)
-  past-cell deviceWrite t k l = rw (past-state k l)
-  past-cell deviceWritePart t k l = rw (past-state k l)
-  past-cell beginRead t k l = rw (past-state k l)
-  past-cell beginWrite t k l = rw (past-state k l)
+module _ (n : ℕ) (r : FrameRecord) (kr : Keeps n r) (s : Step) (reaches : reach s ≤ n) where
+  abbrev c : ℕ
+  c = ownOf s
 
-  -- made of any greater number of colours, the record and the operations are the step's
-  pub made-all : (w : ℕ) (s : Step) {next : FrameRecord} {fl pu : ℕ} → n ≤ w → reach s ≤ n → Made s r w next fl pu
-      → record { next = next; ops = firstTwo (opList (cond (eqb fl 0) None (Flush (trailingZeros w fl))) ++ opList (cond (eqb pu 0) None (Purge (trailingZeros w pu)))) } ≡ stepped n s r
-  unfolding recordAfter operations
-  made-all w s few t m =
-      let mark = markAfter s (r .busy) in
-      let states : ℕ → ColourState = λ j. cellOf s r j .next in
-      let next = m .next-is ∙ steady (λ k. encode k mark states) n w few (λ k l. encode-more k mark states ∙ ap (λ (x : Cell). withState (encode k mark states) k (stateNumber (x .next))) (past-cell s t k l)) in
-      let flushes = all Flush (λ k. refl) isFlush refl (few-flushes n r kr s) (m .flush-is) in
-      let purges = all Purge (λ k. refl) isPurge refl (few-purges n r kr s) (m .purge-is) in
-      λ i. record { next = next i; ops = firstTwo (flushes i ++ purges i) }
+  abbrev ownNow : Cell
+  ownNow = ownCell (stepNumber s) (stateOf r c)
+
+  abbrev othersNow : Cell
+  othersNow = othersCell (stepNumber s) (flag r)
+
+  -- what is true of the own colour's cell, where it is not of an empty colour without operation, is of a colour below n
+  own-below : (f : Cell → Bool) → f (none ⇒ empty) ≡ false → f ownNow ≡ true → c < n
+  own-below f z e = go (decLt c n)
     where
-      all : (op : ℕ → Op) → ((k : ℕ) → opList (op k) ≡ op k ∷ []) → (f : Operation → Bool) → f none ≡ false → length (placesWith n s r f) ≤ 1
-          → {mask : ℕ} → mask ≡ maskWith w s r f → opList (cond (eqb mask 0) None (op (trailingZeros w mask))) ≡ map op (placesWith n s r f)
-      all op o f z one {mask} e =
-          let p : ℕ → Bool = λ j. f (cellOf s r j .operation) in
-          let narrow = e ∙ steady (λ k. maskOf k p) n w few (λ k l. maskOf-more k p ∙ ap (λ (b : Bool). cond b (withBit (maskOf k p) k) (maskOf k p)) (ap (λ (x : Cell). f (x .operation)) (past-cell s t k l) ∙ z)) in
-          operation-of op o (eqb mask 0) (trailingZeros w mask) ∙ ap (λ (m : ℕ). map op (cond (eqb m 0) [] (trailingZeros w m ∷ []))) narrow ∙ ap (map op) (sym (places-only n w p few one))
+      go : Dec (c < n) → c < n
+      go (yes l) = l
+      go (no l) = absurd (false≢true (sym z ∙ ap f (sym (past-own n r kr s reaches (omega arith))) ∙ e))
+
+  -- the own colour's cell as a test of colour k
+  at-own : (f : Cell → Bool) (k : ℕ) → (f ownNow && eqb c k) ≡ (eqb c k && f (ownCell (stepNumber s) (stateOf r k)))
+  at-own f k = sym (at-place (λ j. f (ownCell (stepNumber s) (stateOf r j))) c k)
+
+  -- the masks of the other colours
+  abbrev heldIf : Bool → ℕ
+  heldIf b = cond b (withoutBit (r .held) c) 0
+
+  abbrev heldRest : ℕ
+  heldRest = heldIf (eqb (stateNumber (othersNow .next)) 1)
+
+  abbrev staleRest : ℕ
+  staleRest = bitOr (withoutBit (r .stale) c) (heldIf (eqb (stateNumber (othersNow .next)) 3))
+
+  bit-held-if : (b : Bool) (k : ℕ) → bit (heldIf b) k ≡ (b && (bit (r .held) k && not (eqb c k)))
+  bit-held-if true k = bit-without (r .held) c k
+  bit-held-if false k = bit-none k
+
+  held-if-lt : (b : Bool) → heldIf b < 2 ^ n
+  held-if-lt true = without-lt n (r .held) c (kr .held-lt)
+  held-if-lt false = pow-pos n
+
+  held-is : (k : ℕ) → k < n → bit (cond (isHeld (ownNow .next)) (withBit heldRest c) heldRest) k ≡ isHeld (cellOf s r k .next)
+  unfolding stateOf
+  held-is k l =
+      bit-with-if (isHeld (ownNow .next)) heldRest c k
+      ∙ ap₂ _||_ (bit-held-if (eqb (stateNumber (othersNow .next)) 1) k) (at-own (λ x. isHeld (x .next)) k)
+      ∙ kept-next n r kr s isHeld (heldAfter (stepNumber s)) (held-after s) k l
+
+  stale-is : (k : ℕ) → k < n → bit (cond (isStale (ownNow .next)) (withBit staleRest c) staleRest) k ≡ isStale (cellOf s r k .next)
+  unfolding stateOf
+  stale-is k l =
+      bit-with-if (isStale (ownNow .next)) staleRest c k
+      ∙ ap₂ _||_
+      (bit-or (withoutBit (r .stale) c) (heldIf (eqb (stateNumber (othersNow .next)) 3)) k
+      ∙ ap₂ _||_ (bit-without (r .stale) c k) (bit-held-if (eqb (stateNumber (othersNow .next)) 3) k))
+      (at-own (λ x. isStale (x .next)) k)
+      ∙ kept-next n r kr s isStale (staleAfter (stepNumber s)) (stale-after s) k l
+
+  dirty-is : (k : ℕ) → k < n → isDirty (cellOf s r k .next) ≡ (isDirty (ownNow .next) && eqb c k)
+  unfolding stateOf
+  dirty-is k l = sym (kept-next n r kr s isDirty (dirtyAfter (stepNumber s)) (dirty-after s) k l) ∙ sym (at-own (λ x. isDirty (x .next)) k)
+
+  pub step-record : withState (record { held = heldRest; stale = staleRest; dirty = 0; busy = markAfter s (r .busy); owner = n }) c (stateNumber (ownNow .next)) ≡ recordAfter n s r
+  step-record =
+      let dirty-below = own-below (λ x. isDirty (x .next)) refl in
+      put heldRest staleRest c (markAfter s (r .busy)) n (ownNow .next)
+      ∙ record-is n s r
+      (with-if-lt n (isHeld (ownNow .next)) heldRest c (held-if-lt (eqb (stateNumber (othersNow .next)) 1)) (own-below (λ x. isHeld (x .next)) refl))
+      (with-if-lt n (isStale (ownNow .next)) staleRest c (or-lt n _ _ (without-lt n (r .stale) c (kr .stale-lt)) (held-if-lt (eqb (stateNumber (othersNow .next)) 3))) (own-below (λ x. isStale (x .next)) refl))
+      held-is
+      stale-is
+      (ap digit (sym (any-one n c (isDirty (ownNow .next)) _ dirty-below dirty-is)))
+      refl
+      (sym (first-one n c (isDirty (ownNow .next)) _ dirty-below dirty-is))
+
+  -- the operation on the owner, if that is not the own colour
+  abbrev onOwner : Operation
+  onOwner = cond (flag r && not (eqb (r .owner) c)) (othersNow .operation) none
+
+  on-owner : cond (eqb (r .owner) c) None (operationAt (operationNumber (othersNow .operation)) (r .owner)) ≡ operationAt (operationNumber onOwner) (r .owner)
+  on-owner = go (flag r) (eqb (r .owner) c)
+    where
+      go : (b q : Bool) → cond q None (operationAt (operationNumber (othersCell (stepNumber s) b .operation)) (r .owner))
+          ≡ operationAt (operationNumber (cond (b && not q) (othersCell (stepNumber s) b .operation) none)) (r .owner)
+      go true true = refl
+      go true false = refl
+      go false true = refl
+      go false false = rw (none-elsewhere s)
+
+  owner-below : not (isNone onOwner) ≡ true → r .owner < n
+  owner-below = go (flag r) refl
+    where
+      go : (b : Bool) → flag r ≡ b → not (isNone (cond (b && not (eqb (r .owner) c)) (othersNow .operation) none)) ≡ true → r .owner < n
+      go true z e = dirty-only n r kr z .0
+      go false z e = absurd (false≢true e)
+
+  in-order : inOrder onOwner (ownNow .operation) ≡ true
+  unfolding stateOf
+  in-order = go (flag r) refl
+    where
+      go : (b : Bool) → flag r ≡ b → inOrder (cond (b && not (eqb (r .owner) c)) (othersCell (stepNumber s) b .operation) none) (ownCell (stepNumber s) (stateFrom (bit (r .stale) c) (bit (r .held) c) b) .operation) ≡ true
+      go true z =
+          let own-held : bit (r .held) c ≡ eqb (r .owner) c = ap (λ (m : ℕ). bit m c) (dirty-only n r kr z .1) ∙ bit-one (r .owner) c in
+          rw (← own-held) (orderly s (bit (r .stale) c) (bit (r .held) c) true)
+      go false z = orderly s (bit (r .stale) c) (bit (r .held) c) false
+
+  picks : (f : Operation → Bool) → f none ≡ false → Agree apart (operationAfter f (stepNumber s)) (operationTest s f)
+      → (k : ℕ) → k < n → f (cellOf s r k .operation) ≡ (f onOwner && eqb (r .owner) k || f (ownNow .operation) && eqb c k)
+  unfolding stateOf
+  picks f z agree k l =
+      sym (kept-operation n r kr s f (operationAfter f (stepNumber s)) agree k l)
+      ∙ ap₂ _||_ (ap (λ (b : Bool). f (othersNow .operation) && (b && not (eqb c k))) (dirty-at n r kr k) ∙ go (flag r) (othersNow .operation)) (sym (at-own (λ x. f (x .operation)) k))
+    where
+      go : (b : Bool) (a : Operation) → (f a && ((b && eqb (r .owner) k) && not (eqb c k))) ≡ (f (cond (b && not (eqb (r .owner) c)) a none) && eqb (r .owner) k)
+      go true a = not-own f z a (r .owner) c k
+      go false a = rw (and-false (f a), z)
+
+  step-operations : opList (cond (eqb (r .owner) c) None (operationAt (operationNumber (othersNow .operation)) (r .owner))) ++ opList (operationAt (operationNumber (ownNow .operation)) c) ≡ operations n s r
+  unfolding operations
+  step-operations =
+      ap (λ (a : Op). opList a ++ opList (operationAt (operationNumber (ownNow .operation)) c)) on-owner
+      ∙ two-places n (r .owner) c onOwner (ownNow .operation) _ _ in-order owner-below (own-below (λ x. not (isNone (x .operation))) refl)
+      (picks isFlush refl (flush-after s)) (picks isPurge refl (purge-after s))
+
+  pub step-is : {next : FrameRecord} {first second : Op}
+      → next ≡ withState (record { held = heldRest; stale = staleRest; dirty = 0; busy = markAfter s (r .busy); owner = n }) c (stateNumber (ownNow .next))
+      → first ≡ cond (eqb (r .owner) c) None (operationAt (operationNumber (othersNow .operation)) (r .owner))
+      → second ≡ operationAt (operationNumber (ownNow .operation)) c
+      → record { next = next; ops = firstTwo (opList first ++ opList second) } ≡ stepped n s r
+  step-is next first second =
+      let ops = ap₂ (λ (a b : Op). opList a ++ opList b) first second ∙ step-operations in
+      λ i. record { next = (next ∙ step-record) i; ops = firstTwo (ops i) }

@@ -1,30 +1,23 @@
 -- Encoding and decoding are inverse, and a record keeps the rules of its mark exactly if that goes with its states.
 use mathlib.Core.Path.{_≡_, refl, sym, ap, ap₂, _∙_}
-use mathlib.Core.Bool.{Bool, true, false, not, _&&_, _||_, false≢true}
+use mathlib.Core.Bool.{Bool, true, false, cond, not, _&&_, _||_, false≢true}
 use Prim.Native.Nat.{ℕ, zero, suc, _≤_, _<_}
 use native.Mathlib.Omega.{arith}
 use borrow.Author.Tests.{eq-eqb, ne-eqb, eqb-true}
-use lib.Count.{trailingZeros}
 use lib.Dec.{eqb}
 use lib.Pow.{pow-pos}
-use Rattle.bits.specs.Mask.{bit, digit, maskOf, countOf, any}
-use Rattle.bits.proofs.Mask.{mask-of, maskOf-lt, bit-maskOf, any-cong, any-none, any-of, any-at, any-one, one-countOf, digit-lt, eqb-digit, bit-none}
+use Rattle.bits.specs.Mask.{bit, digit, maskOf, countOf, any, firstOf}
+use Rattle.bits.proofs.Mask.{mask-of, maskOf-lt, bit-maskOf, any-cong, any-none, any-false, any-of, any-at, first-cong, first-none, first-one, first-at, one-countOf, digit-lt, eqb-digit, bit-none}
+use Rattle.bits.proofs.Tautology.{and-right}
 use Rattle.page_model.specs.declared.FrameRecord.{FrameRecord}
-use Rattle.page_model.specs.Record.{stateFrom, stateOf, markFits, encode, isHeld, isDirty, isStale}
+use Rattle.page_model.specs.Record.{stateFrom, stateOf, markFits, dirtyColourOf, encode, isHeld, isDirty, isStale, freed}
+use Rattle.page_model.specs.Step.{cellOf, recordAfter, operations}
 use Rattle.page_model.specs.Table.{ColourState, empty, present, dirty, stale}
-use Rattle.page_model.specs.Theorems.{EncodeDecode, OneOwner, MarkFits, DecodeEncode, KeptMark, FreedRecord}
-use Rattle.page_model.proofs.Rules.{Keeps, keeps, kept, flag, flag-digit, dirty-only, dirty-at}
+use Rattle.page_model.specs.Theorems.{EncodeDecode, OneOwner, MarkFits, DecodeEncode, KeptMark, FreedRecord, DirtyColour, OwnerAside}
+use Rattle.page_model.proofs.Rules.{Keeps, keeps, kept, flag, flag-digit, dirty-only, dirty-at, no-owner, any-dirty, first-dirty}
 use Rattle.page_model.proofs.Cells.{kept-state, each-state}
 
 -- ---- a record that is decoded and encoded
-
--- a record has a dirty colour if its flag is set
-any-dirty : (n : ℕ) (r : FrameRecord) → Keeps n r → any n (λ k. flag r && bit (r .held) k) ≡ flag r
-any-dirty n r kr = go (flag r) refl
-  where
-    go : (b : Bool) → flag r ≡ b → any n (λ k. flag r && bit (r .held) k) ≡ b
-    go true e = any-one n _ true _ (dirty-only n r kr e .0) (λ k l. dirty-at n r kr k ∙ ap (λ (b : Bool). b && eqb (trailingZeros n (r .held)) k) e)
-    go false e = any-none n _ (λ k l. ap (λ (b : Bool). b && bit (r .held) k) e)
 
 pub encode-decode : EncodeDecode
 unfolding encode
@@ -33,8 +26,10 @@ encode-decode n r e =
     let says = kept-state n r kr in
     let h = mask-of n (r .held) _ (kr .held-lt) (says isHeld (λ o s h d. h) refl) in
     let t = mask-of n (r .stale) _ (kr .stale-lt) (says isStale (λ o s h d. s) refl) in
-    let d = flag-digit (kr .flag-le) ∙ ap digit (sym (any-dirty n r kr) ∙ any-cong n _ _ (says isDirty (λ o s h d. d && h) refl)) in
-    λ i. record { held = sym h i; stale = sym t i; dirty = sym d i; busy = r .busy }
+    let dirties = says isDirty (λ o s h d. d && h) refl in
+    let d = flag-digit (kr .flag-le) ∙ ap digit (sym (any-dirty n r kr) ∙ any-cong n _ _ dirties) in
+    let o = sym (first-dirty n r kr) ∙ first-cong n _ _ dirties in
+    λ i. record { held = sym h i; stale = sym t i; dirty = sym d i; busy = r .busy; owner = sym o i }
 
 -- what the mark tells of flag and held mask
 fits-le : (mark flag held : ℕ) → markFits mark flag held ≡ true → mark ≤ 2
@@ -58,10 +53,10 @@ kept-mark n r e =
     }
 
 pub freed-record : FreedRecord
-unfolding stateOf
+unfolding stateOf dirtyColourOf
 freed-record n r e =
     let kr = keeps n r e in (
-      kept n _
+      kept n (freed r)
           (record {
             held-lt = kr .held-lt;
             stale-lt = kr .stale-lt;
@@ -69,18 +64,44 @@ freed-record n r e =
             flag-le = kr .flag-le;
             one-held = kr .one-held;
             mark-fits = refl;
+            owner-is = kr .owner-is;
           }),
       λ k. refl,
       refl,
     )
-
--- ---- states that are encoded and decoded
 
 dirty-true : (s : ColourState) → isDirty s ≡ true → s ≡ dirty
 dirty-true empty e = absurd (false≢true e)
 dirty-true present e = absurd (false≢true e)
 dirty-true dirty e = refl
 dirty-true stale e = absurd (false≢true e)
+
+pub dirty-colour : DirtyColour
+dirty-colour n r e = (bound (flag r) refl, λ k l. (λ z. owns k l z, λ z. dirties k l (flag r) refl z))
+  where
+    kr : Keeps n r
+    kr = keeps n r e
+
+    bound : (b : Bool) → flag r ≡ b → r .owner ≤ n
+    bound true z = let l = dirty-only n r kr z .0 in omega arith
+    bound false z = let l = no-owner n r kr z in omega arith
+
+    -- a colour is dirty if the flag is set and it is the owner
+    says : (k : ℕ) → k < n → (flag r && eqb (r .owner) k) ≡ isDirty (stateOf r k)
+    says k l = sym (dirty-at n r kr k) ∙ kept-state n r kr isDirty (λ o s h d. d && h) refl k l
+
+    owns : (k : ℕ) → k < n → stateOf r k ≡ dirty → r .owner ≡ k
+    owns k l z = eqb-true (r .owner) k (and-right (flag r) (eqb (r .owner) k) (says k l ∙ ap isDirty z))
+
+    dirties : (k : ℕ) → k < n → (b : Bool) → flag r ≡ b → r .owner ≡ k → stateOf r k ≡ dirty
+    dirties k l true f z = dirty-true (stateOf r k) (sym (says k l) ∙ ap₂ _&&_ f (eq-eqb (r .owner) k z))
+    dirties k l false f z = let none = no-owner n r kr f in absurd (omega arith)
+
+pub owner-aside : OwnerAside
+unfolding stateOf recordAfter operations cellOf
+owner-aside n c s r = (λ k. refl, refl, refl)
+
+-- ---- states that are encoded and decoded
 
 module _ (n : ℕ) (states : ℕ → ColourState) (one : OneOwner n states) where
   -- with a dirty colour, the held ones are that one
@@ -95,7 +116,7 @@ module _ (n : ℕ) (states : ℕ → ColourState) (one : OneOwner n states) wher
       go false h = sym (ne-eqb d k (λ q. false≢true (sym h ∙ ap (λ (j : ℕ). isHeld (states j)) (sym q) ∙ ap isHeld here)))
 
   encode-keeps : (mark : ℕ) → MarkFits n mark states → Keeps n (encode n mark states)
-  unfolding encode
+  unfolding encode dirtyColourOf
   encode-keeps mark fits =
       record {
         held-lt = maskOf-lt n _;
@@ -104,8 +125,17 @@ module _ (n : ℕ) (states : ℕ → ColourState) (one : OneOwner n states) wher
         flag-le = omega (arith, digit-lt (any n (λ k. isDirty (states k))));
         one-held = single (any n (λ k. isDirty (states k))) refl;
         mark-fits = marked mark fits;
+        owner-is = owned (any n (λ k. isDirty (states k))) refl;
       }
     where
+      owned : (b : Bool) → any n (λ k. isDirty (states k)) ≡ b
+          → firstOf n (λ k. isDirty (states k)) ≡ cond (eqb (digit b) 1) (firstOf n (bit (maskOf n (λ k. isHeld (states k))))) n
+      owned true e =
+          let d = any-at n (λ k. isDirty (states k)) e in
+          first-at n (λ k. isDirty (states k)) (d .0) (d .1) (λ k l z. sym (one (d .0) k (d .1) l (dirty-true (states (d .0)) (d .2)) (ap isHeld (dirty-true (states k) z)))) (d .2)
+          ∙ sym (first-one n (d .0) true _ (λ z. d .1) (λ k l. bit-maskOf n _ k l ∙ held-only (d .0) (d .1) (d .2) k l))
+      owned false e = first-none n _ (any-false n _ e)
+
       marked : (mark : ℕ) → MarkFits n mark states → markFits mark (digit (any n (λ k. isDirty (states k)))) (maskOf n (λ k. isHeld (states k))) ≡ true
       marked zero f = refl
       marked (suc zero) f = ap (λ (b : Bool). eqb (digit b) 0) (any-none n _ (f .none-dirty refl))

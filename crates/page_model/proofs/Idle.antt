@@ -4,10 +4,9 @@ use mathlib.Core.Bool.{Bool, true, false, _&&_, Bool·beq}
 use mathlib.Core.List.{_++_, map}
 use Prim.Native.Nat.{ℕ, _^_, _<_}
 use borrow.Author.Tests.{eqb-true}
-use lib.Count.{trailingZeros}
 use lib.Dec.{eqb}
-use Rattle.bits.specs.Mask.{bit, digit, any}
-use Rattle.bits.proofs.Mask.{mask-of, bit-one, at-place, any-one, places-none}
+use Rattle.bits.specs.Mask.{bit, digit, any, firstOf}
+use Rattle.bits.proofs.Mask.{mask-of, bit-one, at-place, any-cong, first-cong, places-none}
 use Rattle.bits.proofs.Tautology.{beq-of, and-left, and-right}
 use Rattle.page_model.specs.declared.FrameRecord.{FrameRecord}
 use Rattle.page_model.specs.declared.Op.the-variants.{Flush, Purge}
@@ -16,21 +15,22 @@ use Rattle.page_model.specs.Record.{stateOf, encode, isHeld, isDirty, is
 use Rattle.page_model.specs.Step.{isFlush, isPurge, cellOf, recordAfter, operations}
 use Rattle.page_model.specs.Table.{Step, read, write, ownOf}
 use Rattle.page_model.specs.Theorems.{Idle}
-use Rattle.page_model.proofs.Rules.{Keeps, flag, flag-digit, dirty-only}
+use Rattle.page_model.proofs.Rules.{Keeps, flag, flag-digit, dirty-only, any-dirty, first-dirty}
 use Rattle.page_model.proofs.Cells.{Test, Agree, apart, nextTest, operationTest, at, next-law, operation-law, kept-state}
 
--- masks whose bits are the states after the step, and the flag of whether one of these is dirty, make the record after it
-record-is : (n : ℕ) (s : Step) (r : FrameRecord) {h t d : ℕ} → h < 2 ^ n → t < 2 ^ n
+-- masks whose bits are the states after the step, the flag of whether one of these is dirty, and the first that is, make the record after it
+pub record-is : (n : ℕ) (s : Step) (r : FrameRecord) {h t d b c : ℕ} → h < 2 ^ n → t < 2 ^ n
     → ((k : ℕ) → k < n → bit h k ≡ isHeld (cellOf s r k .next))
     → ((k : ℕ) → k < n → bit t k ≡ isStale (cellOf s r k .next))
     → d ≡ digit (any n (λ k. isDirty (cellOf s r k .next)))
-    → r .busy ≡ markAfter s (r .busy)
-    → _≡_ {A = FrameRecord} (record { held = h; stale = t; dirty = d; busy = r .busy }) (recordAfter n s r)
+    → b ≡ markAfter s (r .busy)
+    → c ≡ firstOf n (λ k. isDirty (cellOf s r k .next))
+    → _≡_ {A = FrameRecord} (record { held = h; stale = t; dirty = d; busy = b; owner = c }) (recordAfter n s r)
 unfolding recordAfter encode
-record-is n s r lh lt eh et ed eb =
+record-is n s r lh lt eh et ed eb ec =
     let eh′ = mask-of n _ (λ k. isHeld (cellOf s r k .next)) lh eh in
     let et′ = mask-of n _ (λ k. isStale (cellOf s r k .next)) lt et in
-    λ i. record { held = eh′ i; stale = et′ i; dirty = ed i; busy = eb i }
+    λ i. record { held = eh′ i; stale = et′ i; dirty = ed i; busy = eb i; owner = ec i }
 
 module _ (n : ℕ) (r : FrameRecord) (kr : Keeps n r) (c : ℕ) (lc : c < n) where
   -- a colour that is held is the dirty one, if one is
@@ -40,7 +40,7 @@ module _ (n : ℕ) (r : FrameRecord) (kr : Keeps n r) (c : ℕ) (lc : c < n) whe
       go : (b : Bool) → flag r ≡ b → (b && bit (r .held) k) ≡ (b && eqb c k)
       go true e =
           let only = dirty-only n r kr e .1 in
-          let own = eqb-true (trailingZeros n (r .held)) c (sym (bit-one _ c) ∙ ap (λ (m : ℕ). bit m c) (sym only) ∙ z) in
+          let own = eqb-true (r .owner) c (sym (bit-one _ c) ∙ ap (λ (m : ℕ). bit m c) (sym only) ∙ z) in
           ap (λ (m : ℕ). bit m k) only ∙ bit-one _ k ∙ ap (λ (d : ℕ). eqb d k) own
       go false e = refl
 
@@ -53,27 +53,28 @@ module _ (n : ℕ) (r : FrameRecord) (kr : Keeps n r) (c : ℕ) (lc : c < n) whe
       ap₂ _&&_ (ap₂ _&&_ (kr .apart k l) (beq-of _ _ (at-place (bit (r .held)) c k ∙ ap (λ (b : Bool). b && eqb c k) z))) (beq-of _ _ (own-dirty z k))
 
   -- a row that keeps the states of colours of which given holds, where c is held
-  idle-of : (step : Step) (given : Test) → ownOf step < n → (holds : (k : ℕ) → k < n → at r (ownOf step) k given ≡ true)
+  idle-of : (step : Step) (given : Test) → (holds : (k : ℕ) → k < n → at r (ownOf step) k given ≡ true)
       → Agree given (λ o s h d. h) (nextTest step isHeld)
       → Agree given (λ o s h d. s) (nextTest step isStale)
-      → Agree given (λ o s h d. d && o) (nextTest step isDirty)
+      → Agree given (λ o s h d. d && h) (nextTest step isDirty)
       → Agree given (λ o s h d. false) (operationTest step isFlush)
       → Agree given (λ o s h d. false) (operationTest step isPurge)
       → r .busy ≡ markAfter step (r .busy)
       → Idle n step r
   unfolding operations
-  idle-of step given lo holds eh es ed ef ep eb =
+  idle-of step given holds eh es ed ef ep eb =
       let next = next-law n r step given holds in
+      let dirties = next isDirty (λ o s h d. d && h) ed in
       let operation = operation-law n r step given holds in (
         ap₂ _++_ (ap (map Flush) (places-none n _ (λ k l. sym (operation isFlush (λ o s h d. false) ef k l)))) (ap (map Purge) (places-none n _ (λ k l. sym (operation isPurge (λ o s h d. false) ep k l)))),
         sym (record-is n step r (kr .held-lt) (kr .stale-lt) (next isHeld (λ o s h d. h) eh) (next isStale (λ o s h d. s) es)
-            (flag-digit (kr .flag-le) ∙ ap digit (sym (any-one n (ownOf step) (flag r) _ lo (λ k l. sym (next isDirty (λ o s h d. d && o) ed k l))))) eb),
+            (flag-digit (kr .flag-le) ∙ ap digit (sym (any-dirty n r kr) ∙ any-cong n _ _ dirties)) eb (sym (first-dirty n r kr) ∙ first-cong n _ _ dirties)),
       )
 
   pub read-idle : bit (r .held) c ≡ true → Idle n (read c) r
-  read-idle z = idle-of (read c) ownHeld lc (own-held z) refl refl refl refl refl refl
+  read-idle z = idle-of (read c) ownHeld (own-held z) refl refl refl refl refl refl
 
   pub write-idle : isDirty (stateOf r c) ≡ true → Idle n (write c) r
   write-idle z =
       let both = kept-state n r kr isDirty (λ o s h d. d && h) refl c lc ∙ z in
-      idle-of (write c) (λ o s h d. ownHeld o s h d && d) lc (λ k l. ap₂ _&&_ (own-held (and-right (flag r) _ both) k l) (and-left (flag r) _ both)) refl refl refl refl refl refl
+      idle-of (write c) (λ o s h d. ownHeld o s h d && d) (λ k l. ap₂ _&&_ (own-held (and-right (flag r) _ both) k l) (and-left (flag r) _ both)) refl refl refl refl refl refl

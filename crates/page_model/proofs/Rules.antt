@@ -1,17 +1,18 @@
 -- The rules of a frame's record as named facts, and what they tell of its dirty colour.
-use mathlib.Core.Path.{_≡_, refl, sym, ap, ap₂, _∙_}
-use mathlib.Core.Bool.{Bool, true, false, not, _&&_, _||_, false≢true}
+use mathlib.Core.Path.{_≡_, refl, sym, ap, ap₂, _∙_, subst}
+use mathlib.Core.Bool.{Bool, true, false, cond, not, _&&_, _||_, false≢true}
 use Prim.Native.Nat.{ℕ, _^_, _≤_, _<_}
 use native.Mathlib.Omega.{arith}
-use borrow.Author.Tests.{ltb-true, lt-ltb, leb-true, le-leb, eqb-true}
+use borrow.Author.Tests.{ltb-true, lt-ltb, leb-true, le-leb, eqb-true, eq-eqb}
 use lib.Bits.{bitAnd, bitOr}
 use lib.Count.{ones, trailingZeros}
 use lib.Dec.{eqb, leb, ltb}
-use Rattle.bits.specs.Mask.{bit, digit, countOf}
-use Rattle.bits.proofs.Mask.{all-at, all-of, ones-bits, only-bit, bit-one, digit-eqb, disjoint-all, or-within}
+use lib.Pow.{pow-pos}
+use Rattle.bits.specs.Mask.{bit, digit, countOf, any, firstOf}
+use Rattle.bits.proofs.Mask.{all-at, all-of, any-one, first-one, ones-bits, only-bit, first-zeros, bit-one, digit-eqb, disjoint-all, or-within}
 use Rattle.bits.proofs.Tautology.{and-left, and-right}
 use Rattle.page_model.specs.declared.FrameRecord.{FrameRecord}
-use Rattle.page_model.specs.Record.{coloursKeepRules, markFits, keepsRules}
+use Rattle.page_model.specs.Record.{coloursKeepRules, markFits, dirtyColourOf, keepsRules}
 
 -- the flag as a test
 abbrev pub flag : FrameRecord → Bool
@@ -25,6 +26,7 @@ pub record Keeps (n : ℕ) (r : FrameRecord) : Type 0 where
   pub flag-le : r .dirty ≤ 1
   pub one-held : (not (flag r) || eqb (countOf n (bit (r .held))) 1) ≡ true
   pub mark-fits : markFits (r .busy) (r .dirty) (r .held) ≡ true
+  pub owner-is : r .owner ≡ dirtyColourOf n r
 
 pub keeps : (n : ℕ) (r : FrameRecord) → keepsRules n r ≡ true → Keeps n r
 unfolding keepsRules
@@ -36,14 +38,17 @@ keeps n r e =
       flag-le = leb-true (r .dirty) 1 (search (and-left, and-right));
       one-held = search (and-left, and-right);
       mark-fits = search (and-left, and-right);
+      owner-is = eqb-true (r .owner) (dirtyColourOf n r) (search (and-left, and-right));
     }
 
 pub kept : (n : ℕ) (r : FrameRecord) → Keeps n r → keepsRules n r ≡ true
 unfolding keepsRules
 kept n r k =
     ap₂ _&&_
+    (ap₂ _&&_
     (ap₂ _&&_ (ap₂ _&&_ (ap₂ _&&_ (ap₂ _&&_ (lt-ltb _ _ (k .held-lt)) (lt-ltb _ _ (k .stale-lt))) (all-of n _ (k .apart))) (le-leb _ _ (k .flag-le))) (k .one-held))
-    (k .mark-fits)
+    (k .mark-fits))
+    (eq-eqb _ _ (k .owner-is))
 
 -- the colours' rules by operations on whole masks
 pub rules-are : (n : ℕ) (r : FrameRecord) → coloursKeepRules n r
@@ -70,18 +75,54 @@ or-false-left : (a b : Bool) → a ≡ false → (a || b) ≡ true → b ≡ tru
 or-false-left true b z e = absurd (false≢true (sym z))
 or-false-left false b z e = e
 
+-- with the flag set the held mask is one bit, the first, whose place the trailing zeros are at any width that has room for it
+module _ (n : ℕ) (r : FrameRecord) (l : r .held < 2 ^ n) (one : (not (flag r) || eqb (countOf n (bit (r .held))) 1) ≡ true) (z : flag r ≡ true) where
+  only : (firstOf n (bit (r .held)) < n) × (r .held ≡ 2 ^ firstOf n (bit (r .held)))
+  only =
+      let count = ones-bits n (r .held) l ∙ eqb-true _ _ (or-false-left (not (flag r)) _ (ap not z) one) in
+      let d = only-bit n (r .held) l count in
+      let some : r .held ≡ 0 → ⊥ = λ e. let p = pow-pos (trailingZeros n (r .held)) in let same = d .1 in omega arith in
+      subst (λ (x : ℕ). (x < n) × (r .held ≡ 2 ^ x)) (first-zeros n n (r .held) (omega arith) l some) d
+
+  first-held : (w : ℕ) → n ≤ w → trailingZeros w (r .held) ≡ firstOf n (bit (r .held))
+  first-held w few = first-zeros n w (r .held) few l (λ e. let p = pow-pos (firstOf n (bit (r .held))) in let same = only .1 in omega arith)
+
+-- so the first held colour is found there
+pub told-colour : (n w : ℕ) (r : FrameRecord) → n ≤ w → coloursKeepRules n r ≡ true → cond (flag r) (trailingZeros w (r .held)) n ≡ dirtyColourOf n r
+unfolding coloursKeepRules dirtyColourOf
+told-colour n w r few e = go (flag r) refl
+  where
+    go : (b : Bool) → flag r ≡ b → cond b (trailingZeros w (r .held)) n ≡ cond b (firstOf n (bit (r .held))) n
+    go true z = first-held n r (ltb-true (r .held) (2 ^ n) (search (and-left, and-right))) (search (and-left, and-right)) z w few
+    go false z = refl
+
 module _ (n : ℕ) (r : FrameRecord) (k : Keeps n r) where
-  one-bit : flag r ≡ true → ones (r .held) ≡ 1
-  one-bit z = ones-bits n (r .held) (k .held-lt) ∙ eqb-true _ _ (or-false-left (not (flag r)) _ (ap not z) (k .one-held))
+  -- the owner of a record with the flag set is the only colour held
+  pub dirty-only : flag r ≡ true → (r .owner < n) × (r .held ≡ 2 ^ r .owner)
+  unfolding dirtyColourOf
+  dirty-only z =
+      let told : r .owner ≡ firstOf n (bit (r .held)) = k .owner-is ∙ ap (λ (b : Bool). cond b (firstOf n (bit (r .held))) n) z in
+      subst (λ (x : ℕ). (x < n) × (r .held ≡ 2 ^ x)) (sym told) (only n r (k .held-lt) (k .one-held) z)
 
-  -- with the flag set, the held mask is one bit, whose place the trailing zeros are
-  pub dirty-only : flag r ≡ true → (trailingZeros n (r .held) < n) × (r .held ≡ 2 ^ trailingZeros n (r .held))
-  dirty-only z = only-bit n (r .held) (k .held-lt) (one-bit z)
-
-  -- so the dirty colour is the one held
-  pub dirty-at : (j : ℕ) → (flag r && bit (r .held) j) ≡ (flag r && eqb (trailingZeros n (r .held)) j)
+  pub dirty-at : (j : ℕ) → (flag r && bit (r .held) j) ≡ (flag r && eqb (r .owner) j)
   dirty-at j = go (flag r) refl
     where
-      go : (b : Bool) → flag r ≡ b → (b && bit (r .held) j) ≡ (b && eqb (trailingZeros n (r .held)) j)
+      go : (b : Bool) → flag r ≡ b → (b && bit (r .held) j) ≡ (b && eqb (r .owner) j)
       go true z = ap (λ (m : ℕ). bit m j) (dirty-only z .1) ∙ bit-one _ j
       go false z = refl
+
+  -- and of one without it there is none
+  pub no-owner : flag r ≡ false → r .owner ≡ n
+  unfolding dirtyColourOf
+  no-owner z = k .owner-is ∙ ap (λ (b : Bool). cond b (firstOf n (bit (r .held))) n) z
+
+  -- a record has a dirty colour if its flag is set, and that is its owner
+  pub any-dirty : any n (λ j. flag r && bit (r .held) j) ≡ flag r
+  any-dirty = any-one n (r .owner) (flag r) _ (λ z. dirty-only z .0) (λ j l. dirty-at j)
+
+  pub first-dirty : firstOf n (λ j. flag r && bit (r .held) j) ≡ r .owner
+  first-dirty = first-one n (r .owner) (flag r) _ (λ z. dirty-only z .0) (λ j l. dirty-at j) ∙ go (flag r) refl
+    where
+      go : (b : Bool) → flag r ≡ b → cond b (r .owner) n ≡ r .owner
+      go true z = refl
+      go false z = sym (no-owner z)

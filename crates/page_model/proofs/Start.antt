@@ -4,12 +4,12 @@ use mathlib.Core.Bool.{not, _&&_}
 use native.Mathlib.Omega.{arith}
 use lib.Pow.{pow-pos}
 use Rattle.bits.proofs.Mask.{bit-none}
-use Rattle.page_model.specs.Record.{stateOf}
+use Rattle.page_model.specs.Record.{stateOf, dirtyColourOf}
 use Rattle.page_model.specs.Theorems.{StartRecord}
 use Rattle.page_model.proofs.Rules.{kept}
 
 pub start-record : StartRecord
-unfolding stateOf
+unfolding stateOf dirtyColourOf
 start-record n = (
   kept n _
       (record {
@@ -19,6 +19,7 @@ start-record n = (
         flag-le = omega arith;
         one-held = refl;
         mark-fits = refl;
+        owner-is = refl;
       }),
   λ k. simp bit-none,
   refl,

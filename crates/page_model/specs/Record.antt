@@ -1,9 +1,9 @@
--- Document 01, "Frame records and mapping list", with request N6's busy mark: what a frame's record says of each colour, when it keeps the
--- rules, and the record that states and a mark encode to. For any number n of colours.
-use mathlib.Core.Bool.{Bool, true, false, not, _&&_, _||_}
+-- Document 01, "Frame records and mapping list", with request N6's busy mark and request N7's dirty colour: what a frame's record says of each
+-- colour, when it keeps the rules, and the record that states and a mark encode to. For any number n of colours.
+use mathlib.Core.Bool.{Bool, true, false, cond, not, _&&_, _||_}
 use Prim.Native.Nat.{ℕ, zero, suc, _^_}
 use lib.Dec.{eqb, leb, ltb}
-use Rattle.bits.specs.Mask.{bit, digit, maskOf, countOf, all, any}
+use Rattle.bits.specs.Mask.{bit, digit, maskOf, countOf, all, any, firstOf}
 use Rattle.page_model.specs.declared.FrameRecord.{FrameRecord}
 use Rattle.page_model.specs.Busy.{free}
 use Rattle.page_model.specs.Table.{ColourState, empty, present, dirty, stale}
@@ -37,9 +37,13 @@ markFits (suc zero) flag held = eqb flag 0
 markFits (suc (suc zero)) flag held = eqb held 0
 markFits (suc (suc (suc mark))) flag held = false
 
+-- The dirty colour that flag and held mask tell: with the flag set the place of the held bit, and without it n, for none.
+unfoldable pub dirtyColourOf : ℕ → FrameRecord → ℕ
+dirtyColourOf n r = cond (eqb (r .dirty) 1) (firstOf n (bit (r .held))) n
+
 unfoldable pub keepsRules : ℕ → FrameRecord → Bool
-unfolding coloursKeepRules
-keepsRules n r = coloursKeepRules n r && markFits (r .busy) (r .dirty) (r .held)
+unfolding coloursKeepRules dirtyColourOf
+keepsRules n r = coloursKeepRules n r && markFits (r .busy) (r .dirty) (r .held) && eqb (r .owner) (dirtyColourOf n r)
 
 -- ---- encoding
 
@@ -69,12 +73,13 @@ encode n mark states =
       stale = maskOf n (λ k. isStale (states k));
       dirty = digit (any n (λ k. isDirty (states k)));
       busy = mark;
+      owner = firstOf n (λ k. isDirty (states k));
     }
 
 -- the record that every frame has at the start
-abbrev pub startRecord : FrameRecord
-startRecord = record { held = 0; stale = 0; dirty = 0; busy = free }
+abbrev pub startRecord : ℕ → FrameRecord
+startRecord n = record { held = 0; stale = 0; dirty = 0; busy = free; owner = n }
 
 -- the record once its transfer has ended
 abbrev pub freed : FrameRecord → FrameRecord
-freed r = record { held = r .held; stale = r .stale; dirty = r .dirty; busy = free }
+freed r = record { held = r .held; stale = r .stale; dirty = r .dirty; busy = free; owner = r .owner }

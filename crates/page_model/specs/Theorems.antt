@@ -17,7 +17,7 @@ use Rattle.page_model.specs.Table.{ColourState, empty, present, dirty, s
 
 -- the start record keeps the rules, every colour is empty in it, and the frame is free
 abbrev pub StartRecord : Type 0
-StartRecord = (n : ℕ) → (keepsRules n startRecord ≡ true) × ((k : ℕ) → stateOf startRecord k ≡ empty) × (startRecord .busy ≡ free)
+StartRecord = (n : ℕ) → (keepsRules n (startRecord n) ≡ true) × ((k : ℕ) → stateOf (startRecord n) k ≡ empty) × (startRecord n .busy ≡ free)
 
 -- encoding what a record says gives the record
 abbrev pub EncodeDecode : Type 0
@@ -48,6 +48,19 @@ abbrev pub FreedRecord : Type 0
 FreedRecord =
     (n : ℕ) (r : FrameRecord) → keepsRules n r ≡ true
     → (keepsRules n (freed r) ≡ true) × ((k : ℕ) → stateOf (freed r) k ≡ stateOf r k) × (freed r .busy ≡ free)
+
+-- the owner of a record that keeps the rules is the colour that is dirty, or n if none is
+abbrev pub DirtyColour : Type 0
+DirtyColour = (n : ℕ) (r : FrameRecord) → keepsRules n r ≡ true → (r .owner ≤ n) × ((k : ℕ) → k < n → (stateOf r k ≡ dirty) ↔ (r .owner ≡ k))
+
+-- a record with another owner is in the same states, and each step has the same operations and makes the same record of it
+abbrev pub withOwner : FrameRecord → ℕ → FrameRecord
+withOwner r c = record { held = r .held; stale = r .stale; dirty = r .dirty; busy = r .busy; owner = c }
+
+abbrev pub OwnerAside : Type 0
+OwnerAside =
+    (n c : ℕ) (s : Step) (r : FrameRecord)
+    → ((k : ℕ) → stateOf (withOwner r c) k ≡ stateOf r k) × (operations n s (withOwner r c) ≡ operations n s r) × (recordAfter n s (withOwner r c) ≡ recordAfter n s r)
 
 -- ---- a step
 

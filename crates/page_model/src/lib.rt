@@ -3,15 +3,15 @@ pub mod busy;
 mod table;
 
 ghost use mathlib.Core.Path.{_≡_};
-ghost use mathlib.Core.Bool.{true, cond, not};
+ghost use mathlib.Core.Bool.{true, false, cond, not};
 ghost use mathlib.Core.List.{_++_};
 ghost use Prim.Native.Nat.{ℕ, _≤_, _<_};
 ghost use lib.Count.{trailingZeros};
 ghost use lib.Dec.{eqb};
-ghost use Rattle.bits.specs.Mask.{width, withBit};
-ghost use Rattle.page_model.specs.Cases.{stateNumber, stepNumber, withState};
+ghost use Rattle.bits.specs.Mask.{width};
+ghost use Rattle.page_model.specs.Cases.{stateNumber, stepNumber, operationAt, withState};
 ghost use Rattle.page_model.specs.Busy.{free, bars};
-ghost use Rattle.page_model.specs.Record.{keepsRules, coloursKeepRules, stateOf, isHeld, isDirty, freed};
+ghost use Rattle.page_model.specs.Record.{keepsRules, coloursKeepRules, stateFrom, stateOf, isHeld, isDirty, freed};
 ghost use Rattle.page_model.specs.Step.{stepped, firstTwo, opList};
 ghost use Rattle.page_model.specs.Table.{Step, ownOf, reach, read, write, deviceRead, deviceWrite, deviceWritePart, beginRead, beginWrite};
 
@@ -29,12 +29,13 @@ pub struct Ops {
 }
 
 // What is known of a frame in the cache: bit c of a mask stands for colour c, and dirty is 0 or 1. The mark busy is 0 where the frame is free, 1
-// while a device reads it and 2 while a device writes it.
+// while a device reads it and 2 while a device writes it. The owner is the dirty colour, or the number of colours where none is dirty.
 pub struct FrameRecord {
     pub held: u32,
     pub stale: u32,
     pub dirty: u32,
     pub busy: u32,
+    pub owner: u32,
 }
 
 // The record after a step, and the operations that come first.
@@ -42,9 +43,6 @@ pub struct Stepped {
     pub next: FrameRecord,
     pub ops: Ops,
 }
-
-// The colours that a mask has bits for; a board may have fewer.
-const COLOURS: usize = 32;
 
 impl FrameRecord {
     // Whether the record keeps the rules.
@@ -55,7 +53,10 @@ impl FrameRecord {
         if !busy::mark_fits(self.busy, self.dirty, self.held) {
             return false;
         }
-        self.colours_keep_rules(colours)
+        if !self.colours_keep_rules(colours) {
+            return false;
+        }
+        self.owner == self.told_colour(colours)
     }
 
     // Whether no bit is past the colours, none in both masks, the flag 0 or 1, and with the flag set exactly one held bit.
@@ -75,55 +76,72 @@ impl FrameRecord {
         self.dirty == 1 && u32::count_ones(self.held) == 1
     }
 
-    // The processor reads through a colour.
-    pub fn read(self, colour: usize) -> Stepped
-        requires { ⌜ colour < width ⌝ }
-        ensures { λ r. ⌜ ((n : ℕ) → n ≤ width → colour < n → keepsRules n self ≡ true → r ≡ stepped n (read colour) self) ⌝ }
+    // The dirty colour that flag and held mask tell: the first held one with the flag set, and the number of colours without it.
+    fn told_colour(self, colours: usize) -> u32
+        requires { ⌜ colours ≤ width ⌝ }
+        ensures { λ r. ⌜ r ≡ cond (eqb (self .dirty) 1) (trailingZeros width (self .held)) colours ⌝ }
     {
-        self.step(table::READ, colour)
+        if self.dirty == 1 {
+            u32::trailing_zeros(self.held)
+        } else {
+            colours as u32
+        }
+    }
+
+    // The processor reads through a colour.
+    pub fn read(self, colours: usize, colour: usize) -> Stepped
+        requires { ⌜ (colours ≤ width) × (colour < colours) ⌝ }
+        ensures { λ r. ⌜ (keepsRules colours self ≡ true → r ≡ stepped colours (read colour) self) ⌝ }
+    {
+        self.step(table::READ, colours, colour)
     }
 
     // The processor writes through a colour.
-    pub fn write(self, colour: usize) -> Stepped
-        requires { ⌜ colour < width ⌝ }
-        ensures { λ r. ⌜ ((n : ℕ) → n ≤ width → colour < n → keepsRules n self ≡ true → r ≡ stepped n (write colour) self) ⌝ }
+    pub fn write(self, colours: usize, colour: usize) -> Stepped
+        requires { ⌜ (colours ≤ width) × (colour < colours) ⌝ }
+        ensures { λ r. ⌜ (keepsRules colours self ≡ true → r ≡ stepped colours (write colour) self) ⌝ }
     {
-        self.step(table::WRITE, colour)
+        self.step(table::WRITE, colours, colour)
     }
 
     // A device reads the frame's page from memory.
-    pub fn device_read(self) -> Stepped
-        ensures { λ r. ⌜ ((n : ℕ) → n ≤ width → keepsRules n self ≡ true → r ≡ stepped n deviceRead self) ⌝ }
+    pub fn device_read(self, colours: usize) -> Stepped
+        requires { ⌜ colours ≤ width ⌝ }
+        ensures { λ r. ⌜ (keepsRules colours self ≡ true → r ≡ stepped colours deviceRead self) ⌝ }
     {
-        self.step(table::DEVICE_READ, 0)
+        self.step(table::DEVICE_READ, colours, 0)
     }
 
     // A device writes the frame's page in memory.
-    pub fn device_write(self) -> Stepped
-        ensures { λ r. ⌜ ((n : ℕ) → n ≤ width → keepsRules n self ≡ true → r ≡ stepped n deviceWrite self) ⌝ }
+    pub fn device_write(self, colours: usize) -> Stepped
+        requires { ⌜ colours ≤ width ⌝ }
+        ensures { λ r. ⌜ (keepsRules colours self ≡ true → r ≡ stepped colours deviceWrite self) ⌝ }
     {
-        self.step(table::DEVICE_WRITE, 0)
+        self.step(table::DEVICE_WRITE, colours, 0)
     }
 
     // A device writes some of the page's words in memory: the dirty colour is flushed, which keeps the others.
-    pub fn device_write_part(self) -> Stepped
-        ensures { λ r. ⌜ ((n : ℕ) → n ≤ width → keepsRules n self ≡ true → r ≡ stepped n deviceWritePart self) ⌝ }
+    pub fn device_write_part(self, colours: usize) -> Stepped
+        requires { ⌜ colours ≤ width ⌝ }
+        ensures { λ r. ⌜ (keepsRules colours self ≡ true → r ≡ stepped colours deviceWritePart self) ⌝ }
     {
-        self.step(table::DEVICE_WRITE_PART, 0)
+        self.step(table::DEVICE_WRITE_PART, colours, 0)
     }
 
     // A device begins to read the frame's page, word by word.
-    pub fn begin_read(self) -> Stepped
-        ensures { λ r. ⌜ ((n : ℕ) → n ≤ width → keepsRules n self ≡ true → r ≡ stepped n beginRead self) ⌝ }
+    pub fn begin_read(self, colours: usize) -> Stepped
+        requires { ⌜ colours ≤ width ⌝ }
+        ensures { λ r. ⌜ (keepsRules colours self ≡ true → r ≡ stepped colours beginRead self) ⌝ }
     {
-        self.step(table::BEGIN_READ, 0)
+        self.step(table::BEGIN_READ, colours, 0)
     }
 
     // A device begins to write the frame's page, word by word.
-    pub fn begin_write(self) -> Stepped
-        ensures { λ r. ⌜ ((n : ℕ) → n ≤ width → keepsRules n self ≡ true → r ≡ stepped n beginWrite self) ⌝ }
+    pub fn begin_write(self, colours: usize) -> Stepped
+        requires { ⌜ colours ≤ width ⌝ }
+        ensures { λ r. ⌜ (keepsRules colours self ≡ true → r ≡ stepped colours beginWrite self) ⌝ }
     {
-        self.step(table::BEGIN_WRITE, 0)
+        self.step(table::BEGIN_WRITE, colours, 0)
     }
 
     // A device ends its transfer.
@@ -135,6 +153,7 @@ impl FrameRecord {
             stale: self.stale,
             dirty: self.dirty,
             busy: busy::FREE,
+            owner: self.owner,
         }
     }
 
@@ -168,29 +187,40 @@ impl FrameRecord {
         self.holds(colour) & (self.dirty == 1)
     }
 
-    // A step, colour by colour: the cell at each gives its operation and its next state, and these make the answer. Colours that the board does
-    // not have are empty, and stay so. A transfer goes through no colour, and its cells do not look at one.
-    fn step(self, step: u8, colour: usize) -> Stepped
-        ensures { λ r. ⌜ ((n : ℕ) (s : Step) → n ≤ width → step ≡ stepNumber s → colour ≡ ownOf s → reach s ≤ n → keepsRules n self ≡ true → r ≡ stepped n s self) ⌝ }
+    // A step: its own colour takes one cell, and the others that are held take another, which are all present or the one dirty. A transfer goes
+    // through no colour, and its cells do not look at one.
+    fn step(self, step: u8, colours: usize, colour: usize) -> Stepped
+        requires { ⌜ (colours ≤ width) × (colour < width) ⌝ }
+        ensures { λ r. ⌜ ((s : Step) → step ≡ stepNumber s → colour ≡ ownOf s → reach s ≤ colours → keepsRules colours self ≡ true → r ≡ stepped colours s self) ⌝ }
     {
-        let mut next = FrameRecord {
-            held: 0,
-            stale: 0,
+        let own = table::case_at(step, true, self.state(colour));
+        let others = table::case_at(step, false, self.held_state());
+        let held = bits::without_bit(self.held, colour);
+        let stale = bits::without_bit(self.stale, colour);
+        let rest = FrameRecord {
+            held: if_picked(held, others.1 == table::PRESENT),
+            stale: stale | if_picked(held, others.1 == table::STALE),
             dirty: 0,
             busy: busy::mark_at(step, self.busy),
+            owner: colours as u32,
         };
-        let mut flushes = 0;
-        let mut purges = 0;
-        for k in 0..COLOURS {
-            let case = table::case_at(step, colour == k, self.state(k));
-            flushes = including(flushes, k, case.0 == table::FLUSH);
-            purges = including(purges, k, case.0 == table::PURGE);
-            next = next.with_state(k, case.1);
-        }
-        let flush = if_any(flushes, Op::Flush(first_of(flushes)));
-        let purge = if_any(purges, Op::Purge(first_of(purges)));
-        let ops = first_two(flush, purge);
+        let next = rest.with_state(colour, own.1);
+        let ops = first_two(
+            elsewhere(others.0, self.owner as usize, colour),
+            operation(own.0, colour),
+        );
         Stepped { next, ops }
+    }
+
+    // The number of the state that every held colour is in.
+    fn held_state(self) -> u8
+        ensures { λ r. ⌜ r ≡ stateNumber (stateFrom false true (eqb (self .dirty) 1)) ⌝ }
+    {
+        if self.dirty == 1 {
+            table::DIRTY
+        } else {
+            table::PRESENT
+        }
     }
 
     // The number of a colour's state, in any record.
@@ -224,48 +254,53 @@ impl FrameRecord {
                 stale: self.stale,
                 dirty: self.dirty,
                 busy: self.busy,
+                owner: self.owner,
             },
             table::DIRTY => FrameRecord {
                 held: bits::with_bit(self.held, colour),
                 stale: self.stale,
                 dirty: 1,
                 busy: self.busy,
+                owner: colour as u32,
             },
             table::STALE => FrameRecord {
                 held: self.held,
                 stale: bits::with_bit(self.stale, colour),
                 dirty: self.dirty,
                 busy: self.busy,
+                owner: self.owner,
             },
             4..=255 => self,
         }
     }
 }
 
-// The mask with a colour's bit set, if it is picked.
-fn including(mask: u32, colour: usize, picked: bool) -> u32
-    requires { ⌜ colour < width ⌝ }
-    ensures { λ r. ⌜ r ≡ cond picked (withBit mask colour) mask ⌝ }
+// The mask if it is picked, and else the empty one.
+fn if_picked(mask: u32, picked: bool) -> u32
+    ensures { λ r. ⌜ r ≡ cond picked mask 0 ⌝ }
 {
-    if picked {
-        bits::with_bit(mask, colour)
-    } else {
-        mask
+    if picked { mask } else { 0 }
+}
+
+// The operation of a number on a colour.
+fn operation(number: u8, colour: usize) -> Op
+    ensures { λ r. ⌜ r ≡ operationAt number colour ⌝ }
+{
+    match number {
+        table::FLUSH => Op::Flush(colour),
+        table::PURGE => Op::Purge(colour),
+        _ => Op::None,
     }
 }
 
-// The first colour of a mask. Means nothing of a mask that has none.
-fn first_of(mask: u32) -> usize
-    ensures { λ r. ⌜ r ≡ trailingZeros width mask ⌝ }
+// The operation of a number on the dirty colour, if that is not the step's own.
+fn elsewhere(number: u8, dirty: usize, own: usize) -> Op
+    ensures { λ r. ⌜ r ≡ cond (eqb dirty own) Op.None (operationAt number dirty) ⌝ }
 {
-    u32::trailing_zeros(mask) as usize
-}
-
-// An operation on a colour of a mask, if that has one.
-fn if_any(mask: u32, op: Op) -> Op
-    ensures { λ r. ⌜ r ≡ cond (eqb mask 0) Op.None op ⌝ }
-{
-    if mask == 0 { Op::None } else { op }
+    if dirty == own {
+        return Op::None;
+    }
+    operation(number, dirty)
 }
 
 // Two operations in order, either of which may be None: a None stands last.

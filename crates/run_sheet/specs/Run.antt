@@ -9,7 +9,7 @@ use Rattle.board.specs.Board.{board01, memoryWords, cacheWords, lines}
 use Rattle.mapping.specs.declared.MappingList.{MappingList}
 use Rattle.mapping.specs.Change.{empty}
 use Rattle.mapping.specs.Entry.{capacity}
-use Rattle.manager.specs.Tables.{recordWords}
+use Rattle.manager.specs.Tables.{startRecords}
 use Rattle.machine.specs.State.{State, machineOf, Single, Answer, Result}
 use Rattle.machine.specs.Step.{step}
 use Rattle.sheet_codec.specs.Format.{mostMappings, mostSteps, mappingCount, stepCount, isBroken, mappingCall, stepCall}
@@ -29,7 +29,7 @@ pub record Run : Type 0 where
 unfoldable pub zeros : Board → MappingList → State
 unfolding memoryWords cacheWords lines
 zeros b list =
-    machineOf list (replicate (b .frames * recordWords) 0) (replicate capacity 0)
+    machineOf list (startRecords (b .frames) (b .colours)) (replicate capacity 0)
     (replicate (memoryWords b) 0)
     (replicate (cacheWords b) 0)
     (replicate (lines b) 0)

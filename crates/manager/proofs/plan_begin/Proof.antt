@@ -59,14 +59,12 @@ begun at s eb em =
 returns-2 : tie.Need-returns-2
 returns-2 c =
     let at = c .before .before .before .before in
-    let s = start-of at in
-    rw (c .before .before .before .if2 .taken) (c .step-of .ensures ∙ begun at beginWrite (c .before .before .is-busy .ensures) (c .before .begin-write .ensures _ (s .pre .few-colours) (kept at)))
+    rw (c .before .before .before .if2 .taken) (c .step-of .ensures ∙ begun at beginWrite (c .before .before .is-busy .ensures) (c .before .begin-write .ensures (kept at)))
 
 returns-3 : tie.Need-returns-3
 returns-3 c =
     let at = c .before .before .before .before in
-    let s = start-of at in
-    rw (c .before .before .before .if2 .left) (c .step-of2 .ensures ∙ begun at beginRead (c .before .before .is-busy2 .ensures) (c .before .begin-read .ensures _ (s .pre .few-colours) (kept at)))
+    rw (c .before .before .before .if2 .left) (c .step-of2 .ensures ∙ begun at beginRead (c .before .before .is-busy2 .ensures) (c .before .begin-read .ensures (kept at)))
 
 pub plan-begin-spec : {M : Type 1} → statement M
 plan-begin-spec =

@@ -44,7 +44,7 @@ returns-2 c =
     ∙ planned-barred (a .board) (lent s) (first s) (a .frame) deviceRead refl none
     (c .before .before .is-busy .ensures ∙ ap (λ (r : FrameRecord). bars (r .busy) deviceRead) same)
     refl
-    (c .before .device-read .ensures _ (s .pre .few-colours) kept ∙ ap (stepped (a .board .colours) deviceRead) same)
+    (c .before .device-read .ensures kept ∙ ap (stepped (a .board .colours) deviceRead) same)
 
 pub plan-device-read-spec : {M : Type 1} → statement M
 plan-device-read-spec =

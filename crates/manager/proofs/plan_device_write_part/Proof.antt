@@ -69,14 +69,14 @@ returns-2 c =
     let at = c .before .before .before .before .before in
     let s = start-of at in
     rw (lt-ltb (s .args .number) (s .args .board .page) (c .before .before .before .if2 .taken))
-    (c .step-of .ensures ∙ sent at deviceWritePart (λ m. refl) (c .before .before .is-busy .ensures) (c .before .device-write-part .ensures _ (s .pre .few-colours) (kept at)))
+    (c .step-of .ensures ∙ sent at deviceWritePart (λ m. refl) (c .before .before .is-busy .ensures) (c .before .device-write-part .ensures (kept at)))
 
 returns-3 : tie.Need-returns-3
 returns-3 c =
     let at = c .before .before .before .before .before in
     let s = start-of at in
     rw (le-ltb (s .args .number) (s .args .board .page) (c .before .before .before .if2 .left))
-    (c .step-of2 .ensures ∙ sent at deviceWrite (λ m. refl) (c .before .before .is-busy2 .ensures) (c .before .device-write .ensures _ (s .pre .few-colours) (kept at)))
+    (c .step-of2 .ensures ∙ sent at deviceWrite (λ m. refl) (c .before .before .is-busy2 .ensures) (c .before .device-write .ensures (kept at)))
 
 pub plan-device-write-part-spec : {M : Type 1} → statement M
 plan-device-write-part-spec =

@@ -54,7 +54,7 @@ returns-2 c =
     ∙ planned-barred (a .board) (lent s) (first s) (listedMapping (a .list) (a .space) (a .page) .frame) (read (colourOf (a .board) (a .page))) refl none
     (c .before .before .bars-read .ensures (colourOf (a .board) (a .page)) ∙ ap (λ (r : FrameRecord). bars (r .busy) (read (colourOf (a .board) (a .page)))) same)
     frame
-    (c .before .read .ensures _ (s .pre .few-colours) (at-colour .colour-of .ensures .1) kept ∙ (λ i. stepped (a .board .colours) (read (at-colour .colour-of .ensures .0 i)) (same i)))
+    (c .before .read .ensures kept ∙ (λ i. stepped (a .board .colours) (read (at-colour .colour-of .ensures .0 i)) (same i)))
 
 pub plan-read-spec : {M : Type 1} → statement M
 plan-read-spec =

@@ -54,7 +54,7 @@ returns-2 c =
     ∙ planned-barred (a .board) (lent s) (first s) (listedMapping (a .list) (a .space) (a .page) .frame) (write (colourOf (a .board) (a .page))) refl none
     (c .before .before .is-busy .ensures ∙ ap (λ (r : FrameRecord). bars (r .busy) (write (colourOf (a .board) (a .page)))) same)
     frame
-    (c .before .write .ensures _ (s .pre .few-colours) (at-colour .colour-of .ensures .1) kept ∙ (λ i. stepped (a .board .colours) (write (at-colour .colour-of .ensures .0 i)) (same i)))
+    (c .before .write .ensures kept ∙ (λ i. stepped (a .board .colours) (write (at-colour .colour-of .ensures .0 i)) (same i)))
 
 pub plan-write-spec : {M : Type 1} → statement M
 plan-write-spec =

@@ -28,16 +28,23 @@ add-put-word-3 c = search needs
 put-word-requires-4 : tie.Need-put-word-requires-4
 put-word-requires-4 c κs = search needs
 
+add-put-word-4 : tie.Need-add-put-word-4
+add-put-word-4 c = search needs
+
+put-word-requires-5 : tie.Need-put-word-requires-5
+put-word-requires-5 c κs = search needs
+
 same-length : tie.Need-same-length
 same-length c = search needs
 
 returns : tie.Need-returns
 unfolding putRecord
 returns c =
-    let after-put-word3 = c .before .before .before .before .before .before in
+    let after-put-word4 = c .before .before .before .before .before .before in
+    let after-put-word3 = after-put-word4 .before .before .before .before in
     let after-put-word2 = after-put-word3 .before .before .before .before in
     let after-put-word = after-put-word2 .before .before .before .before in
-    rw (c .before .before .put-word4 .ensures, after-put-word3 .put-word3 .ensures, after-put-word2 .put-word2 .ensures, after-put-word .put-word .ensures)
+    rw (c .before .before .put-word5 .ensures, after-put-word4 .put-word4 .ensures, after-put-word3 .put-word3 .ensures, after-put-word2 .put-word2 .ensures, after-put-word .put-word .ensures)
 
 pub put-record-spec : {M : Type 1} → statement M
 put-record-spec =
@@ -51,5 +58,7 @@ put-record-spec =
     put-word-requires-3
     add-put-word-3
     put-word-requires-4
+    add-put-word-4
+    put-word-requires-5
     same-length
     returns)

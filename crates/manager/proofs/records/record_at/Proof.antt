@@ -12,8 +12,9 @@ returns c = refl
 returns-2 : tie.Need-returns-2
 unfolding recordAt
 returns-2 c =
-    let at-dirty = c .before in
-    rw (c .word-at4 .ensures, at-dirty .word-at3 .ensures, at-dirty .before .word-at2 .ensures, at-dirty .before .before .word-at .ensures)
+    let at-busy = c .before in
+    let at-dirty = at-busy .before in
+    rw (c .word-at5 .ensures, at-busy .word-at4 .ensures, at-dirty .word-at3 .ensures, at-dirty .before .word-at2 .ensures, at-dirty .before .before .word-at .ensures)
 
 pub record-at-spec : {M : Type 1} → statement M
 record-at-spec =
@@ -32,7 +33,12 @@ record-at-spec =
     (λ c. search needs)
     (λ c. search needs)
     (λ c. search needs)
+    (λ c. search needs)
+    (λ c. search needs)
+    (λ c. search needs)
     returns
+    (λ c κs. search needs)
+    (λ c. search needs)
     (λ c κs. search needs)
     (λ c. search needs)
     (λ c κs. search needs)

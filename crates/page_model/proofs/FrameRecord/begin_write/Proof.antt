@@ -5,4 +5,4 @@ use Rattle.page_model.proofs.FrameRecord.begin_write.Statement.{stateme
 use Rattle.page_model.proofs.FrameRecord.begin_write.Tie as tie
 
 pub begin-write-spec : {M : Type 1} → statement M
-begin-write-spec = tie.close (tie.spec (λ c κs. search needs) (λ c n few. c .step .ensures n _ few refl refl (search needs)))
+begin-write-spec = tie.close (tie.spec (λ c κs. search needs) (λ c. c .step .ensures _ refl refl (search needs)))

@@ -5,4 +5,4 @@ use Rattle.page_model.proofs.FrameRecord.device_read.Statement.{stateme
 use Rattle.page_model.proofs.FrameRecord.device_read.Tie as tie
 
 pub device-read-spec : {M : Type 1} → statement M
-device-read-spec = tie.close (tie.spec (λ c κs. search needs) (λ c n few. c .step .ensures n _ few refl refl (search needs)))
+device-read-spec = tie.close (tie.spec (λ c κs. search needs) (λ c. c .step .ensures _ refl refl (search needs)))

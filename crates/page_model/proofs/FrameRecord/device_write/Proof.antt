@@ -5,4 +5,4 @@ use Rattle.page_model.proofs.FrameRecord.device_write.Statement.{statem
 use Rattle.page_model.proofs.FrameRecord.device_write.Tie as tie
 
 pub device-write-spec : {M : Type 1} → statement M
-device-write-spec = tie.close (tie.spec (λ c κs. search needs) (λ c n few. c .step .ensures n _ few refl refl (search needs)))
+device-write-spec = tie.close (tie.spec (λ c κs. search needs) (λ c. c .step .ensures _ refl refl (search needs)))

@@ -5,4 +5,4 @@ use Rattle.page_model.proofs.FrameRecord.device_write_part.Statement.{s
 use Rattle.page_model.proofs.FrameRecord.device_write_part.Tie as tie
 
 pub device-write-part-spec : {M : Type 1} → statement M
-device-write-part-spec = tie.close (tie.spec (λ c κs. search needs) (λ c n few. c .step .ensures n _ few refl refl (search needs)))
+device-write-part-spec = tie.close (tie.spec (λ c κs. search needs) (λ c. c .step .ensures _ refl refl (search needs)))

@@ -1,29 +1,41 @@
 -- `page_model::FrameRecord::keeps_rules` meets its contract.
-use mathlib.Core.Path.{_≡_, sym, ap, _∙_}
-use mathlib.Core.Bool.{Bool, true, false, _&&_, and-false, and-true}
+use mathlib.Core.Path.{_≡_, refl, sym, ap, _∙_}
+use mathlib.Core.Bool.{Bool, true, false, _&&_, and-false}
 use Prim.Native.Nat.{ℕ}
 use borrow.Author.Needs.{needs}
 use borrow.Author.Tests.{not-true, not-false}
+use lib.Dec.{eqb}
+use Rattle.bits.specs.Mask.{width}
 use Rattle.page_model.specs.declared.FrameRecord.{FrameRecord}
-use Rattle.page_model.specs.Record.{coloursKeepRules, markFits, keepsRules}
+use Rattle.page_model.specs.Record.{coloursKeepRules, markFits, dirtyColourOf, keepsRules}
+use Rattle.page_model.proofs.Rules.{told-colour}
 use Rattle.page_model.proofs.FrameRecord.keeps_rules.Statement.{statement}
 use Rattle.page_model.proofs.FrameRecord.keeps_rules.Tie as tie
 
--- where the mark does not fit, and where it does
-broken : (n : ℕ) (r : FrameRecord) → markFits (r .busy) (r .dirty) (r .held) ≡ false → false ≡ keepsRules n r
+-- the rules as the three parts that are tested in turn
+rules-are : (n : ℕ) (r : FrameRecord) {colours mark : Bool} → coloursKeepRules n r ≡ colours → markFits (r .busy) (r .dirty) (r .held) ≡ mark
+    → (colours && mark && eqb (r .owner) (dirtyColourOf n r)) ≡ keepsRules n r
 unfolding keepsRules
-broken n r e = sym (ap (λ (b : Bool). coloursKeepRules n r && b) e ∙ and-false (coloursKeepRules n r))
+rules-are n r ec em = λ i. sym ec i && sym em i && eqb (r .owner) (dirtyColourOf n r)
 
-fitting : (n : ℕ) (r : FrameRecord) → markFits (r .busy) (r .dirty) (r .held) ≡ true → coloursKeepRules n r ≡ keepsRules n r
-unfolding keepsRules
-fitting n r e = sym (ap (λ (b : Bool). coloursKeepRules n r && b) e ∙ and-true (coloursKeepRules n r))
+returns : tie.Need-returns
+returns c =
+    let a = c .before .before .args in
+    let n = a .colours in
+    ap (λ (b : Bool). b && eqb (a .self .owner) (dirtyColourOf n (a .self))) (sym (and-false (coloursKeepRules n (a .self))))
+    ∙ rules-are n (a .self) refl (sym (c .before .mark-fits .ensures) ∙ not-true _ (c .if1 .taken))
+
+returns-2 : tie.Need-returns-2
+returns-2 c = let a = c .before .before .before .before .args in rules-are (a .colours) (a .self) (sym (c .before .colours-keep-rules .ensures) ∙ not-true _ (c .if2 .taken)) refl
+
+returns-3 : tie.Need-returns-3
+returns-3 c =
+    let at-colours = c .before .before .before in
+    let at-mark = at-colours .before .before in
+    let a = at-mark .before .args in
+    let colours = sym (at-colours .colours-keep-rules .ensures) ∙ not-false _ (c .before .before .if2 .left) in
+    let mark = sym (at-mark .mark-fits .ensures) ∙ not-false _ (at-colours .before .if1 .left) in
+    ap (eqb (a .self .owner)) (c .before .told-colour .ensures ∙ told-colour (a .colours) width (a .self) (at-mark .before .pre) colours) ∙ rules-are (a .colours) (a .self) colours mark
 
 pub keeps-rules-spec : {M : Type 1} → statement M
-keeps-rules-spec =
-    tie.close
-    (tie.spec
-    (λ c κs. search needs)
-    (λ c. let a = c .before .before .args in broken (a .colours) (a .self) (sym (c .before .mark-fits .ensures) ∙ not-true _ (c .if1 .taken)))
-    (λ c κs. search needs)
-    (λ c. let a = c .before .before .before .args in
-    c .colours-keep-rules .ensures ∙ fitting (a .colours) (a .self) (sym (c .before .before .mark-fits .ensures) ∙ not-false _ (c .before .if1 .left))))
+keeps-rules-spec = tie.close (tie.spec (λ c κs. search needs) returns (λ c κs. search needs) returns-2 (λ c κs. search needs) returns-3)

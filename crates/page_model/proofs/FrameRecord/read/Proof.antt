@@ -5,4 +5,4 @@ use Rattle.page_model.proofs.FrameRecord.read.Statement.{statement}
 use Rattle.page_model.proofs.FrameRecord.read.Tie as tie
 
 pub read-spec : {M : Type 1} → statement M
-read-spec = tie.close (tie.spec (λ c κs. search needs) (λ c n few lc. c .step .ensures n _ few refl refl lc))
+read-spec = tie.close (tie.spec (λ c κs. search needs) (λ c. c .step .ensures _ refl refl (c .before .pre .1)))

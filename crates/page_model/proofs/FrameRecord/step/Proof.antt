@@ -1,66 +1,60 @@
--- `page_model::FrameRecord::step` meets its contract. The loop's invariant: record and masks so far are those that the step has made of the
--- colours below k.
-use mathlib.Core.Path.{_≡_, ap, _∙_}
-use Prim.Native.Nat.{ℕ, _≤_, _-_}
-use native.Mathlib.Omega.{arith}
-use native.Mathlib.Numerals.{add-one}
+-- `page_model::FrameRecord::step` meets its contract.
+use mathlib.Core.Path.{ap, ap₂, _∙_}
+use mathlib.Core.Bool.{true, false, cond}
+use Prim.Native.Nat.{ℕ}
 use borrow.Author.Needs.{needs}
+use lib.Bits.{bitOr}
 use lib.Dec.{eqb}
-use Rattle.bits.specs.Mask.{width}
-use Rattle.page_model.specs.Cases.{stepNumber, caseAt, markAt}
-use Rattle.page_model.specs.Table.{Step, ownOf}
+use Rattle.bits.specs.Mask.{withoutBit}
+use Rattle.page_model.specs.declared.Op.the-variants.{None}
+use Rattle.page_model.specs.Cases.{stateNumber, stepNumber, caseAt, markAt, operationAt, withState}
+use Rattle.page_model.specs.Record.{stateOf}
 use Rattle.page_model.proofs.Rules.{keeps}
-use Rattle.page_model.proofs.Colours.{mark-number, Made, made-none, made-more, made-all}
+use Rattle.page_model.proofs.Colours.{case-cell, mark-number, step-is}
 use Rattle.page_model.proofs.FrameRecord.step.Statement.{statement}
 use Rattle.page_model.proofs.FrameRecord.step.Tie as tie
 
-abbrev Inv-loop : tie.InvT-loop
-Inv-loop self step colour next₀ flushes₀ purges₀ k₀ next flushes purges k =
-    (k ≤ width) × ((s : Step) → step ≡ stepNumber s → colour ≡ ownOf s → Made s self k next flushes purges)
-
-abbrev μ-loop : tie.MeasureT-loop
-μ-loop self step colour next₀ flushes₀ purges₀ k₀ next flushes purges k = width - k
-
-loop-again : tie.Need-loop-again Inv-loop μ-loop
-loop-again c =
-    let at-flush = c .before .before .before in
-    let at-case = at-flush .before .before in
-    let at-loop = at-case .before .before .before in
-    let k = at-loop .loop .k in (
-      omega arith,
-      λ s step own.
-          let case = at-case .case-at .ensures ∙ (λ i. caseAt (step i) (eqb (own i) k) (at-case .before .state .ensures i)) in
-          rw (add-one, at-flush .including .ensures, c .before .including2 .ensures, c .with-state .ensures) (made-more s (at-loop .before .before .args .self) k (at-loop .loop .inv .1 s step own) case),
-    )
-
-returns : tie.Need-returns Inv-loop μ-loop
-returns c n s few step own reaches rules =
-    let at-purge = c .before in
-    let at-flush = at-purge .before .before in
-    let at-loop = at-flush .before .before .before in
-    let all : at-loop .loop .k ≡ width = omega arith in
-    rw
-    (c .first-two .ensures, at-purge .if-any2 .ensures, at-purge .before .first-of2 .ensures, at-flush .if-any .ensures, at-flush .before .first-of .ensures)
-    (made-all n _ (keeps n _ rules) width s few reaches (rw all at (at-loop .loop .inv .1 s step own)))
+returns : tie.Need-returns
+returns c s step own reaches rules =
+    let at-operation = c .before in
+    let at-elsewhere = at-operation .before in
+    let at-next = at-elsewhere .before .before in
+    let at-mark = at-next .before in
+    let at-stale = at-mark .before in
+    let at-held = at-stale .before .before in
+    let at-masks = at-held .before .before in
+    let at-others = at-masks .before .before in
+    let at-own = at-others .before .before in
+    let a = at-own .before .before .args in
+    let own-case = at-own .case-at .ensures ∙ (λ i. caseAt (step i) true ((at-own .before .state .ensures ∙ ap (λ (k : ℕ). stateNumber (stateOf (a .self) k)) own) i)) ∙ case-cell (stepNumber s) true _ in
+    let others-case = at-others .case-at2 .ensures ∙ (λ i. caseAt (step i) false (at-others .before .held-state .ensures i)) ∙ case-cell (stepNumber s) false _ in
+    let held = at-masks .before .without-bit .ensures ∙ ap (withoutBit (a .self .held)) own in
+    let stale = at-masks .without-bit2 .ensures ∙ ap (withoutBit (a .self .stale)) own in
+    let held-rest = at-held .if-picked .ensures ∙ (λ i. cond (eqb (others-case i .1) 1) (held i) 0) in
+    let stale-rest = ap₂ bitOr stale (at-stale .if-picked2 .ensures ∙ (λ i. cond (eqb (others-case i .1) 3) (held i) 0)) in
+    let mark = at-mark .mark-at .ensures ∙ ap (λ (k : ℕ). markAt k (a .self .busy)) step ∙ mark-number s (a .self .busy) in
+    rw (c .first-two .ensures)
+    (step-is (a .colours) (a .self) (keeps _ _ rules) s reaches
+    (at-next .with-state .ensures ∙ (λ i. withState (record { held = held-rest i; stale = stale-rest i; dirty = 0; busy = mark i; owner = a .colours }) (own i) (own-case i .1)))
+    (at-elsewhere .elsewhere .ensures ∙ (λ i. cond (eqb (a .self .owner) (own i)) None (operationAt (others-case i .0) (a .self .owner))))
+    (at-operation .operation .ensures ∙ (λ i. operationAt (own-case i .0) (own i))))
 
 pub step-spec : {M : Type 1} → statement M
 step-spec =
     tie.close
     (tie.spec
-    Inv-loop
-    μ-loop
-    (λ c κs. search needs)
-    (λ c. (omega arith, λ s e f. made-none s _ (c .mark-at .ensures ∙ ap (λ (k : ℕ). markAt k (c .before .args .self .busy)) e ∙ mark-number s _)))
     (λ c κs. search needs)
     (λ c κs. search needs)
     (λ c κs. search needs)
     (λ c κs. search needs)
     (λ c κs. search needs)
-    (λ c. omega arith)
-    (λ c. omega arith)
-    loop-again
     (λ c κs. search needs)
     (λ c κs. search needs)
+    (λ c κs. search needs)
+    (λ c κs. search needs)
+    (λ c. search needs)
+    (λ c κs. search needs)
+    (λ c. search needs)
     (λ c κs. search needs)
     (λ c κs. search needs)
     (λ c κs. search needs)

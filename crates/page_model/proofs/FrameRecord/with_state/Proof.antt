@@ -18,6 +18,7 @@ with-state-spec =
     (tie.spec
     (λ c κs. search needs)
     (λ c κs. search needs)
+    (λ c. search needs)
     (λ c κs. search needs)
     (λ c. rw (c .match .keys1))
     (λ c. rw (c .with-bit .ensures, c .before .match .keys2))

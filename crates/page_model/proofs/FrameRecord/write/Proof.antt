@@ -5,4 +5,4 @@ use Rattle.page_model.proofs.FrameRecord.write.Statement.{statement}
 use Rattle.page_model.proofs.FrameRecord.write.Tie as tie
 
 pub write-spec : {M : Type 1} → statement M
-write-spec = tie.close (tie.spec (λ c κs. search needs) (λ c n few lc. c .step .ensures n _ few refl refl lc))
+write-spec = tie.close (tie.spec (λ c κs. search needs) (λ c. c .step .ensures _ refl refl (c .before .pre .1)))
