@@ -29,23 +29,23 @@ module _ (rs : List ℕ) (f : ℕ) (r : FrameRecord) where
       let three = set two (a + 2) (r .dirty) in
       let four = set three (a + 3) (r .busy) in
       let held =
-      getD-set-other four (a + 4) a (r .owner) 0 (omega arith)
+      getD-set-other four (a + 4) a (r .«dirty_colour») 0 (omega arith)
       ∙ getD-set-other three (a + 3) a (r .busy) 0 (omega arith)
       ∙ getD-set-other two (a + 2) a (r .dirty) 0 (omega arith)
       ∙ getD-set-other one (a + 1) a (r .stale) 0 (omega arith)
       ∙ getD-set-same rs a (r .held) 0 (omega arith) in
       let stale =
-      getD-set-other four (a + 4) (a + 1) (r .owner) 0 (omega arith)
+      getD-set-other four (a + 4) (a + 1) (r .«dirty_colour») 0 (omega arith)
       ∙ getD-set-other three (a + 3) (a + 1) (r .busy) 0 (omega arith)
       ∙ getD-set-other two (a + 2) (a + 1) (r .dirty) 0 (omega arith)
       ∙ getD-set-same one (a + 1) (r .stale) 0 (simp length-set (omega arith)) in
       let dirty =
-      getD-set-other four (a + 4) (a + 2) (r .owner) 0 (omega arith)
+      getD-set-other four (a + 4) (a + 2) (r .«dirty_colour») 0 (omega arith)
       ∙ getD-set-other three (a + 3) (a + 2) (r .busy) 0 (omega arith)
       ∙ getD-set-same two (a + 2) (r .dirty) 0 (simp length-set (omega arith)) in
-      let busy = getD-set-other four (a + 4) (a + 3) (r .owner) 0 (omega arith) ∙ getD-set-same three (a + 3) (r .busy) 0 (simp length-set (omega arith)) in
-      let owner = getD-set-same four (a + 4) (r .owner) 0 (simp length-set (omega arith)) in
-      rw (held, stale, dirty, busy, owner)
+      let busy = getD-set-other four (a + 4) (a + 3) (r .«dirty_colour») 0 (omega arith) ∙ getD-set-same three (a + 3) (r .busy) 0 (simp length-set (omega arith)) in
+      let colour = getD-set-same four (a + 4) (r .«dirty_colour») 0 (simp length-set (omega arith)) in
+      rw (held, stale, dirty, busy, colour)
 
   -- a word that is none of the record's
   word-other : (i : ℕ) → i ≢ f * recordWords → i ≢ f * recordWords + 1 → i ≢ f * recordWords + 2 → i ≢ f * recordWords + 3 → i ≢ f * recordWords + 4
@@ -97,8 +97,8 @@ recordAt-start (suc frames) n (suc f) h =
     let stale = word-later frames n (a + 1) (b + 1) (omega arith) in
     let dirty = word-later frames n (a + 2) (b + 2) (omega arith) in
     let busy = word-later frames n (a + 3) (b + 3) (omega arith) in
-    let owner = word-later frames n (a + 4) (b + 4) (omega arith) in
-    rw (held, stale, dirty, busy, owner) (recordAt-start frames n f (omega arith))
+    let colour = word-later frames n (a + 4) (b + 4) (omega arith) in
+    rw (held, stale, dirty, busy, colour) (recordAt-start frames n f (omega arith))
 
 -- and each word is what its place tells
 pub start-words : (frames n : ℕ) → tabulate (frames * recordWords) (startWord n) ≡ startRecords frames n

@@ -27,7 +27,7 @@ tables l rs ps = record { list = l; records = rs; protections = ps }
 
 -- ---- frame records, one after the other
 
--- the words of a record: held, stale, dirty, busy, owner
+-- the words of a record: held, stale, dirty, busy, dirty colour
 abbrev pub recordWords : ℕ
 recordWords = 5
 
@@ -38,7 +38,7 @@ recordAt rs f =
       stale = getD rs (f * recordWords + 1) 0;
       dirty = getD rs (f * recordWords + 2) 0;
       busy = getD rs (f * recordWords + 3) 0;
-      owner = getD rs (f * recordWords + 4) 0;
+      «dirty_colour» = getD rs (f * recordWords + 4) 0;
     }
 
 unfoldable pub putRecord : List ℕ → ℕ → FrameRecord → List ℕ
@@ -46,7 +46,7 @@ putRecord rs f r =
     set
     (set (set (set (set rs (f * recordWords) (r .held)) (f * recordWords + 1) (r .stale)) (f * recordWords + 2) (r .dirty)) (f * recordWords + 3) (r .busy))
     (f * recordWords + 4)
-    (r .owner)
+    (r .«dirty_colour»)
 
 -- the records of so many frames at the start, where there are n colours: nothing is cached, and none is dirty
 unfoldable pub startRecords : ℕ → ℕ → List ℕ

@@ -9,7 +9,7 @@ use mapping::Mapping;
 use mapping::MappingList;
 use page_model::FrameRecord;
 
-// The words of a record: held, stale, dirty, busy, owner.
+// The words of a record: held, stale, dirty, busy, dirty colour.
 pub const RECORD_WORDS: usize = 5;
 
 // The word at a place, 0 past the end.
@@ -39,7 +39,7 @@ pub fn record_at(records: &[u32], frame: u8) -> FrameRecord
             stale: records[at + 1],
             dirty: records[at + 2],
             busy: records[at + 3],
-            owner: records[at + 4],
+            dirty_colour: records[at + 4],
         };
     }
     FrameRecord {
@@ -47,7 +47,7 @@ pub fn record_at(records: &[u32], frame: u8) -> FrameRecord
         stale: word_at(records, at + 1),
         dirty: word_at(records, at + 2),
         busy: word_at(records, at + 3),
-        owner: word_at(records, at + 4),
+        dirty_colour: word_at(records, at + 4),
     }
 }
 
@@ -60,7 +60,7 @@ pub fn put_record(records: &mut [u32], frame: u8, record: FrameRecord)
     put_word(records, at + 1, record.stale);
     put_word(records, at + 2, record.dirty);
     put_word(records, at + 3, record.busy);
-    put_word(records, at + 4, record.owner);
+    put_word(records, at + 4, record.dirty_colour);
 }
 
 // Makes every record that of the start: nothing cached, and no dirty colour.

@@ -12,7 +12,7 @@ use Rattle.page_model.specs.Record.{stateOf, keepsRules, isHeld, isDirty
 use Rattle.page_model.specs.Busy.{free, bars, markAfter}
 use Rattle.page_model.specs.Step.{cellOf, recordAfter}
 use Rattle.page_model.specs.Table.{ColourState, Step, read, write, deviceRead, deviceWrite, deviceWritePart, beginRead, beginWrite}
-use Rattle.page_model.specs.Theorems.{StepKeepsRules, StateAfter, OneOwner, MarkFits}
+use Rattle.page_model.specs.Theorems.{StepKeepsRules, StateAfter, OneDirty, MarkFits}
 use Rattle.page_model.proofs.Rules.{Keeps, keeps, flag}
 use Rattle.page_model.proofs.Cells.{Agree, apart, stateTest, nextTest, at-law, kept-next}
 use Rattle.page_model.proofs.Encoding.{kept-mark, decode-encode}
@@ -23,24 +23,24 @@ own-left false true z e = ap not (sym z) ∙ e
 own-left false false z e = e
 
 -- a step that leaves no colour dirty
-no-owner : (n : ℕ) (step : Step) (r : FrameRecord) → Keeps n r → Agree apart (λ o s h d. false) (nextTest step isDirty) → OneOwner n (λ k. cellOf step r k .next)
-no-owner n step r kr e j k lj lk ej ek = absurd (false≢true (kept-next n r kr step isDirty (λ o s h d. false) e j lj ∙ ap isDirty ej))
+no-dirty : (n : ℕ) (step : Step) (r : FrameRecord) → Keeps n r → Agree apart (λ o s h d. false) (nextTest step isDirty) → OneDirty n (λ k. cellOf step r k .next)
+no-dirty n step r kr e j k lj lk ej ek = absurd (false≢true (kept-next n r kr step isDirty (λ o s h d. false) e j lj ∙ ap isDirty ej))
 
 -- after a step of a record that keeps the rules, a dirty colour is the only one held
-one-owner : (n : ℕ) (step : Step) (r : FrameRecord) → Keeps n r → OneOwner n (λ k. cellOf step r k .next)
-one-owner n (read c) r kr j k lj lk ej ek =
+one-dirty : (n : ℕ) (step : Step) (r : FrameRecord) → Keeps n r → OneDirty n (λ k. cellOf step r k .next)
+one-dirty n (read c) r kr j k lj lk ej ek =
     let next = kept-next n r kr (read c) in
     let dj : (eqb c j && (bit (r .held) j && flag r)) ≡ true = next isDirty (λ o s h d. o && (h && d)) refl j lj ∙ ap isDirty ej in
     let hk : (eqb c k || bit (r .held) k && not (flag r)) ≡ true = next isHeld (λ o s h d. o || h && not d) refl k lk ∙ ek in
     sym (eqb-true c j (and-left _ _ dj)) ∙ eqb-true c k (own-left _ (bit (r .held) k) (and-right (bit (r .held) j) _ (and-right (eqb c j) _ dj)) hk)
-one-owner n (write c) r kr j k lj lk ej ek =
+one-dirty n (write c) r kr j k lj lk ej ek =
     let next = kept-next n r kr (write c) in
     sym (eqb-true c j (next isDirty (λ o s h d. o) refl j lj ∙ ap isDirty ej)) ∙ eqb-true c k (next isHeld (λ o s h d. o) refl k lk ∙ ek)
-one-owner n deviceRead r kr j k lj lk ej ek = no-owner n deviceRead r kr refl j k lj lk ej ek
-one-owner n deviceWrite r kr j k lj lk ej ek = no-owner n deviceWrite r kr refl j k lj lk ej ek
-one-owner n deviceWritePart r kr j k lj lk ej ek = no-owner n deviceWritePart r kr refl j k lj lk ej ek
-one-owner n beginRead r kr j k lj lk ej ek = no-owner n beginRead r kr refl j k lj lk ej ek
-one-owner n beginWrite r kr j k lj lk ej ek = no-owner n beginWrite r kr refl j k lj lk ej ek
+one-dirty n deviceRead r kr j k lj lk ej ek = no-dirty n deviceRead r kr refl j k lj lk ej ek
+one-dirty n deviceWrite r kr j k lj lk ej ek = no-dirty n deviceWrite r kr refl j k lj lk ej ek
+one-dirty n deviceWritePart r kr j k lj lk ej ek = no-dirty n deviceWritePart r kr refl j k lj lk ej ek
+one-dirty n beginRead r kr j k lj lk ej ek = no-dirty n beginRead r kr refl j k lj lk ej ek
+one-dirty n beginWrite r kr j k lj lk ej ek = no-dirty n beginWrite r kr refl j k lj lk ej ek
 
 -- ---- the mark after a step
 
@@ -88,8 +88,8 @@ mark-after n beginWrite r e f =
 pub step-keeps-rules : StepKeepsRules
 unfolding recordAfter
 step-keeps-rules n step r e f =
-    decode-encode n (markAfter step (r .busy)) (λ k. cellOf step r k .next) (one-owner n step r (keeps n r e)) .0 (mark-after n step r e f)
+    decode-encode n (markAfter step (r .busy)) (λ k. cellOf step r k .next) (one-dirty n step r (keeps n r e)) .0 (mark-after n step r e f)
 
 pub state-after : StateAfter
 unfolding recordAfter
-state-after n step r e = decode-encode n (markAfter step (r .busy)) (λ k. cellOf step r k .next) (one-owner n step r (keeps n r e)) .1
+state-after n step r e = decode-encode n (markAfter step (r .busy)) (λ k. cellOf step r k .next) (one-dirty n step r (keeps n r e)) .1

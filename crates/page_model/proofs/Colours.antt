@@ -112,8 +112,8 @@ with-if-lt n false m c l lc = l
 
 -- a colour put in a state where none is dirty
 put : (h t k mark n : ℕ) (state : ColourState)
-    → withState (record { held = h; stale = t; dirty = 0; busy = mark; owner = n }) k (stateNumber state)
-    ≡ record { held = cond (isHeld state) (withBit h k) h; stale = cond (isStale state) (withBit t k) t; dirty = digit (isDirty state); busy = mark; owner = cond (isDirty state) k n }
+    → withState (record { held = h; stale = t; dirty = 0; busy = mark; «dirty_colour» = n }) k (stateNumber state)
+    ≡ record { held = cond (isHeld state) (withBit h k) h; stale = cond (isStale state) (withBit t k) t; dirty = digit (isDirty state); busy = mark; «dirty_colour» = cond (isDirty state) k n }
 put h t k mark n empty = refl
 put h t k mark n present = refl
 put h t k mark n dirty = refl
@@ -133,7 +133,7 @@ past-own n r kr deviceWritePart t l = rw (past-state n r kr 0 l)
 past-own n r kr beginRead t l = rw (past-state n r kr 0 l)
 past-own n r kr beginWrite t l = rw (past-state n r kr 0 l)
 
--- ---- its operations, on the owner and on the own colour
+-- ---- its operations, on the dirty colour and on the own colour
 
 -- two operations in order: no purge before another, and no two flushes
 abbrev inOrder : Operation → Operation → Bool
@@ -259,7 +259,7 @@ module _ (n : ℕ) (r : FrameRecord) (kr : Keeps n r) (s : Step) (reaches : reac
   unfolding stateOf
   dirty-is k l = sym (kept-next n r kr s isDirty (dirtyAfter (stepNumber s)) (dirty-after s) k l) ∙ sym (at-own (λ x. isDirty (x .next)) k)
 
-  pub step-record : withState (record { held = heldRest; stale = staleRest; dirty = 0; busy = markAfter s (r .busy); owner = n }) c (stateNumber (ownNow .next)) ≡ recordAfter n s r
+  pub step-record : withState (record { held = heldRest; stale = staleRest; dirty = 0; busy = markAfter s (r .busy); «dirty_colour» = n }) c (stateNumber (ownNow .next)) ≡ recordAfter n s r
   step-record =
       let dirty-below = own-below (λ x. isDirty (x .next)) refl in
       put heldRest staleRest c (markAfter s (r .busy)) n (ownNow .next)
@@ -272,58 +272,58 @@ module _ (n : ℕ) (r : FrameRecord) (kr : Keeps n r) (s : Step) (reaches : reac
       refl
       (sym (first-one n c (isDirty (ownNow .next)) _ dirty-below dirty-is))
 
-  -- the operation on the owner, if that is not the own colour
-  abbrev onOwner : Operation
-  onOwner = cond (flag r && not (eqb (r .owner) c)) (othersNow .operation) none
+  -- the operation on the dirty colour, if that is not the own colour
+  abbrev onDirty : Operation
+  onDirty = cond (flag r && not (eqb (r .«dirty_colour») c)) (othersNow .operation) none
 
-  on-owner : cond (eqb (r .owner) c) None (operationAt (operationNumber (othersNow .operation)) (r .owner)) ≡ operationAt (operationNumber onOwner) (r .owner)
-  on-owner = go (flag r) (eqb (r .owner) c)
+  on-dirty : cond (eqb (r .«dirty_colour») c) None (operationAt (operationNumber (othersNow .operation)) (r .«dirty_colour»)) ≡ operationAt (operationNumber onDirty) (r .«dirty_colour»)
+  on-dirty = go (flag r) (eqb (r .«dirty_colour») c)
     where
-      go : (b q : Bool) → cond q None (operationAt (operationNumber (othersCell (stepNumber s) b .operation)) (r .owner))
-          ≡ operationAt (operationNumber (cond (b && not q) (othersCell (stepNumber s) b .operation) none)) (r .owner)
+      go : (b q : Bool) → cond q None (operationAt (operationNumber (othersCell (stepNumber s) b .operation)) (r .«dirty_colour»))
+          ≡ operationAt (operationNumber (cond (b && not q) (othersCell (stepNumber s) b .operation) none)) (r .«dirty_colour»)
       go true true = refl
       go true false = refl
       go false true = refl
       go false false = rw (none-elsewhere s)
 
-  owner-below : not (isNone onOwner) ≡ true → r .owner < n
-  owner-below = go (flag r) refl
+  dirty-colour-below : not (isNone onDirty) ≡ true → r .«dirty_colour» < n
+  dirty-colour-below = go (flag r) refl
     where
-      go : (b : Bool) → flag r ≡ b → not (isNone (cond (b && not (eqb (r .owner) c)) (othersNow .operation) none)) ≡ true → r .owner < n
+      go : (b : Bool) → flag r ≡ b → not (isNone (cond (b && not (eqb (r .«dirty_colour») c)) (othersNow .operation) none)) ≡ true → r .«dirty_colour» < n
       go true z e = dirty-only n r kr z .0
       go false z e = absurd (false≢true e)
 
-  in-order : inOrder onOwner (ownNow .operation) ≡ true
+  in-order : inOrder onDirty (ownNow .operation) ≡ true
   unfolding stateOf
   in-order = go (flag r) refl
     where
-      go : (b : Bool) → flag r ≡ b → inOrder (cond (b && not (eqb (r .owner) c)) (othersCell (stepNumber s) b .operation) none) (ownCell (stepNumber s) (stateFrom (bit (r .stale) c) (bit (r .held) c) b) .operation) ≡ true
+      go : (b : Bool) → flag r ≡ b → inOrder (cond (b && not (eqb (r .«dirty_colour») c)) (othersCell (stepNumber s) b .operation) none) (ownCell (stepNumber s) (stateFrom (bit (r .stale) c) (bit (r .held) c) b) .operation) ≡ true
       go true z =
-          let own-held : bit (r .held) c ≡ eqb (r .owner) c = ap (λ (m : ℕ). bit m c) (dirty-only n r kr z .1) ∙ bit-one (r .owner) c in
+          let own-held : bit (r .held) c ≡ eqb (r .«dirty_colour») c = ap (λ (m : ℕ). bit m c) (dirty-only n r kr z .1) ∙ bit-one (r .«dirty_colour») c in
           rw (← own-held) (orderly s (bit (r .stale) c) (bit (r .held) c) true)
       go false z = orderly s (bit (r .stale) c) (bit (r .held) c) false
 
   picks : (f : Operation → Bool) → f none ≡ false → Agree apart (operationAfter f (stepNumber s)) (operationTest s f)
-      → (k : ℕ) → k < n → f (cellOf s r k .operation) ≡ (f onOwner && eqb (r .owner) k || f (ownNow .operation) && eqb c k)
+      → (k : ℕ) → k < n → f (cellOf s r k .operation) ≡ (f onDirty && eqb (r .«dirty_colour») k || f (ownNow .operation) && eqb c k)
   unfolding stateOf
   picks f z agree k l =
       sym (kept-operation n r kr s f (operationAfter f (stepNumber s)) agree k l)
       ∙ ap₂ _||_ (ap (λ (b : Bool). f (othersNow .operation) && (b && not (eqb c k))) (dirty-at n r kr k) ∙ go (flag r) (othersNow .operation)) (sym (at-own (λ x. f (x .operation)) k))
     where
-      go : (b : Bool) (a : Operation) → (f a && ((b && eqb (r .owner) k) && not (eqb c k))) ≡ (f (cond (b && not (eqb (r .owner) c)) a none) && eqb (r .owner) k)
-      go true a = not-own f z a (r .owner) c k
+      go : (b : Bool) (a : Operation) → (f a && ((b && eqb (r .«dirty_colour») k) && not (eqb c k))) ≡ (f (cond (b && not (eqb (r .«dirty_colour») c)) a none) && eqb (r .«dirty_colour») k)
+      go true a = not-own f z a (r .«dirty_colour») c k
       go false a = rw (and-false (f a), z)
 
-  step-operations : opList (cond (eqb (r .owner) c) None (operationAt (operationNumber (othersNow .operation)) (r .owner))) ++ opList (operationAt (operationNumber (ownNow .operation)) c) ≡ operations n s r
+  step-operations : opList (cond (eqb (r .«dirty_colour») c) None (operationAt (operationNumber (othersNow .operation)) (r .«dirty_colour»))) ++ opList (operationAt (operationNumber (ownNow .operation)) c) ≡ operations n s r
   unfolding operations
   step-operations =
-      ap (λ (a : Op). opList a ++ opList (operationAt (operationNumber (ownNow .operation)) c)) on-owner
-      ∙ two-places n (r .owner) c onOwner (ownNow .operation) _ _ in-order owner-below (own-below (λ x. not (isNone (x .operation))) refl)
+      ap (λ (a : Op). opList a ++ opList (operationAt (operationNumber (ownNow .operation)) c)) on-dirty
+      ∙ two-places n (r .«dirty_colour») c onDirty (ownNow .operation) _ _ in-order dirty-colour-below (own-below (λ x. not (isNone (x .operation))) refl)
       (picks isFlush refl (flush-after s)) (picks isPurge refl (purge-after s))
 
   pub step-is : {next : FrameRecord} {first second : Op}
-      → next ≡ withState (record { held = heldRest; stale = staleRest; dirty = 0; busy = markAfter s (r .busy); owner = n }) c (stateNumber (ownNow .next))
-      → first ≡ cond (eqb (r .owner) c) None (operationAt (operationNumber (othersNow .operation)) (r .owner))
+      → next ≡ withState (record { held = heldRest; stale = staleRest; dirty = 0; busy = markAfter s (r .busy); «dirty_colour» = n }) c (stateNumber (ownNow .next))
+      → first ≡ cond (eqb (r .«dirty_colour») c) None (operationAt (operationNumber (othersNow .operation)) (r .«dirty_colour»))
       → second ≡ operationAt (operationNumber (ownNow .operation)) c
       → record { next = next; ops = firstTwo (opList first ++ opList second) } ≡ stepped n s r
   step-is next first second =

@@ -13,8 +13,8 @@ use Rattle.page_model.specs.declared.FrameRecord.{FrameRecord}
 use Rattle.page_model.specs.Record.{stateFrom, stateOf, markFits, dirtyColourOf, encode, isHeld, isDirty, isStale, freed}
 use Rattle.page_model.specs.Step.{cellOf, recordAfter, operations}
 use Rattle.page_model.specs.Table.{ColourState, empty, present, dirty, stale}
-use Rattle.page_model.specs.Theorems.{EncodeDecode, OneOwner, MarkFits, DecodeEncode, KeptMark, FreedRecord, DirtyColour, OwnerAside}
-use Rattle.page_model.proofs.Rules.{Keeps, keeps, kept, flag, flag-digit, dirty-only, dirty-at, no-owner, any-dirty, first-dirty}
+use Rattle.page_model.specs.Theorems.{EncodeDecode, OneDirty, MarkFits, DecodeEncode, KeptMark, FreedRecord, DirtyColour, DirtyColourAside}
+use Rattle.page_model.proofs.Rules.{Keeps, keeps, kept, flag, flag-digit, dirty-only, dirty-at, no-dirty-colour, any-dirty, first-dirty}
 use Rattle.page_model.proofs.Cells.{kept-state, each-state}
 
 -- ---- a record that is decoded and encoded
@@ -29,7 +29,7 @@ encode-decode n r e =
     let dirties = says isDirty (λ o s h d. d && h) refl in
     let d = flag-digit (kr .flag-le) ∙ ap digit (sym (any-dirty n r kr) ∙ any-cong n _ _ dirties) in
     let o = sym (first-dirty n r kr) ∙ first-cong n _ _ dirties in
-    λ i. record { held = sym h i; stale = sym t i; dirty = sym d i; busy = r .busy; owner = sym o i }
+    λ i. record { held = sym h i; stale = sym t i; dirty = sym d i; busy = r .busy; «dirty_colour» = sym o i }
 
 -- what the mark tells of flag and held mask
 fits-le : (mark flag held : ℕ) → markFits mark flag held ≡ true → mark ≤ 2
@@ -64,7 +64,7 @@ freed-record n r e =
             flag-le = kr .flag-le;
             one-held = kr .one-held;
             mark-fits = refl;
-            owner-is = kr .owner-is;
+            dirty-colour-is = kr .dirty-colour-is;
           }),
       λ k. refl,
       refl,
@@ -82,28 +82,28 @@ dirty-colour n r e = (bound (flag r) refl, λ k l. (λ z. owns k l z, λ z. dirt
     kr : Keeps n r
     kr = keeps n r e
 
-    bound : (b : Bool) → flag r ≡ b → r .owner ≤ n
+    bound : (b : Bool) → flag r ≡ b → r .«dirty_colour» ≤ n
     bound true z = let l = dirty-only n r kr z .0 in omega arith
-    bound false z = let l = no-owner n r kr z in omega arith
+    bound false z = let l = no-dirty-colour n r kr z in omega arith
 
-    -- a colour is dirty if the flag is set and it is the owner
-    says : (k : ℕ) → k < n → (flag r && eqb (r .owner) k) ≡ isDirty (stateOf r k)
+    -- a colour is dirty if the flag is set and it is the one written
+    says : (k : ℕ) → k < n → (flag r && eqb (r .«dirty_colour») k) ≡ isDirty (stateOf r k)
     says k l = sym (dirty-at n r kr k) ∙ kept-state n r kr isDirty (λ o s h d. d && h) refl k l
 
-    owns : (k : ℕ) → k < n → stateOf r k ≡ dirty → r .owner ≡ k
-    owns k l z = eqb-true (r .owner) k (and-right (flag r) (eqb (r .owner) k) (says k l ∙ ap isDirty z))
+    owns : (k : ℕ) → k < n → stateOf r k ≡ dirty → r .«dirty_colour» ≡ k
+    owns k l z = eqb-true (r .«dirty_colour») k (and-right (flag r) (eqb (r .«dirty_colour») k) (says k l ∙ ap isDirty z))
 
-    dirties : (k : ℕ) → k < n → (b : Bool) → flag r ≡ b → r .owner ≡ k → stateOf r k ≡ dirty
-    dirties k l true f z = dirty-true (stateOf r k) (sym (says k l) ∙ ap₂ _&&_ f (eq-eqb (r .owner) k z))
-    dirties k l false f z = let none = no-owner n r kr f in absurd (omega arith)
+    dirties : (k : ℕ) → k < n → (b : Bool) → flag r ≡ b → r .«dirty_colour» ≡ k → stateOf r k ≡ dirty
+    dirties k l true f z = dirty-true (stateOf r k) (sym (says k l) ∙ ap₂ _&&_ f (eq-eqb (r .«dirty_colour») k z))
+    dirties k l false f z = let none = no-dirty-colour n r kr f in absurd (omega arith)
 
-pub owner-aside : OwnerAside
+pub dirty-colour-aside : DirtyColourAside
 unfolding stateOf recordAfter operations cellOf
-owner-aside n c s r = (λ k. refl, refl, refl)
+dirty-colour-aside n c s r = (λ k. refl, refl, refl)
 
 -- ---- states that are encoded and decoded
 
-module _ (n : ℕ) (states : ℕ → ColourState) (one : OneOwner n states) where
+module _ (n : ℕ) (states : ℕ → ColourState) (one : OneDirty n states) where
   -- with a dirty colour, the held ones are that one
   held-only : (d : ℕ) → d < n → isDirty (states d) ≡ true → (k : ℕ) → k < n → isHeld (states k) ≡ eqb d k
   held-only d ld e k lk = go (isHeld (states k)) refl
@@ -125,7 +125,7 @@ module _ (n : ℕ) (states : ℕ → ColourState) (one : OneOwner n states) wher
         flag-le = omega (arith, digit-lt (any n (λ k. isDirty (states k))));
         one-held = single (any n (λ k. isDirty (states k))) refl;
         mark-fits = marked mark fits;
-        owner-is = owned (any n (λ k. isDirty (states k))) refl;
+        dirty-colour-is = owned (any n (λ k. isDirty (states k))) refl;
       }
     where
       owned : (b : Bool) → any n (λ k. isDirty (states k)) ≡ b

@@ -25,12 +25,12 @@ pub record-is : (n : ℕ) (s : Step) (r : FrameRecord) {h t d b c : ℕ} → h <
     → d ≡ digit (any n (λ k. isDirty (cellOf s r k .next)))
     → b ≡ markAfter s (r .busy)
     → c ≡ firstOf n (λ k. isDirty (cellOf s r k .next))
-    → _≡_ {A = FrameRecord} (record { held = h; stale = t; dirty = d; busy = b; owner = c }) (recordAfter n s r)
+    → _≡_ {A = FrameRecord} (record { held = h; stale = t; dirty = d; busy = b; «dirty_colour» = c }) (recordAfter n s r)
 unfolding recordAfter encode
 record-is n s r lh lt eh et ed eb ec =
     let eh′ = mask-of n _ (λ k. isHeld (cellOf s r k .next)) lh eh in
     let et′ = mask-of n _ (λ k. isStale (cellOf s r k .next)) lt et in
-    λ i. record { held = eh′ i; stale = et′ i; dirty = ed i; busy = eb i; owner = ec i }
+    λ i. record { held = eh′ i; stale = et′ i; dirty = ed i; busy = eb i; «dirty_colour» = ec i }
 
 module _ (n : ℕ) (r : FrameRecord) (kr : Keeps n r) (c : ℕ) (lc : c < n) where
   -- a colour that is held is the dirty one, if one is
@@ -40,7 +40,7 @@ module _ (n : ℕ) (r : FrameRecord) (kr : Keeps n r) (c : ℕ) (lc : c < n) whe
       go : (b : Bool) → flag r ≡ b → (b && bit (r .held) k) ≡ (b && eqb c k)
       go true e =
           let only = dirty-only n r kr e .1 in
-          let own = eqb-true (r .owner) c (sym (bit-one _ c) ∙ ap (λ (m : ℕ). bit m c) (sym only) ∙ z) in
+          let own = eqb-true (r .«dirty_colour») c (sym (bit-one _ c) ∙ ap (λ (m : ℕ). bit m c) (sym only) ∙ z) in
           ap (λ (m : ℕ). bit m k) only ∙ bit-one _ k ∙ ap (λ (d : ℕ). eqb d k) own
       go false e = refl
 

@@ -39,7 +39,7 @@ module _ (n : ℕ) (r : FrameRecord) (kr : Keeps n r) where
             (only k (and-right (at r (ownOf step) k (operationTest step f)) _ (kept-operation n r kr step f (λ o s h d. operationTest step f o s h d && q o s h d) a k l ∙ e)))
 
     on-dirty : Agree apart (λ o s h d. operationTest step f o s h d && (d && h)) (operationTest step f) → length (placesWith n step r f) ≤ 1
-    on-dirty = few (λ o s h d. d && h) (r .owner) (λ k e. and-right (flag r) _ (sym (dirty-at n r kr k) ∙ e))
+    on-dirty = few (λ o s h d. d && h) (r .«dirty_colour») (λ k e. and-right (flag r) _ (sym (dirty-at n r kr k) ∙ e))
 
     on-own : Agree apart (λ o s h d. operationTest step f o s h d && o) (operationTest step f) → length (placesWith n step r f) ≤ 1
     on-own = few (λ o s h d. o) (ownOf step) (λ k e. e)

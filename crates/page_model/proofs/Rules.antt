@@ -26,7 +26,7 @@ pub record Keeps (n : ℕ) (r : FrameRecord) : Type 0 where
   pub flag-le : r .dirty ≤ 1
   pub one-held : (not (flag r) || eqb (countOf n (bit (r .held))) 1) ≡ true
   pub mark-fits : markFits (r .busy) (r .dirty) (r .held) ≡ true
-  pub owner-is : r .owner ≡ dirtyColourOf n r
+  pub dirty-colour-is : r .«dirty_colour» ≡ dirtyColourOf n r
 
 pub keeps : (n : ℕ) (r : FrameRecord) → keepsRules n r ≡ true → Keeps n r
 unfolding keepsRules
@@ -38,7 +38,7 @@ keeps n r e =
       flag-le = leb-true (r .dirty) 1 (search (and-left, and-right));
       one-held = search (and-left, and-right);
       mark-fits = search (and-left, and-right);
-      owner-is = eqb-true (r .owner) (dirtyColourOf n r) (search (and-left, and-right));
+      dirty-colour-is = eqb-true (r .«dirty_colour») (dirtyColourOf n r) (search (and-left, and-right));
     }
 
 pub kept : (n : ℕ) (r : FrameRecord) → Keeps n r → keepsRules n r ≡ true
@@ -48,7 +48,7 @@ kept n r k =
     (ap₂ _&&_
     (ap₂ _&&_ (ap₂ _&&_ (ap₂ _&&_ (ap₂ _&&_ (lt-ltb _ _ (k .held-lt)) (lt-ltb _ _ (k .stale-lt))) (all-of n _ (k .apart))) (le-leb _ _ (k .flag-le))) (k .one-held))
     (k .mark-fits))
-    (eq-eqb _ _ (k .owner-is))
+    (eq-eqb _ _ (k .dirty-colour-is))
 
 -- the colours' rules by operations on whole masks
 pub rules-are : (n : ℕ) (r : FrameRecord) → coloursKeepRules n r
@@ -97,32 +97,32 @@ told-colour n w r few e = go (flag r) refl
     go false z = refl
 
 module _ (n : ℕ) (r : FrameRecord) (k : Keeps n r) where
-  -- the owner of a record with the flag set is the only colour held
-  pub dirty-only : flag r ≡ true → (r .owner < n) × (r .held ≡ 2 ^ r .owner)
+  -- the dirty colour of a record with the flag set is the only one held
+  pub dirty-only : flag r ≡ true → (r .«dirty_colour» < n) × (r .held ≡ 2 ^ r .«dirty_colour»)
   unfolding dirtyColourOf
   dirty-only z =
-      let told : r .owner ≡ firstOf n (bit (r .held)) = k .owner-is ∙ ap (λ (b : Bool). cond b (firstOf n (bit (r .held))) n) z in
+      let told : r .«dirty_colour» ≡ firstOf n (bit (r .held)) = k .dirty-colour-is ∙ ap (λ (b : Bool). cond b (firstOf n (bit (r .held))) n) z in
       subst (λ (x : ℕ). (x < n) × (r .held ≡ 2 ^ x)) (sym told) (only n r (k .held-lt) (k .one-held) z)
 
-  pub dirty-at : (j : ℕ) → (flag r && bit (r .held) j) ≡ (flag r && eqb (r .owner) j)
+  pub dirty-at : (j : ℕ) → (flag r && bit (r .held) j) ≡ (flag r && eqb (r .«dirty_colour») j)
   dirty-at j = go (flag r) refl
     where
-      go : (b : Bool) → flag r ≡ b → (b && bit (r .held) j) ≡ (b && eqb (r .owner) j)
+      go : (b : Bool) → flag r ≡ b → (b && bit (r .held) j) ≡ (b && eqb (r .«dirty_colour») j)
       go true z = ap (λ (m : ℕ). bit m j) (dirty-only z .1) ∙ bit-one _ j
       go false z = refl
 
   -- and of one without it there is none
-  pub no-owner : flag r ≡ false → r .owner ≡ n
+  pub no-dirty-colour : flag r ≡ false → r .«dirty_colour» ≡ n
   unfolding dirtyColourOf
-  no-owner z = k .owner-is ∙ ap (λ (b : Bool). cond b (firstOf n (bit (r .held))) n) z
+  no-dirty-colour z = k .dirty-colour-is ∙ ap (λ (b : Bool). cond b (firstOf n (bit (r .held))) n) z
 
-  -- a record has a dirty colour if its flag is set, and that is its owner
+  -- some colour is dirty if the flag is set, and the first one is the one written
   pub any-dirty : any n (λ j. flag r && bit (r .held) j) ≡ flag r
-  any-dirty = any-one n (r .owner) (flag r) _ (λ z. dirty-only z .0) (λ j l. dirty-at j)
+  any-dirty = any-one n (r .«dirty_colour») (flag r) _ (λ z. dirty-only z .0) (λ j l. dirty-at j)
 
-  pub first-dirty : firstOf n (λ j. flag r && bit (r .held) j) ≡ r .owner
-  first-dirty = first-one n (r .owner) (flag r) _ (λ z. dirty-only z .0) (λ j l. dirty-at j) ∙ go (flag r) refl
+  pub first-dirty : firstOf n (λ j. flag r && bit (r .held) j) ≡ r .«dirty_colour»
+  first-dirty = first-one n (r .«dirty_colour») (flag r) _ (λ z. dirty-only z .0) (λ j l. dirty-at j) ∙ go (flag r) refl
     where
-      go : (b : Bool) → flag r ≡ b → cond b (r .owner) n ≡ r .owner
+      go : (b : Bool) → flag r ≡ b → cond b (r .«dirty_colour») n ≡ r .«dirty_colour»
       go true z = refl
-      go false z = sym (no-owner z)
+      go false z = sym (no-dirty-colour z)

@@ -19,7 +19,7 @@ start-record n = (
         flag-le = omega arith;
         one-held = refl;
         mark-fits = refl;
-        owner-is = refl;
+        dirty-colour-is = refl;
       }),
   λ k. simp bit-none,
   refl,

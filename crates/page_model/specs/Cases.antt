@@ -77,7 +77,7 @@ operationAt (suc (suc (suc number))) c = None
 -- the record with colour k, so far empty, in the state of a number; any number but a state's leaves it as it is
 abbrev pub withState : FrameRecord → ℕ → ℕ → FrameRecord
 withState r k zero = r
-withState r k (suc zero) = record { held = withBit (r .held) k; stale = r .stale; dirty = r .dirty; busy = r .busy; owner = r .owner }
-withState r k (suc (suc zero)) = record { held = withBit (r .held) k; stale = r .stale; dirty = 1; busy = r .busy; owner = k }
-withState r k (suc (suc (suc zero))) = record { held = r .held; stale = withBit (r .stale) k; dirty = r .dirty; busy = r .busy; owner = r .owner }
+withState r k (suc zero) = record { held = withBit (r .held) k; stale = r .stale; dirty = r .dirty; busy = r .busy; «dirty_colour» = r .«dirty_colour» }
+withState r k (suc (suc zero)) = record { held = withBit (r .held) k; stale = r .stale; dirty = 1; busy = r .busy; «dirty_colour» = k }
+withState r k (suc (suc (suc zero))) = record { held = r .held; stale = withBit (r .stale) k; dirty = r .dirty; busy = r .busy; «dirty_colour» = r .«dirty_colour» }
 withState r k (suc (suc (suc (suc state)))) = r

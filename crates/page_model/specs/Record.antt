@@ -43,7 +43,7 @@ dirtyColourOf n r = cond (eqb (r .dirty) 1) (firstOf n (bit (r .held))) n
 
 unfoldable pub keepsRules : ℕ → FrameRecord → Bool
 unfolding coloursKeepRules dirtyColourOf
-keepsRules n r = coloursKeepRules n r && markFits (r .busy) (r .dirty) (r .held) && eqb (r .owner) (dirtyColourOf n r)
+keepsRules n r = coloursKeepRules n r && markFits (r .busy) (r .dirty) (r .held) && eqb (r .«dirty_colour») (dirtyColourOf n r)
 
 -- ---- encoding
 
@@ -73,13 +73,13 @@ encode n mark states =
       stale = maskOf n (λ k. isStale (states k));
       dirty = digit (any n (λ k. isDirty (states k)));
       busy = mark;
-      owner = firstOf n (λ k. isDirty (states k));
+      «dirty_colour» = firstOf n (λ k. isDirty (states k));
     }
 
 -- the record that every frame has at the start
 abbrev pub startRecord : ℕ → FrameRecord
-startRecord n = record { held = 0; stale = 0; dirty = 0; busy = free; owner = n }
+startRecord n = record { held = 0; stale = 0; dirty = 0; busy = free; «dirty_colour» = n }
 
 -- the record once its transfer has ended
 abbrev pub freed : FrameRecord → FrameRecord
-freed r = record { held = r .held; stale = r .stale; dirty = r .dirty; busy = free; owner = r .owner }
+freed r = record { held = r .held; stale = r .stale; dirty = r .dirty; busy = free; «dirty_colour» = r .«dirty_colour» }

@@ -24,8 +24,8 @@ abbrev pub EncodeDecode : Type 0
 EncodeDecode = (n : ℕ) (r : FrameRecord) → keepsRules n r ≡ true → encode n (r .busy) (stateOf r) ≡ r
 
 -- states of which a dirty one is the only one held
-abbrev pub OneOwner : ℕ → (ℕ → ColourState) → Type 0
-OneOwner n states = (j k : ℕ) → j < n → k < n → states j ≡ dirty → isHeld (states k) ≡ true → j ≡ k
+abbrev pub OneDirty : ℕ → (ℕ → ColourState) → Type 0
+OneDirty n states = (j k : ℕ) → j < n → k < n → states j ≡ dirty → isHeld (states k) ≡ true → j ≡ k
 
 -- a mark that goes with states: free, or a device reads and none is dirty, or it writes and none is present or dirty
 pub record MarkFits (n mark : ℕ) (states : ℕ → ColourState) : Type 0 where
@@ -36,7 +36,7 @@ pub record MarkFits (n mark : ℕ) (states : ℕ → ColourState) : Type 0 where
 -- decoding what a mark and states encode to gives the states, and the record keeps the rules if the mark goes with the states
 abbrev pub DecodeEncode : Type 0
 DecodeEncode =
-    (n mark : ℕ) (states : ℕ → ColourState) → OneOwner n states
+    (n mark : ℕ) (states : ℕ → ColourState) → OneDirty n states
     → (MarkFits n mark states → keepsRules n (encode n mark states) ≡ true) × ((k : ℕ) → k < n → stateOf (encode n mark states) k ≡ states k)
 
 -- and of a record that keeps the rules the mark goes with the states
@@ -49,18 +49,18 @@ FreedRecord =
     (n : ℕ) (r : FrameRecord) → keepsRules n r ≡ true
     → (keepsRules n (freed r) ≡ true) × ((k : ℕ) → stateOf (freed r) k ≡ stateOf r k) × (freed r .busy ≡ free)
 
--- the owner of a record that keeps the rules is the colour that is dirty, or n if none is
+-- the dirty colour that a record keeps by the rules is the one that is dirty, or n if none is
 abbrev pub DirtyColour : Type 0
-DirtyColour = (n : ℕ) (r : FrameRecord) → keepsRules n r ≡ true → (r .owner ≤ n) × ((k : ℕ) → k < n → (stateOf r k ≡ dirty) ↔ (r .owner ≡ k))
+DirtyColour = (n : ℕ) (r : FrameRecord) → keepsRules n r ≡ true → (r .«dirty_colour» ≤ n) × ((k : ℕ) → k < n → (stateOf r k ≡ dirty) ↔ (r .«dirty_colour» ≡ k))
 
--- a record with another owner is in the same states, and each step has the same operations and makes the same record of it
-abbrev pub withOwner : FrameRecord → ℕ → FrameRecord
-withOwner r c = record { held = r .held; stale = r .stale; dirty = r .dirty; busy = r .busy; owner = c }
+-- the other fields alone say each state, the operations of a step and the record after it: another dirty colour changes none
+abbrev pub withDirtyColour : FrameRecord → ℕ → FrameRecord
+withDirtyColour r c = record { held = r .held; stale = r .stale; dirty = r .dirty; busy = r .busy; «dirty_colour» = c }
 
-abbrev pub OwnerAside : Type 0
-OwnerAside =
+abbrev pub DirtyColourAside : Type 0
+DirtyColourAside =
     (n c : ℕ) (s : Step) (r : FrameRecord)
-    → ((k : ℕ) → stateOf (withOwner r c) k ≡ stateOf r k) × (operations n s (withOwner r c) ≡ operations n s r) × (recordAfter n s (withOwner r c) ≡ recordAfter n s r)
+    → ((k : ℕ) → stateOf (withDirtyColour r c) k ≡ stateOf r k) × (operations n s (withDirtyColour r c) ≡ operations n s r) × (recordAfter n s (withDirtyColour r c) ≡ recordAfter n s r)
 
 -- ---- a step
 

@@ -29,13 +29,13 @@ pub struct Ops {
 }
 
 // What is known of a frame in the cache: bit c of a mask stands for colour c, and dirty is 0 or 1. The mark busy is 0 where the frame is free, 1
-// while a device reads it and 2 while a device writes it. The owner is the dirty colour, or the number of colours where none is dirty.
+// while a device reads it and 2 while a device writes it. The dirty colour is the number of colours where none is dirty.
 pub struct FrameRecord {
     pub held: u32,
     pub stale: u32,
     pub dirty: u32,
     pub busy: u32,
-    pub owner: u32,
+    pub dirty_colour: u32,
 }
 
 // The record after a step, and the operations that come first.
@@ -56,7 +56,7 @@ impl FrameRecord {
         if !self.colours_keep_rules(colours) {
             return false;
         }
-        self.owner == self.told_colour(colours)
+        self.dirty_colour == self.told_colour(colours)
     }
 
     // Whether no bit is past the colours, none in both masks, the flag 0 or 1, and with the flag set exactly one held bit.
@@ -153,7 +153,7 @@ impl FrameRecord {
             stale: self.stale,
             dirty: self.dirty,
             busy: busy::FREE,
-            owner: self.owner,
+            dirty_colour: self.dirty_colour,
         }
     }
 
@@ -202,11 +202,11 @@ impl FrameRecord {
             stale: stale | if_picked(held, others.1 == table::STALE),
             dirty: 0,
             busy: busy::mark_at(step, self.busy),
-            owner: colours as u32,
+            dirty_colour: colours as u32,
         };
         let next = rest.with_state(colour, own.1);
         let ops = first_two(
-            elsewhere(others.0, self.owner as usize, colour),
+            elsewhere(others.0, self.dirty_colour as usize, colour),
             operation(own.0, colour),
         );
         Stepped { next, ops }
@@ -254,21 +254,21 @@ impl FrameRecord {
                 stale: self.stale,
                 dirty: self.dirty,
                 busy: self.busy,
-                owner: self.owner,
+                dirty_colour: self.dirty_colour,
             },
             table::DIRTY => FrameRecord {
                 held: bits::with_bit(self.held, colour),
                 stale: self.stale,
                 dirty: 1,
                 busy: self.busy,
-                owner: colour as u32,
+                dirty_colour: colour as u32,
             },
             table::STALE => FrameRecord {
                 held: self.held,
                 stale: bits::with_bit(self.stale, colour),
                 dirty: self.dirty,
                 busy: self.busy,
-                owner: self.owner,
+                dirty_colour: self.dirty_colour,
             },
             4..=255 => self,
         }

@@ -14,15 +14,15 @@ use Rattle.page_model.proofs.FrameRecord.keeps_rules.Tie as tie
 
 -- the rules as the three parts that are tested in turn
 rules-are : (n : ℕ) (r : FrameRecord) {colours mark : Bool} → coloursKeepRules n r ≡ colours → markFits (r .busy) (r .dirty) (r .held) ≡ mark
-    → (colours && mark && eqb (r .owner) (dirtyColourOf n r)) ≡ keepsRules n r
+    → (colours && mark && eqb (r .«dirty_colour») (dirtyColourOf n r)) ≡ keepsRules n r
 unfolding keepsRules
-rules-are n r ec em = λ i. sym ec i && sym em i && eqb (r .owner) (dirtyColourOf n r)
+rules-are n r ec em = λ i. sym ec i && sym em i && eqb (r .«dirty_colour») (dirtyColourOf n r)
 
 returns : tie.Need-returns
 returns c =
     let a = c .before .before .args in
     let n = a .colours in
-    ap (λ (b : Bool). b && eqb (a .self .owner) (dirtyColourOf n (a .self))) (sym (and-false (coloursKeepRules n (a .self))))
+    ap (λ (b : Bool). b && eqb (a .self .«dirty_colour») (dirtyColourOf n (a .self))) (sym (and-false (coloursKeepRules n (a .self))))
     ∙ rules-are n (a .self) refl (sym (c .before .mark-fits .ensures) ∙ not-true _ (c .if1 .taken))
 
 returns-2 : tie.Need-returns-2
@@ -35,7 +35,7 @@ returns-3 c =
     let a = at-mark .before .args in
     let colours = sym (at-colours .colours-keep-rules .ensures) ∙ not-false _ (c .before .before .if2 .left) in
     let mark = sym (at-mark .mark-fits .ensures) ∙ not-false _ (at-colours .before .if1 .left) in
-    ap (eqb (a .self .owner)) (c .before .told-colour .ensures ∙ told-colour (a .colours) width (a .self) (at-mark .before .pre) colours) ∙ rules-are (a .colours) (a .self) colours mark
+    ap (eqb (a .self .«dirty_colour»)) (c .before .told-colour .ensures ∙ told-colour (a .colours) width (a .self) (at-mark .before .pre) colours) ∙ rules-are (a .colours) (a .self) colours mark
 
 pub keeps-rules-spec : {M : Type 1} → statement M
 keeps-rules-spec = tie.close (tie.spec (λ c κs. search needs) returns (λ c κs. search needs) returns-2 (λ c κs. search needs) returns-3)

@@ -35,8 +35,8 @@ returns c s step own reaches rules =
     let mark = at-mark .mark-at .ensures ∙ ap (λ (k : ℕ). markAt k (a .self .busy)) step ∙ mark-number s (a .self .busy) in
     rw (c .first-two .ensures)
     (step-is (a .colours) (a .self) (keeps _ _ rules) s reaches
-    (at-next .with-state .ensures ∙ (λ i. withState (record { held = held-rest i; stale = stale-rest i; dirty = 0; busy = mark i; owner = a .colours }) (own i) (own-case i .1)))
-    (at-elsewhere .elsewhere .ensures ∙ (λ i. cond (eqb (a .self .owner) (own i)) None (operationAt (others-case i .0) (a .self .owner))))
+    (at-next .with-state .ensures ∙ (λ i. withState (record { held = held-rest i; stale = stale-rest i; dirty = 0; busy = mark i; «dirty_colour» = a .colours }) (own i) (own-case i .1)))
+    (at-elsewhere .elsewhere .ensures ∙ (λ i. cond (eqb (a .self .«dirty_colour») (own i)) None (operationAt (others-case i .0) (a .self .«dirty_colour»))))
     (at-operation .operation .ensures ∙ (λ i. operationAt (own-case i .0) (own i))))
 
 pub step-spec : {M : Type 1} → statement M
