@@ -3,8 +3,8 @@
 use crate::hardware::{Hardware, CACHE_WORDS, MEMORY_WORDS};
 use crate::list::{MappingList, Order, MAPPINGS};
 use crate::machine::Lent;
-use crate::record::RECORDS_WORDS;
-use peer::board::{LINES, PAGE_WORDS};
+use crate::record;
+use peer::board::{FRAMES, LINES, PAGE_WORDS};
 use peer::call::{sent, Accepted, Answer, Call, Found};
 use peer::record::Direction;
 
@@ -24,7 +24,7 @@ impl<O> Default for Buffers<O> {
     fn default() -> Self {
         Self {
             list: MappingList::default(),
-            records: vec![0; RECORDS_WORDS],
+            records: record::START.repeat(FRAMES),
             protections: vec![0; MAPPINGS],
             memory: vec![0; MEMORY_WORDS],
             words: vec![0; CACHE_WORDS],

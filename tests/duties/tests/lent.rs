@@ -8,13 +8,15 @@ use peer::Refusal::{self, Busy, Frame, Length, NotBegun, Offset, Part, Place, Re
 
 const MAX: usize = usize::MAX;
 
-/// The words of a record, from its frame's first.
+/// The words of a record, from its frame's first, and their number.
 const STALE: usize = 1;
 const DIRTY: usize = 2;
 const BUSY: usize = 3;
+const DIRTY_COLOUR: usize = 4;
+const RECORD: usize = 5;
 
 /// Where the last frame's record begins.
-const LAST: usize = 4 * 63;
+const LAST: usize = RECORD * 63;
 
 fn mapping(space: u8, page: u16, frame: u8, rights: u8) -> Mapping {
     Mapping {
@@ -128,9 +130,12 @@ fn refusal<O: Order + Clone + PartialEq>(change: Change<O>) -> Option<Refusal> {
 }
 
 fn lengths<O: Order + Clone + PartialEq>() {
-    let changes: [Change<O>; 10] = [
-        |lent| lent.records.truncate(255),
+    let changes: [Change<O>; 12] = [
+        |lent| lent.records.truncate(319),
         |lent| lent.records.push(0),
+        // A record less, and four words to each.
+        |lent| lent.records.truncate(315),
+        |lent| lent.records.truncate(256),
         |lent| lent.protections.truncate(255),
         |lent| lent.protections.push(0),
         |lent| lent.memory.truncate(4095),
@@ -214,7 +219,7 @@ fn parts_of_a_page() {
 
 fn rules<O: Order + Clone + PartialEq>() {
     assert_eq!(refusal::<O>(|_| {}), None);
-    let changes: [Change<O>; 30] = [
+    let changes: [Change<O>; 49] = [
         // Doubles, side by side and apart; frame and rights may differ.
         |lent| lent.list.items[1].page = 8,
         |lent| lent.list.items[3] = mapping(1, 8, 63, 1),
@@ -238,17 +243,39 @@ fn rules<O: Order + Clone + PartialEq>() {
         |lent| lent.records[..2].fill(1),
         |lent| lent.records[LAST + DIRTY] = 1,
         |lent| lent.records[DIRTY] = 2,
+        |lent| lent.records[..RECORD].copy_from_slice(&[1, 0, 2, 0, 0]),
         // Document 01's edge 7.
-        |lent| lent.records[..3].copy_from_slice(&[3, 0, 1]),
+        |lent| lent.records[..RECORD].copy_from_slice(&[3, 0, 1, 0, 0]),
+        |lent| lent.records[..RECORD].copy_from_slice(&[3, 0, 1, 0, 1]),
         // No busy mark, and one whose low byte would do.
         |lent| lent.records[BUSY] = 3,
         |lent| lent.records[LAST + BUSY] = 256,
         |lent| lent.records[LAST + BUSY] = u32::MAX,
         // A dirty colour while the device reads, a held and a dirty one while it writes.
-        |lent| lent.records[LAST..].copy_from_slice(&[4, 0, 1, 1]),
-        |lent| lent.records[LAST..].copy_from_slice(&[4, 0, 0, 2]),
-        |lent| lent.records[..4].copy_from_slice(&[4, 0, 1, 2]),
-        |lent| lent.records[..4].copy_from_slice(&[255, 0, 0, 2]),
+        |lent| lent.records[LAST..].copy_from_slice(&[4, 0, 1, 1, 2]),
+        |lent| lent.records[LAST..].copy_from_slice(&[4, 0, 0, 2, 8]),
+        |lent| lent.records[..RECORD].copy_from_slice(&[4, 0, 1, 2, 2]),
+        |lent| lent.records[..RECORD].copy_from_slice(&[255, 0, 0, 2, 8]),
+        // A dirty colour without the flag: nothing held, a held one, a stale one, and busy frames.
+        |lent| lent.records[DIRTY_COLOUR] = 0,
+        |lent| lent.records[LAST + DIRTY_COLOUR] = 7,
+        |lent| lent.records[LAST..].copy_from_slice(&[4, 0, 0, 0, 2]),
+        |lent| lent.records[..RECORD].copy_from_slice(&[0, 4, 0, 0, 2]),
+        |lent| lent.records[..RECORD].copy_from_slice(&[4, 0, 0, 1, 2]),
+        |lent| lent.records[LAST..].copy_from_slice(&[0, 0, 0, 2, 0]),
+        // The flag without one, with one that is empty, and with one that is stale.
+        |lent| lent.records[LAST..].copy_from_slice(&[4, 0, 1, 0, 8]),
+        |lent| lent.records[LAST..].copy_from_slice(&[4, 0, 1, 0, 1]),
+        |lent| lent.records[..RECORD].copy_from_slice(&[1, 0, 1, 0, 7]),
+        |lent| lent.records[..RECORD].copy_from_slice(&[4, 8, 1, 0, 3]),
+        // Past the colours, without the flag and with it. Of most the low bits would do.
+        |lent| lent.records[DIRTY_COLOUR] = 9,
+        |lent| lent.records[LAST + DIRTY_COLOUR] = 256 + 8,
+        |lent| lent.records[LAST + DIRTY_COLOUR] = u32::MAX,
+        |lent| lent.records[..RECORD].copy_from_slice(&[2, 0, 1, 0, 9]),
+        |lent| lent.records[LAST..].copy_from_slice(&[1, 0, 1, 0, 32]),
+        |lent| lent.records[LAST..].copy_from_slice(&[1, 0, 1, 0, 256]),
+        |lent| lent.records[LAST..].copy_from_slice(&[2, 0, 1, 0, 1 << 31 | 1]),
         // Tags.
         |lent| lent.tags[63] = 65,
         |lent| lent.tags[0] = 128,
@@ -360,13 +387,55 @@ fn words_of_a_transfer() {
     accept(&mut buffers, take(8, 63));
     assert!(buffers == right);
     accept(&mut buffers, end(9));
-    assert_eq!(right.records[4 * 9 + BUSY], 2);
-    right.records[4 * 9 + BUSY] = 0;
+    assert_eq!(right.records[RECORD * 9 + BUSY], 2);
+    right.records[RECORD * 9 + BUSY] = 0;
     assert!(buffers == right);
     accept(&mut buffers, end(8));
-    assert_eq!(right.records[4 * 8 + BUSY], 1);
-    right.records[4 * 8 + BUSY] = 0;
+    assert_eq!(right.records[RECORD * 8 + BUSY], 1);
+    right.records[RECORD * 8 + BUSY] = 0;
     assert!(buffers == right);
+}
+
+/// Frame 5's record after each call, and all others as at the start. Pages 0 and 8 have colour 0, page 1 has 1.
+#[test]
+fn the_dirty_colour_is_written() {
+    let mut buffers = Buffers::<Neighbours>::default();
+    for page in [0, 1, 8] {
+        accept(&mut buffers, Call::Map(mapping(0, page, 5, 2)));
+    }
+    let mut right = [0, 0, 0, 0, 8].repeat(64);
+    assert_eq!(buffers.records, right);
+    let whole = Call::DeviceWrite { frame: 5, first: 1 };
+    let rows = [
+        (write(0, 1), [2, 0, 1, 0, 1]),
+        (read(0, 1), [2, 0, 1, 0, 1]),
+        (write(0, 0), [1, 0, 1, 0, 0]),
+        (write(0, 8), [1, 0, 1, 0, 0]),
+        // Turned out or unmapped, the colour stays dirty.
+        (Call::Evict { line: 0 }, [1, 0, 1, 0, 0]),
+        (Call::Unmap { space: 0, page: 8 }, [1, 0, 1, 0, 0]),
+        (read(0, 1), [2, 0, 0, 0, 8]),
+        (read(0, 0), [3, 0, 0, 0, 8]),
+        (write(0, 1), [2, 1, 1, 0, 1]),
+        (Call::DeviceRead { frame: 5 }, [0, 1, 0, 0, 8]),
+        (write(0, 1), [2, 1, 1, 0, 1]),
+        (whole, [0, 1, 0, 0, 8]),
+        (write(0, 0), [1, 0, 1, 0, 0]),
+        (part(20, 12), [0, 0, 0, 0, 8]),
+        (write(0, 1), [2, 0, 1, 0, 1]),
+        (begin_read(5), [0, 0, 0, 1, 8]),
+        (read(0, 0), [1, 0, 0, 1, 8]),
+        (end(5), [1, 0, 0, 0, 8]),
+        (write(0, 1), [2, 1, 1, 0, 1]),
+        (begin_write(5), [0, 1, 0, 2, 8]),
+        (bring(5, 0), [0, 1, 0, 2, 8]),
+        (end(5), [0, 1, 0, 0, 8]),
+    ];
+    for (call, record) in rows {
+        accept(&mut buffers, call);
+        right[RECORD * 5..RECORD * 6].copy_from_slice(&record);
+        assert_eq!(buffers.records, right, "{call:?}");
+    }
 }
 
 /// Started, with two in each other's place: by page; by space, though the page rises; by both.
@@ -401,14 +470,15 @@ fn all_pairs_may_stand_in_any_order() {
 
 #[test]
 fn the_last_that_keeps_the_rules_is_accepted() {
-    let changes: [Change<Neighbours>; 7] = [
+    let changes: [Change<Neighbours>; 8] = [
         |lent| lent.tags.fill(64),
         |lent| lent.tags[63] = 192,
-        |lent| lent.records[LAST..].copy_from_slice(&[128, 127, 1, 0]),
-        |lent| lent.records[LAST..].copy_from_slice(&[3, 252, 0, 0]),
-        |lent| lent.records[LAST..].copy_from_slice(&[3, 252, 0, 1]),
-        |lent| lent.records[LAST..].copy_from_slice(&[0, 255, 0, 1]),
-        |lent| lent.records[LAST..].copy_from_slice(&[0, 255, 0, 2]),
+        |lent| lent.records[LAST..].copy_from_slice(&[128, 127, 1, 0, 7]),
+        |lent| lent.records[..RECORD].copy_from_slice(&[1, 254, 1, 0, 0]),
+        |lent| lent.records[LAST..].copy_from_slice(&[3, 252, 0, 0, 8]),
+        |lent| lent.records[LAST..].copy_from_slice(&[3, 252, 0, 1, 8]),
+        |lent| lent.records[LAST..].copy_from_slice(&[0, 255, 0, 1, 8]),
+        |lent| lent.records[LAST..].copy_from_slice(&[0, 255, 0, 2, 8]),
     ];
     for change in changes {
         assert_eq!(refusal(change), None);

@@ -1,5 +1,5 @@
-//! The page model: a state for each colour of a frame, the two tables by which a step changes it, and the
-//! frame's busy mark, by which it takes a step or does not.
+//! The page model: a state for each colour of a frame, the two tables by which a step changes it, which colour is
+//! dirty, and the frame's busy mark, by which it takes a step or does not.
 
 use crate::board::{Colour, Frame, Part, COLOURS};
 use crate::call::{Operation, Operations};
@@ -102,6 +102,9 @@ fn takes(busy: Option<Direction>, access: Access) -> bool {
     }
 }
 
+/// Stands for a dirty colour in a written record that has none.
+const NO_DIRTY_COLOUR: u8 = COLOURS as u8;
+
 /// The states of one frame: at most one colour is dirty, and beside it none is present. And its busy mark: the
 /// transfer that was begun and runs still, if there is one. None is dirty while the device reads; none is dirty
 /// or present while it writes.
@@ -109,11 +112,19 @@ fn takes(busy: Option<Direction>, access: Access) -> bool {
 pub struct Record {
     states: [State; COLOURS],
     busy: Option<Direction>,
+    /// The one whose state is `Dirty` (document 02, N7).
+    dirty_colour: Option<Colour>,
 }
 
 impl Record {
-    /// The record that two masks, a dirty flag and a busy mark stand for, if they keep the rules.
-    pub fn from_masks(held: u8, stale: u8, dirty: u8, busy: u8) -> Result<Self, Refusal> {
+    /// The record that two masks, a dirty flag, a busy mark and a dirty colour stand for, if they keep the rules.
+    pub fn from_masks(
+        held: u8,
+        stale: u8,
+        dirty: u8,
+        busy: u8,
+        dirty_colour: u8,
+    ) -> Result<Self, Refusal> {
         let broken = held & stale != 0 || dirty > 1 || (dirty == 1 && held.count_ones() != 1);
         if broken {
             return Err(Refusal::Rules);
@@ -124,6 +135,13 @@ impl Record {
             2 if held == 0 => Some(Direction::Write),
             _ => return Err(Refusal::Rules),
         };
+        let dirty_colour = match dirty_colour {
+            0..NO_DIRTY_COLOUR if dirty == 1 && held == 1 << dirty_colour => {
+                Colour::all().nth(dirty_colour.into())
+            }
+            NO_DIRTY_COLOUR if dirty == 0 => None,
+            _ => return Err(Refusal::Rules),
+        };
         let bit = |mask: u8, colour: usize| mask >> colour & 1 == 1;
         let states = std::array::from_fn(|colour| match (bit(held, colour), bit(stale, colour)) {
             (true, _) if dirty == 1 => Dirty,
@@ -131,7 +149,32 @@ impl Record {
             (false, true) => Stale,
             (false, false) => Empty,
         });
-        Ok(Self { states, busy })
+        Ok(Self {
+            states,
+            busy,
+            dirty_colour,
+        })
+    }
+
+    /// The numbers that `from_masks` makes this record of, in its order.
+    pub fn to_masks(self) -> [u8; 5] {
+        let mask = |marked: fn(State) -> bool| {
+            let colours = Colour::all().filter(|colour| marked(self.states[colour.index()]));
+            colours.fold(0, |mask, colour| mask | 1 << colour.index())
+        };
+        let busy = match self.busy {
+            None => 0,
+            Some(Direction::Read) => 1,
+            Some(Direction::Write) => 2,
+        };
+        [
+            mask(|state| matches!(state, Present | Dirty)),
+            mask(|state| state == Stale),
+            self.dirty_colour.is_some().into(),
+            busy,
+            self.dirty_colour
+                .map_or(NO_DIRTY_COLOUR, |colour| colour.index() as u8),
+        ]
     }
 
     /// A processor access through a page of colour `own`.
@@ -144,7 +187,7 @@ impl Record {
         if !takes(self.busy, access) {
             return Err(Refusal::Busy);
         }
-        Ok(self.step(frame, |colour, state| {
+        Ok(self.step(frame, Some(own), |colour, state| {
             if colour == own {
                 own_colour(access, state)
             } else {
@@ -161,7 +204,7 @@ impl Record {
         if let Transfer::Begin(direction) = transfer {
             self.busy = Some(direction);
         }
-        Ok(self.step(frame, |_, state| every_colour(transfer, state)))
+        Ok(self.step(frame, None, |_, state| every_colour(transfer, state)))
     }
 
     /// A word of a transfer that was begun in this direction. It changes no state.
@@ -179,18 +222,29 @@ impl Record {
         ended.map(|_| ()).ok_or(Refusal::NotBegun)
     }
 
-    /// Changes each colour's state by the rule. A flush comes before a purge, and there is at most
-    /// one of each: a transfer has one for the dirty colour, an access purges its own colour alone.
-    fn step(&mut self, frame: Frame, rule: impl Fn(Colour, State) -> (State, Due)) -> Operations {
+    /// Changes each colour's state by the rule, with `own` the colour of an access. Something is due, and a colour
+    /// is dirty after the step, only where the dirty colour was or at `own`. A flush comes before a purge, and there
+    /// is at most one of each: a transfer has one for the dirty colour, an access purges its own colour alone.
+    fn step(
+        &mut self,
+        frame: Frame,
+        own: Option<Colour>,
+        rule: impl Fn(Colour, State) -> (State, Due),
+    ) -> Operations {
         let (mut flush, mut purge) = (None, None);
-        for (colour, state) in Colour::all().zip(&mut self.states) {
-            let (next, due) = rule(colour, *state);
-            *state = next;
+        for colour in self.dirty_colour.take().into_iter().chain(own) {
+            let (next, due) = rule(colour, self.states[colour.index()]);
             match due {
                 Nothing => {}
                 Flush => flush = Some(Operation::Flush(frame, colour)),
                 Purge => purge = Some(Operation::Purge(frame, colour)),
             }
+            if next == Dirty {
+                self.dirty_colour = Some(colour);
+            }
+        }
+        for (colour, state) in Colour::all().zip(&mut self.states) {
+            (*state, _) = rule(colour, *state);
         }
         match flush {
             Some(_) => [flush, purge],

@@ -136,8 +136,13 @@ fn check_refused(pair: &mut Pair, rows: &[(Call, u8)]) {
 /// Held, stale, dirty and busy.
 type Numbers = [u8; 4];
 
+/// The record of these numbers, written with the dirty colour that mask and flag give.
 fn record([held, stale, dirty, busy]: Numbers) -> Result<Record, Refusal> {
-    Record::from_masks(held, stale, dirty, busy)
+    let dirty_colour = match dirty {
+        1 => held.trailing_zeros() as u8,
+        _ => 8,
+    };
+    Record::from_masks(held, stale, dirty, busy, dirty_colour)
 }
 
 fn all_numbers() -> impl Iterator<Item = Numbers> {

@@ -123,12 +123,15 @@ fn edge_6_two_writers() {
 
 #[test]
 fn edge_7_broken_records() {
-    assert_eq!(Record::from_masks(3, 0, 1, 0), Err(Refusal::Rules));
-    assert_eq!(Record::from_masks(0, 0, 1, 0), Err(Refusal::Rules));
-    assert_eq!(Record::from_masks(1, 1, 0, 0), Err(Refusal::Rules));
-    assert_eq!(Record::from_masks(1, 0, 2, 0), Err(Refusal::Rules));
-    assert!(Record::from_masks(3, 0xfc, 0, 0).is_ok());
-    assert!(Record::from_masks(0x80, 0x7f, 1, 0).is_ok());
+    for dirty_colour in 0..=8 {
+        let record = |held, dirty| Record::from_masks(held, 0, dirty, 0, dirty_colour);
+        assert_eq!(record(3, 1), Err(Refusal::Rules));
+        assert_eq!(record(0, 1), Err(Refusal::Rules));
+        assert_eq!(record(1, 2), Err(Refusal::Rules));
+    }
+    assert_eq!(Record::from_masks(1, 1, 0, 0, 8), Err(Refusal::Rules));
+    assert!(Record::from_masks(3, 0xfc, 0, 0, 8).is_ok());
+    assert!(Record::from_masks(0x80, 0x7f, 1, 0, 7).is_ok());
 }
 
 #[test]
