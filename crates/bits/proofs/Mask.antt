@@ -1,7 +1,6 @@
 -- The laws of masks, for any width: what each operation does to bit k, and what the bits tell of the mask. Passes on those of `Places`.
 use mathlib.Core.Path.{_≡_, refl, sym, ap, ap₂, _∙_, subst}
-use mathlib.Core.Bool.{Bool, true, false, not, _&&_, _||_, cond, and-true, and-false, or-false}
-use mathlib.Core.List.{List, [], _∷_, map}
+use mathlib.Core.Bool.{Bool, true, false, not, _&&_, _||_, cond}
 use Prim.Native.Nat.{ℕ, zero, suc, _+_, _*_, _/_, _%_, _^_, _≤_, _<_}
 use native.Mathlib.Omega.{arith}
 use native.Mathlib.Decide.{decLt}
@@ -12,11 +11,10 @@ use lib.Arith.{lt-one}
 use lib.Bits.{bitAnd, bitOr, bitXor, and-shr, or-shr, xor-shr, and-mod, or-mod, xor-mod, or-lt, xor-lt, or-add-and, and-le-l, and-le-r}
 use lib.Count.{ones, trailingZeros, under, ones-step, ones-cat}
 use lib.Dec.{eqb, ltb, lit<, eqb·zero-suc, eqb·suc-zero, eqb·suc-suc}
-use lib.ListN.{length, length-map}
 use lib.Pow.{pow-pos, pow-lt, pow-mono, shr-shr, shr-lt}
 use Rattle.bits.proofs.Tautology.{iff}
-pub use Rattle.bits.proofs.Places.{at-place, all-at, all-of, any-cong, any-none, any-false, any-of, any-at, any-one, any-more, first-cong, first-none, first-one, first-at, countOf-cong, places-at, places-none, places-one, places-few}
-use Rattle.bits.specs.Mask.{bit, withBit, withoutBit, digit, maskOf, countOf, all, firstOf, withZero, placesOf}
+pub use Rattle.bits.proofs.Places.{at-place, all-at, all-of, any-cong, any-none, any-false, any-of, any-at, any-one, first-cong, first-none, first-one, first-at, countOf-cong, places-at, places-none, places-one, places-few}
+use Rattle.bits.specs.Mask.{bit, withBit, withoutBit, digit, maskOf, countOf, all, firstOf}
 
 half-lt : {n : ℕ} (k : ℕ) → n < 2 ^ suc k → n / 2 < 2 ^ k
 half-lt {n} k h = shr-lt k 1 (subst (λ (x : ℕ). n < 2 ^ x) (sym (add-one k)) h)
@@ -188,25 +186,6 @@ pub bit-past : (n m k : ℕ) → m < 2 ^ n → n ≤ k → bit m k ≡ false
 unfolding bit
 bit-past n m k l h = let z : m / 2 ^ k ≡ 0 = div-eq-of-lt (omega (arith, pow-mono h)) in rw z
 
--- ---- one place more
-
-pub maskOf-more : (n : ℕ) (p : ℕ → Bool) → maskOf (suc n) p ≡ cond (p n) (withBit (maskOf n p) n) (maskOf n p)
-maskOf-more n p = sym (go (p n) refl)
-  where
-    fits : maskOf n p < 2 ^ suc n
-    fits = omega (arith, maskOf-lt n p, pow-suc 2 n)
-
-    at : (k : ℕ) → k < suc n → (bit (maskOf n p) k || p n && eqb n k) ≡ p k
-    at k l = split (decLt k n)
-      where
-        split : Dec (k < n) → (bit (maskOf n p) k || p n && eqb n k) ≡ p k
-        split (yes h) = rw (bit-maskOf n p k h, ne-eqb n k (λ e. omega arith), and-false, or-false)
-        split (no h) = let e : k ≡ n = omega arith in rw (e, bit-past n (maskOf n p) n (maskOf-lt n p) (omega arith), eq-eqb n n refl, and-true)
-
-    go : (b : Bool) → p n ≡ b → cond b (withBit (maskOf n p) n) (maskOf n p) ≡ maskOf (suc n) p
-    go true e = mask-of (suc n) _ p (with-lt (suc n) _ n fits (omega arith)) (λ k l. bit-with _ n k ∙ ap (λ (b : Bool). bit (maskOf n p) k || b && eqb n k) (sym e) ∙ at k l)
-    go false e = mask-of (suc n) _ p fits (λ k l. sym (or-false _) ∙ ap (λ (b : Bool). bit (maskOf n p) k || b && eqb n k) (sym e) ∙ at k l)
-
 -- ---- two masks
 
 -- two masks share no bit exactly if their and is 0
@@ -269,26 +248,3 @@ first-zeros (suc n) (suc w) m l h z =
     go (suc d) e ld ih =
         let low : bit m 0 ≡ true = bit-zero m ∙ eq-eqb (m % 2) 1 (omega arith) in
         rw low
-
--- the only place that p picks, if it picks one, is the number of its mask's trailing zeros, at any width that has room for it
-pub places-only : (n w : ℕ) (p : ℕ → Bool) → n ≤ w → length (placesOf n p) ≤ 1
-    → placesOf n p ≡ cond (eqb (maskOf n p) 0) [] (trailingZeros w (maskOf n p) ∷ [])
-unfolding placesOf maskOf trailingZeros
-places-only zero w p l h = refl
-places-only (suc n) zero p l h = absurd (omega arith)
-places-only (suc n) (suc w) p l h = first (p 0) (maskOf n (λ k. p (suc k))) (placesOf n (λ k. p (suc k))) (places-only n w (λ k. p (suc k)) (omega arith)) h
-  where
-    none-left : (rest : List ℕ) → length rest ≤ 0 → rest ≡ []
-    none-left [] l = refl
-    none-left (k ∷ rest) l = absurd (omega arith)
-
-    first : (b : Bool) (m : ℕ) (rest : List ℕ) → (length rest ≤ 1 → rest ≡ cond (eqb m 0) [] (trailingZeros w m ∷ [])) → length (withZero b (map suc rest)) ≤ 1
-        → withZero b (map suc rest) ≡ cond (eqb (digit b + 2 * m) 0) [] (under ((digit b + 2 * m) % 2) (trailingZeros w ((digit b + 2 * m) / 2)) ∷ [])
-    first true m rest ih h =
-        let odd : (1 + 2 * m) % 2 ≡ 1 = omega arith in
-        rw (ne-eqb (1 + 2 * m) 0 (λ e. omega arith), odd) (ap (λ (l : List ℕ). 0 ∷ l) (none-left (map suc rest) (omega arith)))
-    first false zero rest ih h = ap (map suc) (ih (omega (arith, length-map rest suc)))
-    first false (suc m) rest ih h =
-        let even : (0 + 2 * suc m) % 2 ≡ 0 = omega arith in
-        let half : (0 + 2 * suc m) / 2 ≡ suc m = omega arith in
-        rw (ne-eqb (0 + 2 * suc m) 0 (λ e. omega arith), even, half) (ap (map suc) (rw eqb·suc-zero at (ih (omega (arith, length-map rest suc)))))

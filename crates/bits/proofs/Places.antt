@@ -1,6 +1,6 @@
 -- The laws of a test over the places below n, for any n: whether it picks every place or some place, how many it picks, and which.
 use mathlib.Core.Path.{_≡_, refl, sym, ap, ap₂, _∙_}
-use mathlib.Core.Bool.{Bool, true, false, cond, _&&_, _||_, or-true, or-false, or-assoc, and-true, and-false, false≢true}
+use mathlib.Core.Bool.{Bool, true, false, cond, _&&_, _||_, or-true, and-true, and-false, false≢true}
 use mathlib.Core.List.{List, [], _∷_, map, List·Memᴰ, List·Memᴰ·not-nil, List·Memᴰ·cases-cons, Memᴰ·of-map}
 use mathlib.Core.Logic.{⊎-elim}
 use Prim.Native.Nat.{ℕ, zero, suc, _+_, _≤_, _<_}
@@ -72,12 +72,6 @@ any-at (suc n) p e = go (p 0) refl (any-at n (λ k. p (suc k)))
 pub any-one : (n d : ℕ) (b : Bool) (p : ℕ → Bool) → (b ≡ true → d < n) → ((k : ℕ) → k < n → p k ≡ (b && eqb d k)) → any n p ≡ b
 any-one n d true p l h = any-of n p d (l refl) (h d (l refl) ∙ eq-eqb d d refl)
 any-one n d false p l h = any-none n p h
-
--- of one place more
-pub any-more : (n : ℕ) (p : ℕ → Bool) → any (suc n) p ≡ (any n p || p n)
-unfolding any
-any-more zero p = or-false (p 0)
-any-more (suc n) p = ap (λ (b : Bool). p 0 || b) (any-more n (λ k. p (suc k))) ∙ sym (or-assoc (p 0) (any n (λ k. p (suc k))) (p (suc n)))
 
 -- ---- the first place
 

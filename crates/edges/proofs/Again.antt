@@ -31,17 +31,17 @@ listed = record { items = record { space = 0; page = 2; frame = 5; rights = 1 } 
 -- frame 5 has colour 2 held, the page may be read, and line 16 names the frame
 abbrev known : State
 known =
-    machineOf listed (replicate 20 0 ++ (4 ∷ replicate 235 0)) (1 ∷ replicate 255 0)
+    machineOf listed (manager-tables.startRecords 5 8 ++ (4 ∷ 0 ∷ 0 ∷ 0 ∷ 8 ∷ manager-tables.startRecords 58 8)) (1 ∷ replicate 255 0)
     (replicate 4096 0)
     (replicate 512 0)
     (replicate 16 0 ++ (6 ∷ replicate 47 0))
 
 first-leaves : readOnce ≡ known
-unfolding mask.bit mask.maskOf mask.countOf mask.all mask.any mask.placesOf board.pageLines board.lines board.cacheWords board.memoryWords board.colourOf board.lineOf board.colourLine board.lineAt board.cacheAt board.lineOffset board.frameAt board.memoryAt frame-record.stateOf frame-record.coloursKeepRules frame-record.keepsRules frame-record.encode record-step.cellOf record-step.recordAfter record-step.operations list-change.empty list-change.including list-change.insertAt entry.inRange entry.isZero entry.isAt entry.isBefore list-lookup.firstOf list-lookup.lookup list-lookup.mappingOf list-lookup.placeFor list-rules.allInRange list-rules.risesAt list-rules.rising list-rules.restZero list-rules.keepsRules refusals.firstRefusal manager-tables.recordAt manager-tables.putRecord manager-tables.recordsKeepRules manager-tables.lengthsRight manager-tables.rulesKept manager-tables.protection manager-tables.mappingState manager-tables.protectionAt manager-tables.tabulate manager-tables.refill hardware.lineWordsOf hardware.copyOut hardware.writeBack hardware.fill hardware.replace hardware.access hardware.readWord part.part part.overlay tag.isDirty tag.names tag.frameOf tag.tagKeepsRules tag.tagsKeepRules machine-refusals.storeLengths machine-refusals.lentCauses machine-refusals.ownCauses machine-refusals.causes machine-step.operate machine-step.carryOut machine-step.accept machine-step.step run.zeros run.start after
+unfolding mask.bit mask.maskOf mask.countOf mask.all mask.any mask.firstOf mask.placesOf board.pageLines board.lines board.cacheWords board.memoryWords board.colourOf board.lineOf board.colourLine board.lineAt board.cacheAt board.lineOffset board.frameAt board.memoryAt frame-record.stateOf frame-record.coloursKeepRules frame-record.dirtyColourOf frame-record.keepsRules frame-record.encode record-step.cellOf record-step.recordAfter record-step.operations list-change.empty list-change.including list-change.insertAt entry.inRange entry.isZero entry.isAt entry.isBefore list-lookup.firstOf list-lookup.lookup list-lookup.mappingOf list-lookup.placeFor list-rules.allInRange list-rules.risesAt list-rules.rising list-rules.restZero list-rules.keepsRules refusals.firstRefusal manager-tables.recordAt manager-tables.putRecord manager-tables.startRecords manager-tables.recordsKeepRules manager-tables.lengthsRight manager-tables.rulesKept manager-tables.protection manager-tables.mappingState manager-tables.protectionAt manager-tables.tabulate manager-tables.refill hardware.lineWordsOf hardware.copyOut hardware.writeBack hardware.fill hardware.replace hardware.access hardware.readWord part.part part.overlay tag.isDirty tag.names tag.frameOf tag.tagKeepsRules tag.tagsKeepRules machine-refusals.storeLengths machine-refusals.lentCauses machine-refusals.ownCauses machine-refusals.causes machine-step.operate machine-step.carryOut machine-step.accept machine-step.step run.startWith run.start after
 first-leaves = refl
 
 second-leaves : machine-step.step board.board01 known (read 0 2 3) ≡ machine-step.result (finds 5 0) known
-unfolding mask.bit mask.maskOf mask.countOf mask.all mask.any mask.placesOf board.pageLines board.lines board.cacheWords board.memoryWords board.colourOf board.lineOf board.colourLine board.lineAt board.cacheAt board.lineOffset board.frameAt board.memoryAt frame-record.stateOf frame-record.coloursKeepRules frame-record.keepsRules frame-record.encode record-step.cellOf record-step.recordAfter record-step.operations list-change.empty list-change.including list-change.insertAt entry.inRange entry.isZero entry.isAt entry.isBefore list-lookup.firstOf list-lookup.lookup list-lookup.mappingOf list-lookup.placeFor list-rules.allInRange list-rules.risesAt list-rules.rising list-rules.restZero list-rules.keepsRules refusals.firstRefusal manager-tables.recordAt manager-tables.putRecord manager-tables.recordsKeepRules manager-tables.lengthsRight manager-tables.rulesKept manager-tables.protection manager-tables.mappingState manager-tables.protectionAt manager-tables.tabulate manager-tables.refill hardware.lineWordsOf hardware.copyOut hardware.writeBack hardware.fill hardware.replace hardware.access hardware.readWord part.part part.overlay tag.isDirty tag.names tag.frameOf tag.tagKeepsRules tag.tagsKeepRules machine-refusals.storeLengths machine-refusals.lentCauses machine-refusals.ownCauses machine-refusals.causes machine-step.operate machine-step.carryOut machine-step.accept machine-step.step run.zeros run.start after
+unfolding mask.bit mask.maskOf mask.countOf mask.all mask.any mask.firstOf mask.placesOf board.pageLines board.lines board.cacheWords board.memoryWords board.colourOf board.lineOf board.colourLine board.lineAt board.cacheAt board.lineOffset board.frameAt board.memoryAt frame-record.stateOf frame-record.coloursKeepRules frame-record.dirtyColourOf frame-record.keepsRules frame-record.encode record-step.cellOf record-step.recordAfter record-step.operations list-change.empty list-change.including list-change.insertAt entry.inRange entry.isZero entry.isAt entry.isBefore list-lookup.firstOf list-lookup.lookup list-lookup.mappingOf list-lookup.placeFor list-rules.allInRange list-rules.risesAt list-rules.rising list-rules.restZero list-rules.keepsRules refusals.firstRefusal manager-tables.recordAt manager-tables.putRecord manager-tables.startRecords manager-tables.recordsKeepRules manager-tables.lengthsRight manager-tables.rulesKept manager-tables.protection manager-tables.mappingState manager-tables.protectionAt manager-tables.tabulate manager-tables.refill hardware.lineWordsOf hardware.copyOut hardware.writeBack hardware.fill hardware.replace hardware.access hardware.readWord part.part part.overlay tag.isDirty tag.names tag.frameOf tag.tagKeepsRules tag.tagsKeepRules machine-refusals.storeLengths machine-refusals.lentCauses machine-refusals.ownCauses machine-refusals.causes machine-step.operate machine-step.carryOut machine-step.accept machine-step.step run.startWith run.start after
 second-leaves = refl
 
 pub second-read : Holds secondRead

@@ -73,11 +73,11 @@ module _ (b : Board) (st : State) (call : Single) where
   lent-clear e f = rw (e, f)
 
 lent-rules : (n : ℕ) → n ≤ capacity → (manager-tables.rulesKept board01 (listing n .tables) && tag.tagsKeepRules board01 (listing n .store .tags)) ≡ true
-unfolding manager-tables.rulesKept manager-tables.recordsKeepRules manager-tables.recordAt mask.all mask.bit mask.countOf frame-record.coloursKeepRules frame-record.keepsRules run.zeros run.start board.lines board.pageLines tag.tagsKeepRules
+unfolding manager-tables.rulesKept manager-tables.recordsKeepRules manager-tables.recordAt manager-tables.startRecords mask.all mask.bit mask.countOf mask.firstOf frame-record.coloursKeepRules frame-record.dirtyColourOf frame-record.keepsRules run.startWith run.start board.lines board.pageLines tag.tagsKeepRules
 lent-rules n room = rw (rules-keepsRules board01 (pagesMapped n) (pages-rules n room))
 
 first-of : (n : ℕ) → n ≤ capacity → (call : Single) → bufferRight board01 call ≡ true → firstRefusal (causes board01 (listing n) call) ≡ firstRefusal (ownCauses board01 (listing n) call)
-unfolding manager-tables.lengthsRight machine-refusals.storeLengths run.zeros run.start board.lines board.pageLines board.memoryWords board.cacheWords itemsOf
+unfolding manager-tables.lengthsRight machine-refusals.storeLengths run.startWith run.start board.lines board.pageLines board.memoryWords board.cacheWords itemsOf
 first-of n room call e = lent-clear board01 (listing n) call e (lent-rules n room)
 
 own-255 : firstRefusal (ownCauses board01 (listing 255) (map 1 0 0 1)) ≡ 0

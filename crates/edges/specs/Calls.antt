@@ -104,9 +104,10 @@ pagesMapped n = record { items = itemsOf capacity (itemAt n); count = n }
 abbrev pub listing : ℕ → State
 listing n = withList (pagesMapped n) fresh
 
--- the start with these held and stale masks, flag and busy mark in the record of frame 0
-abbrev pub recorded : ℕ → ℕ → ℕ → ℕ → State
-recorded held stale dirty busy = withRecords (putRecord (fresh .tables .records) 0 (record { held = held; stale = stale; dirty = dirty; busy = busy })) fresh
+-- the start with these held and stale masks, flag, busy mark and dirty colour in the record of frame 0
+abbrev pub recorded : ℕ → ℕ → ℕ → ℕ → ℕ → State
+recorded held stale dirty busy colour =
+    withRecords (putRecord (fresh .tables .records) 0 (record { held = held; stale = stale; dirty = dirty; busy = busy; «dirty_colour» = colour })) fresh
 
 -- the first line of the cache with this tag, and word 77 in it
 abbrev pub tagged : ℕ → State

@@ -1,9 +1,9 @@
--- Document 01, "At the edges" and the sheet of "The run sheet", with the tags at their limits, request N3's parts and request N6's transfers at
--- theirs, a sheet of each kind of step and every cell of the page model: each row is a case and what it must give, and every row holds.
+-- Document 01, "At the edges" and the sheet of "The run sheet", with the tags at their limits, request N3's parts, request N6's transfers and
+-- request N7's dirty colours at theirs, a sheet of each kind of step and every cell of the page model: each row is a case and what it must give, and every row holds.
 use mathlib.Core.List.{List, [], _∷_, _++_}
 use mathlib.Core.Option.{none}
 use Prim.Native.Nat.{_+_, _*_}
-use lib.ListN.{replicate, getD, set}
+use lib.ListN.{replicate, getD}
 use Rattle.bits.specs.Mask.{digit}
 use Rattle.board.specs.Board.{board01, lineOf}
 use Rattle.page_model.specs.declared.Op.the-variants.{Flush, Purge}
@@ -12,8 +12,9 @@ use Rattle.cache.specs.Tag.{frameOf, isDirty}
 use Rattle.machine.specs.State.{map, read, write, deviceWrite, evict}
 use Rattle.machine.specs.Step.{result, step}
 use Rattle.run_sheet.specs.Run.{sheetText}
-use Rattle.edges.specs.Calls.{ask, refuses, accepts, only, done, written, finds, fresh, withRecords, listing, tagged, readOnce, wroteOnce, wroteLast, sevens}
+use Rattle.edges.specs.Calls.{ask, refuses, accepts, only, done, written, finds, fresh, recorded, listing, tagged, readOnce, wroteOnce, wroteLast, sevens}
 use Rattle.edges.specs.Cells.{cells}
+use Rattle.edges.specs.DirtyColours.{dirtyColours}
 use Rattle.edges.specs.Rows.{text, answers, outcome, numbers, Row, _gives_, EveryRowHolds}
 use Rattle.edges.specs.Sheets.{exampleSheet, exampleText, oneStep, oneLine, cardSheet, cardText}
 use Rattle.edges.specs.Transfers.{transfers}
@@ -52,7 +53,7 @@ table =
     -- 6. pages 0 and 1: write, then write: one flush
     ∷ (answers (ask fresh (map 0 0 5 2 ∷ map 0 1 5 2 ∷ write 0 0 3 42 ∷ write 0 1 3 43 ∷ [])) gives answers (done ∷ done ∷ written 5 ∷ accepts 5 (only (Flush 0)) none ∷ []))
     -- 7. held mask 3 with the flag set: 2
-    ∷ (answers (ask (withRecords (set (set (fresh .tables .records) 0 3) 2 1) fresh) (map 0 0 0 1 ∷ [])) gives answers (refuses 2 ∷ []))
+    ∷ (answers (ask (recorded 3 0 1 0 0) (map 0 0 0 1 ∷ [])) gives answers (refuses 2 ∷ []))
     -- 8. device write over a dirty page: one purge
     ∷ (answers (ask fresh (map 0 2 5 2 ∷ write 0 2 3 42 ∷ deviceWrite 5 (replicate 64 7) ∷ [])) gives answers (done ∷ written 5 ∷ accepts 5 (only (Purge 2)) none ∷ []))
     -- 9. second read of one word in a row: no order, no change
@@ -98,8 +99,8 @@ table =
     ∷ (text (sheetText board01 (oneStep (12 ∷ 3 ∷ 0 ∷ 0 ∷ 0 ∷ 0 ∷ 0 ∷ 0 ∷ 0 ∷ []))) gives text (oneLine (49 ∷ 54 ∷ []) 45))
     -- and within one: the word that was brought is taken, and shown
     ∷ (text (sheetText board01 cardSheet) gives text cardText)
-    -- request N6's transfers, and the cells of the page model
-    ∷ (transfers ++ cells)
+    -- request N6's transfers, request N7's dirty colours, and the cells of the page model
+    ∷ (transfers ++ (dirtyColours ++ cells))
 
 -- every row of the table holds
 abbrev pub Edges : Type 0

@@ -23,12 +23,12 @@ newAnswers =
 abbrev pub transfers : List Row
 transfers =
     -- a device reads: no colour is dirty; it writes: none is held or dirty; a mark of 3: 2
-    (answers (ask (recorded 1 0 0 1) (map 0 0 0 1 ∷ [])) gives answers (done ∷ []))
-    ∷ (answers (ask (recorded 1 0 1 1) (map 0 0 0 1 ∷ [])) gives answers (refuses 2 ∷ []))
-    ∷ (answers (ask (recorded 0 1 0 2) (map 0 0 0 1 ∷ [])) gives answers (done ∷ []))
-    ∷ (answers (ask (recorded 1 0 0 2) (map 0 0 0 1 ∷ [])) gives answers (refuses 2 ∷ []))
-    ∷ (answers (ask (recorded 1 0 1 2) (map 0 0 0 1 ∷ [])) gives answers (refuses 2 ∷ []))
-    ∷ (answers (ask (recorded 0 0 0 3) (map 0 0 0 1 ∷ [])) gives answers (refuses 2 ∷ []))
+    (answers (ask (recorded 1 0 0 1 8) (map 0 0 0 1 ∷ [])) gives answers (done ∷ []))
+    ∷ (answers (ask (recorded 1 0 1 1 0) (map 0 0 0 1 ∷ [])) gives answers (refuses 2 ∷ []))
+    ∷ (answers (ask (recorded 0 1 0 2 8) (map 0 0 0 1 ∷ [])) gives answers (done ∷ []))
+    ∷ (answers (ask (recorded 1 0 0 2 8) (map 0 0 0 1 ∷ [])) gives answers (refuses 2 ∷ []))
+    ∷ (answers (ask (recorded 1 0 1 2 0) (map 0 0 0 1 ∷ [])) gives answers (refuses 2 ∷ []))
+    ∷ (answers (ask (recorded 0 0 0 3 8) (map 0 0 0 1 ∷ [])) gives answers (refuses 2 ∷ []))
     -- begin read over a dirty page: one flush, and its word is taken; until the end the page is read and not written
     ∷ (answers (ask wroteLast (beginRead 5 ∷ takeWord 5 63 ∷ read 0 2 63 ∷ write 0 2 63 43 ∷ endTransfer 5 ∷ write 0 2 63 43 ∷ [])) gives answers (accepts 5 (only (Flush 2)) none ∷ takes 42 ∷ finds 5 42 ∷ refuses 15 ∷ done ∷ written 5 ∷ []))
     -- begin write over a dirty page: one flush; until the end the page is neither read nor written

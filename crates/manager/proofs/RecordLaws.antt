@@ -14,6 +14,7 @@ use Rattle.board.specs.declared.Board.{Board}
 use Rattle.page_model.specs.declared.FrameRecord.{FrameRecord}
 use Rattle.page_model.specs.Record.{keepsRules, startRecord}
 use Rattle.manager.specs.Tables.{recordWords, recordAt, putRecord, startRecords, startWord, recordsKeepRules, tabulate}
+use Rattle.manager.specs.Theorems.{StartRecords}
 
 module _ (rs : List ℕ) (f : ℕ) (r : FrameRecord) where
   pub length-putRecord : length (putRecord rs f r) ≡ length rs
@@ -110,3 +111,6 @@ start-words (suc frames) n =
   where
     again : (i : ℕ) → startWord n (suc (suc (suc (suc (suc i))))) ≡ startWord n i
     again i = let e : suc (suc (suc (suc (suc i)))) % recordWords ≡ i % recordWords = omega arith in rw e
+
+pub start-records : StartRecords
+start-records frames n = (start-words frames n, recordAt-start frames n)

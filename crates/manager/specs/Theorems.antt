@@ -3,13 +3,14 @@ use mathlib.Core.Bool.{true, false}
 use mathlib.Core.List.{List, List·Memᴰ}
 use mathlib.Core.Logic.{_↔_}
 use mathlib.Core.Path.{_≡_}
-use Prim.Native.Nat.{ℕ, _≤_, _<_}
+use Prim.Native.Nat.{ℕ, _*_, _≤_, _<_}
 use Rattle.board.specs.declared.Board.{Board}
 use Rattle.board.specs.Board.{Regular, colourOf}
+use Rattle.page_model.specs.Record.{startRecord}
 use Rattle.page_model.specs.Table as step
 use Rattle.page_model.specs.Theorems.{Passes}
 use Rattle.mapping.specs.Entry.{readWrite, mappingAt}
-use Rattle.manager.specs.Tables.{Tables, recordAt, lengthsRight, rulesKept, protectionAt}
+use Rattle.manager.specs.Tables.{Tables, recordWords, recordAt, startRecords, startWord, lengthsRight, rulesKept, protectionAt, tabulate}
 use Rattle.manager.specs.Refusals.{Cause, _if_, firstRefusal, refusalPlace, inOrder, isRight}
 
 -- ---- the tables' rules
@@ -17,6 +18,14 @@ use Rattle.manager.specs.Refusals.{Cause, _if_, firstRefusal, refusalPla
 -- the tables have their lengths and keep their rules
 abbrev pub WellFormed : Board → Tables → Type 0
 WellFormed b t = (lengthsRight b t ≡ true) × (rulesKept b t ≡ true)
+
+-- ---- the start
+
+-- the words that the function `start` writes are those of every frame's record at the start
+abbrev pub StartRecords : Type 0
+StartRecords =
+    (frames n : ℕ)
+    → (tabulate (frames * recordWords) (startWord n) ≡ startRecords frames n) × ((f : ℕ) → f < frames → recordAt (startRecords frames n) f ≡ startRecord n)
 
 -- ---- refusals
 

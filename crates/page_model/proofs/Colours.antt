@@ -1,7 +1,7 @@
 -- A step as the code takes it: one cell for its own colour, and one for the others that are held.
 use mathlib.Core.Path.{_≡_, refl, sym, ap, ap₂, _∙_}
 use mathlib.Core.Bool.{Bool, true, false, not, _&&_, _||_, cond, or-false, and-false, false≢true}
-use mathlib.Core.List.{[], _++_, map}
+use mathlib.Core.List.{_++_, map}
 use Prim.Native.Nat.{ℕ, _^_, _≤_, _<_}
 use native.Mathlib.Decide.{decLt}
 use native.Mathlib.Omega.{arith}
@@ -9,19 +9,19 @@ use borrow.Author.Tests.{eqb-true, eqb-false, eq-eqb, ne-eqb}
 use lib.Bits.{bitOr, or-lt}
 use lib.Dec.{eqb}
 use lib.Pow.{pow-pos}
-use Rattle.bits.specs.Mask.{bit, withBit, withoutBit, digit, any, firstOf, all, placesOf}
+use Rattle.bits.specs.Mask.{bit, withBit, withoutBit, digit, any, all, placesOf}
 use Rattle.bits.proofs.Mask.{bit-past, bit-none, bit-one, bit-or, bit-with, bit-without, with-lt, without-lt, at-place, all-at, any-one, first-one, places-none, places-one}
 use Rattle.bits.proofs.Tautology.{all4, equalIf, law4}
 use Rattle.page_model.specs.declared.FrameRecord.{FrameRecord}
 use Rattle.page_model.specs.declared.Op.{Op}
 use Rattle.page_model.specs.declared.Op.the-variants.{None, Flush, Purge}
-use Rattle.page_model.specs.Cases.{stateNumber, operationNumber, stepNumber, rowAt, caseOf, caseIn, caseAt, markAt, operationAt, withState}
+use Rattle.page_model.specs.Cases.{stateNumber, operationNumber, stepNumber, rowAt, caseOf, caseAt, markAt, operationAt, withState}
 use Rattle.page_model.specs.Busy.{markAfter}
 use Rattle.page_model.specs.Record.{stateFrom, stateOf, isHeld, isDirty, isStale}
 use Rattle.page_model.specs.Step.{isFlush, isPurge, cellOf, recordAfter, operations, opList, firstTwo, stepped}
 use Rattle.page_model.specs.Table.{ColourState, empty, present, dirty, stale, Operation, none, flush, purge, Cell, _⇒_, own, other, Step, read, write, deviceRead, deviceWrite, deviceWritePart, beginRead, beginWrite, roleIf, ownOf, reach}
 use Rattle.page_model.proofs.Rules.{Keeps, flag, dirty-only, dirty-at}
-use Rattle.page_model.proofs.Cells.{Test, Agree, apart, nextTest, operationTest, rowOf, row-cell, at, at-law, kept-next, kept-operation}
+use Rattle.page_model.proofs.Cells.{Test, Agree, apart, nextTest, operationTest, at, kept-next, kept-operation}
 use Rattle.page_model.proofs.Idle.{record-is}
 
 -- ---- the numbers

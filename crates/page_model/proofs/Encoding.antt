@@ -9,7 +9,6 @@ use lib.Pow.{pow-pos}
 use Rattle.bits.specs.Mask.{bit, digit, maskOf, countOf, any, firstOf}
 use Rattle.bits.proofs.Mask.{mask-of, maskOf-lt, bit-maskOf, any-cong, any-none, any-false, any-of, any-at, first-cong, first-none, first-one, first-at, one-countOf, digit-lt, eqb-digit, bit-none}
 use Rattle.bits.proofs.Tautology.{and-right}
-use Rattle.page_model.specs.declared.FrameRecord.{FrameRecord}
 use Rattle.page_model.specs.Record.{stateFrom, stateOf, markFits, dirtyColourOf, encode, isHeld, isDirty, isStale, freed}
 use Rattle.page_model.specs.Step.{cellOf, recordAfter, operations}
 use Rattle.page_model.specs.Table.{ColourState, empty, present, dirty, stale}

@@ -205,10 +205,9 @@ impl FrameRecord {
             dirty_colour: colours as u32,
         };
         let next = rest.with_state(colour, own.1);
-        let ops = first_two(
-            elsewhere(others.0, self.dirty_colour as usize, colour),
-            operation(own.0, colour),
-        );
+        let first = elsewhere(others.0, self.dirty_colour as usize, colour);
+        let second = operation(own.0, colour);
+        let ops = first_two(first, second);
         Stepped { next, ops }
     }
 

@@ -21,11 +21,11 @@ use Rattle.position_hold.specs.Fix as fix
 use Rattle.position_hold.specs.Rows.{EveryRowHolds, rows, begunRows, LastSentRows}
 
 in-one-step : EveryRowHolds rows
-unfolding mask.bit mask.maskOf mask.countOf mask.all mask.any mask.placesOf board.pageLines board.lines board.cacheWords board.memoryWords board.colourOf board.lineOf board.colourLine board.lineAt board.cacheAt board.lineOffset board.frameAt board.memoryAt frame-record.stateOf frame-record.coloursKeepRules frame-record.keepsRules frame-record.encode record-step.cellOf record-step.recordAfter record-step.operations list-change.empty list-change.including list-change.insertAt list-change.without list-change.remove entry.inRange entry.isZero entry.isAt entry.isBefore list-lookup.firstOf list-lookup.lookup list-lookup.mappingOf list-lookup.placeFor list-rules.allInRange list-rules.risesAt list-rules.rising list-rules.restZero list-rules.keepsRules refusals.firstRefusal manager-tables.recordAt manager-tables.putRecord manager-tables.recordsKeepRules manager-tables.lengthsRight manager-tables.rulesKept manager-tables.protection manager-tables.mappingState manager-tables.protectionAt manager-tables.tabulate manager-tables.refill hardware.lineWordsOf hardware.copyOut hardware.writeBack hardware.empty hardware.evict hardware.fill hardware.sweep hardware.flushLine hardware.purgeLine hardware.flush hardware.purge hardware.replace hardware.access hardware.readWord hardware.putWord hardware.writeWord hardware.deviceRead hardware.deviceWrite part.part part.overlay tag.isDirty tag.names tag.frameOf tag.tagKeepsRules tag.tagsKeepRules machine-refusals.storeLengths machine-refusals.lentCauses machine-refusals.ownCauses machine-refusals.causes machine-step.operate machine-step.carryOut machine-step.accept machine-step.step machine-call.afterItems machine-call.answerAt machine-call.callCauses machine-call.perform position-hold.firstReads position-hold.fixReads position-hold.look fix.holdRefused
+unfolding mask.bit mask.maskOf mask.countOf mask.all mask.any mask.firstOf mask.placesOf board.pageLines board.lines board.cacheWords board.memoryWords board.colourOf board.lineOf board.colourLine board.lineAt board.cacheAt board.lineOffset board.frameAt board.memoryAt frame-record.stateOf frame-record.coloursKeepRules frame-record.dirtyColourOf frame-record.keepsRules frame-record.encode record-step.cellOf record-step.recordAfter record-step.operations list-change.empty list-change.including list-change.insertAt list-change.without list-change.remove entry.inRange entry.isZero entry.isAt entry.isBefore list-lookup.firstOf list-lookup.lookup list-lookup.mappingOf list-lookup.placeFor list-rules.allInRange list-rules.risesAt list-rules.rising list-rules.restZero list-rules.keepsRules refusals.firstRefusal manager-tables.recordAt manager-tables.putRecord manager-tables.startRecords manager-tables.recordsKeepRules manager-tables.lengthsRight manager-tables.rulesKept manager-tables.protection manager-tables.mappingState manager-tables.protectionAt manager-tables.tabulate manager-tables.refill hardware.lineWordsOf hardware.copyOut hardware.writeBack hardware.empty hardware.evict hardware.fill hardware.sweep hardware.flushLine hardware.purgeLine hardware.flush hardware.purge hardware.replace hardware.access hardware.readWord hardware.putWord hardware.writeWord hardware.deviceRead hardware.deviceWrite part.part part.overlay tag.isDirty tag.names tag.frameOf tag.tagKeepsRules tag.tagsKeepRules machine-refusals.storeLengths machine-refusals.lentCauses machine-refusals.ownCauses machine-refusals.causes machine-step.operate machine-step.carryOut machine-step.accept machine-step.step machine-call.afterItems machine-call.answerAt machine-call.callCauses machine-call.perform position-hold.firstReads position-hold.fixReads position-hold.look fix.holdRefused
 in-one-step = (refl, (refl, (refl, (refl, (refl, (refl, (refl, (refl, (refl, (refl, (refl, (refl, (refl, (refl, (refl, (refl, (refl, (refl, (refl, (refl, (refl, (refl, (refl, (refl, tt))))))))))))))))))))))))
 
 word-by-word : EveryRowHolds begunRows
-unfolding mask.bit mask.maskOf mask.countOf mask.all mask.any mask.placesOf board.pageLines board.lines board.cacheWords board.memoryWords board.colourOf board.lineOf board.colourLine board.lineAt board.cacheAt board.lineOffset board.frameAt board.memoryAt frame-record.stateOf frame-record.coloursKeepRules frame-record.keepsRules frame-record.encode record-step.cellOf record-step.recordAfter record-step.operations list-change.empty list-change.including list-change.insertAt entry.inRange entry.isZero entry.isAt entry.isBefore list-lookup.firstOf list-lookup.lookup list-lookup.mappingOf list-lookup.placeFor list-rules.allInRange list-rules.risesAt list-rules.rising list-rules.restZero list-rules.keepsRules refusals.firstRefusal manager-tables.recordAt manager-tables.putRecord manager-tables.recordsKeepRules manager-tables.lengthsRight manager-tables.rulesKept manager-tables.protection manager-tables.mappingState manager-tables.protectionAt manager-tables.tabulate manager-tables.refill hardware.lineWordsOf hardware.copyOut hardware.writeBack hardware.empty hardware.fill hardware.sweep hardware.flushLine hardware.purgeLine hardware.flush hardware.purge hardware.replace hardware.access hardware.putWord hardware.writeWord hardware.deviceWrite hardware.bringWord part.overlay tag.isDirty tag.names tag.frameOf tag.tagKeepsRules tag.tagsKeepRules machine-refusals.storeLengths machine-refusals.lentCauses machine-refusals.ownCauses machine-refusals.causes machine-step.operate machine-step.carryOut machine-step.accept machine-step.step machine-call.callCauses machine-call.perform
+unfolding mask.bit mask.maskOf mask.countOf mask.all mask.any mask.firstOf mask.placesOf board.pageLines board.lines board.cacheWords board.memoryWords board.colourOf board.lineOf board.colourLine board.lineAt board.cacheAt board.lineOffset board.frameAt board.memoryAt frame-record.stateOf frame-record.coloursKeepRules frame-record.dirtyColourOf frame-record.keepsRules frame-record.encode record-step.cellOf record-step.recordAfter record-step.operations list-change.empty list-change.including list-change.insertAt entry.inRange entry.isZero entry.isAt entry.isBefore list-lookup.firstOf list-lookup.lookup list-lookup.mappingOf list-lookup.placeFor list-rules.allInRange list-rules.risesAt list-rules.rising list-rules.restZero list-rules.keepsRules refusals.firstRefusal manager-tables.recordAt manager-tables.putRecord manager-tables.startRecords manager-tables.recordsKeepRules manager-tables.lengthsRight manager-tables.rulesKept manager-tables.protection manager-tables.mappingState manager-tables.protectionAt manager-tables.tabulate manager-tables.refill hardware.lineWordsOf hardware.copyOut hardware.writeBack hardware.empty hardware.fill hardware.sweep hardware.flushLine hardware.purgeLine hardware.flush hardware.purge hardware.replace hardware.access hardware.putWord hardware.writeWord hardware.deviceWrite hardware.bringWord part.overlay tag.isDirty tag.names tag.frameOf tag.tagKeepsRules tag.tagsKeepRules machine-refusals.storeLengths machine-refusals.lentCauses machine-refusals.ownCauses machine-refusals.causes machine-step.operate machine-step.carryOut machine-step.accept machine-step.step machine-call.callCauses machine-call.perform
 word-by-word = (refl, (refl, (refl, (refl, (refl, (refl, (refl, (refl, (refl, (refl, (refl, tt)))))))))))
 
 pub last-sent-rows : LastSentRows

@@ -11,6 +11,7 @@ use borrow.Author.Tests.{lt-ltb, le-ltb}
 use Rattle.board.specs.declared.Board.{Board}
 use Rattle.board.specs.Board.{board01}
 use Rattle.mapping.specs.Change.{empty}
+use Rattle.manager.specs.Tables.{startRecords}
 use Rattle.mapping.specs.declared.MappingList.{MappingList}
 use Rattle.manager.specs.Answers.{Outcome, numberOf}
 use Rattle.machine.specs.State.{State, Single, Answer}
@@ -19,7 +20,7 @@ use Rattle.run_sheet.specs.Did.{Did}
 use Rattle.sheet_codec.specs.Format.{mostMappings, mostSteps, mappingCount, stepCount, isBroken}
 use Rattle.sheet_codec.specs.Put.{Put}
 use Rattle.run_sheet.specs.Ran.{Ran}
-use Rattle.run_sheet.specs.Run.{Run, zeros, start, runFrom, advance, advanceAll, afterMappings, afterSteps, runMappings, runSteps, closed, sheetText, textBytes, printed}
+use Rattle.run_sheet.specs.Run.{Run, startWith, start, runFrom, advance, advanceAll, afterMappings, afterSteps, runMappings, runSteps, closed, sheetText, textBytes, printed}
 use Rattle.sheet_codec.specs.Text.{mappingLine, mappingLineOf, stepLine, stepLineOf, endLine, refusedLine, lineBytes}
 use Rattle.sheet_codec.specs.Totals.{flushesOf, purgesOf}
 use Rattle.sheet_codec.proofs.Written.{overlay-nil, put-both, put-as, put-within}
@@ -162,11 +163,11 @@ pub ran-closed : {r : Run} {i : ℕ} {l m n : List ℕ} {k end f p : ℕ} {st : 
 ran-closed {r = r} h x y =
     put-as (ap₂ (λ (f p : ℕ). r .text ++ endLine f p) (x .flushes-are) (x .purges-are)) (omega arith) (put-both (x .text-is) y)
 
-module _ (sheet : List ℕ) (list : MappingList) (m n : ℕ) where
-  pub run-is : list ≡ empty → m ≡ mappingCount sheet → n ≡ stepCount sheet
-      → afterSteps board01 sheet n (afterMappings board01 sheet m (runFrom (zeros board01 list))) ≡ runSteps board01 sheet
+module _ (sheet : List ℕ) (list : MappingList) (records : List ℕ) (m n : ℕ) where
+  pub run-is : list ≡ empty → records ≡ startRecords (board01 .frames) (board01 .colours) → m ≡ mappingCount sheet → n ≡ stepCount sheet
+      → afterSteps board01 sheet n (afterMappings board01 sheet m (runFrom (startWith board01 list records))) ≡ runSteps board01 sheet
   unfolding start runSteps runMappings
-  run-is e f g = rw (e, f, g)
+  run-is e r f g = rw (e, r, f, g)
 
 module _ (l sheet : List ℕ) where
   pub printed-nothing : length l < textBytes → Put l 0 (printed (length l) sheet) textBytes l 0

@@ -25,18 +25,18 @@ pub record Run : Type 0 where
 
 -- ---- the start: nothing mapped or cached, memory all 0
 
--- a list, and every other word and byte 0
-unfoldable pub zeros : Board → MappingList → State
+-- a list, records, and every other word and byte 0
+unfoldable pub startWith : Board → MappingList → List ℕ → State
 unfolding memoryWords cacheWords lines
-zeros b list =
-    machineOf list (startRecords (b .frames) (b .colours)) (replicate capacity 0)
+startWith b list records =
+    machineOf list records (replicate capacity 0)
     (replicate (memoryWords b) 0)
     (replicate (cacheWords b) 0)
     (replicate (lines b) 0)
 
 unfoldable pub start : Board → State
-unfolding zeros empty
-start b = zeros b empty
+unfolding startWith empty startRecords
+start b = startWith b empty (startRecords (b .frames) (b .colours))
 
 -- nothing called yet
 abbrev pub runFrom : State → Run

@@ -39,6 +39,7 @@ pub fn run_unbroken(sheet: &[u8], text: &mut [u8]) -> usize
     let steps = format::step_count(sheet, mappings);
     let list = mapping::empty();
     let mut records = [0u32; RECORDS_WORDS];
+    manager::start(&mut records);
     let mut protections = [0u8; mapping::CAPACITY];
     let mut memory = [0u32; MEMORY_WORDS];
     let mut words = [0u32; CACHE_WORDS];

@@ -1,5 +1,4 @@
 -- `page_model::elsewhere` meets its contract.
-use mathlib.Core.Path.{_∙_}
 use borrow.Author.Needs.{needs}
 use borrow.Author.Tests.{eq-eqb, ne-eqb}
 use Rattle.page_model.proofs.elsewhere.Statement.{statement}

@@ -1,7 +1,6 @@
 -- `page_model::operation` meets its contract.
 use mathlib.Core.Path.{_≡_, refl}
 use Prim.Native.Nat.{ℕ, zero, suc}
-use native.Mathlib.Omega.{arith}
 use Rattle.page_model.specs.declared.Op.the-variants.{None}
 use Rattle.page_model.specs.Cases.{operationAt}
 use Rattle.page_model.proofs.operation.Statement.{statement}
