@@ -56,7 +56,7 @@ impl FrameRecord {
         if !self.colours_keep_rules(colours) {
             return false;
         }
-        self.dirty_colour == self.told_colour(colours)
+        self.dirty_colour == self.told_colour(colours as u32)
     }
 
     // Whether no bit is past the colours, none in both masks, the flag 0 or 1, and with the flag set exactly one held bit.
@@ -76,15 +76,14 @@ impl FrameRecord {
         self.dirty == 1 && u32::count_ones(self.held) == 1
     }
 
-    // The dirty colour that flag and held mask tell: the first held one with the flag set, and the number of colours without it.
-    fn told_colour(self, colours: usize) -> u32
-        requires { ⌜ colours ≤ width ⌝ }
-        ensures { λ r. ⌜ r ≡ cond (eqb (self .dirty) 1) (trailingZeros width (self .held)) colours ⌝ }
+    // The dirty colour that flag and held mask tell: with the flag set the first held one, and without it none, by its number.
+    fn told_colour(self, none: u32) -> u32
+        ensures { λ r. ⌜ r ≡ cond (eqb (self .dirty) 1) (trailingZeros width (self .held)) none ⌝ }
     {
         if self.dirty == 1 {
             u32::trailing_zeros(self.held)
         } else {
-            colours as u32
+            none
         }
     }
 
@@ -195,6 +194,7 @@ impl FrameRecord {
     {
         let own = table::case_at(step, true, self.state(colour));
         let others = table::case_at(step, false, self.held_state());
+        let dirty = self.dirty_colour as usize;
         let held = bits::without_bit(self.held, colour);
         let stale = bits::without_bit(self.stale, colour);
         let rest = FrameRecord {
@@ -205,7 +205,7 @@ impl FrameRecord {
             dirty_colour: colours as u32,
         };
         let next = rest.with_state(colour, own.1);
-        let first = elsewhere(others.0, self.dirty_colour as usize, colour);
+        let first = elsewhere(others.0, dirty, colour);
         let second = operation(own.0, colour);
         let ops = first_two(first, second);
         Stepped { next, ops }

@@ -38,4 +38,4 @@ returns-3 c =
     ap (eqb (a .self .«dirty_colour»)) (c .before .told-colour .ensures ∙ told-colour (a .colours) width (a .self) (at-mark .before .pre) colours) ∙ rules-are (a .colours) (a .self) colours mark
 
 pub keeps-rules-spec : {M : Type 1} → statement M
-keeps-rules-spec = tie.close (tie.spec (λ c κs. search needs) returns (λ c κs. search needs) returns-2 (λ c κs. search needs) returns-3)
+keeps-rules-spec = tie.close (tie.spec (λ c κs. search needs) returns (λ c κs. search needs) returns-2 (λ c. search needs) (λ c κs. search needs) returns-3)

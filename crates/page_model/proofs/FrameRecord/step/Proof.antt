@@ -18,12 +18,12 @@ returns : tie.Need-returns
 returns c s step own reaches rules =
     let at-operation = c .before in
     let at-elsewhere = at-operation .before in
-    let at-next = at-elsewhere .before .before in
+    let at-next = at-elsewhere .before in
     let at-mark = at-next .before in
     let at-stale = at-mark .before in
     let at-held = at-stale .before .before in
     let at-masks = at-held .before .before in
-    let at-others = at-masks .before .before in
+    let at-others = at-masks .before .before .before in
     let at-own = at-others .before .before in
     let a = at-own .before .before .args in
     let own-case = at-own .case-at .ensures ∙ (λ i. caseAt (step i) true ((at-own .before .state .ensures ∙ ap (λ (k : ℕ). stateNumber (stateOf (a .self) k)) own) i)) ∙ case-cell (stepNumber s) true _ in
@@ -47,6 +47,7 @@ step-spec =
     (λ c κs. search needs)
     (λ c κs. search needs)
     (λ c κs. search needs)
+    (λ c. search needs)
     (λ c κs. search needs)
     (λ c κs. search needs)
     (λ c κs. search needs)
@@ -54,7 +55,6 @@ step-spec =
     (λ c κs. search needs)
     (λ c. search needs)
     (λ c κs. search needs)
-    (λ c. search needs)
     (λ c κs. search needs)
     (λ c κs. search needs)
     (λ c κs. search needs)
