@@ -23,13 +23,8 @@ fn two_pages() -> MappingList {
 }
 
 // Records that are empty but for frame 3's.
-fn records_of(held: u32, stale: u32, dirty: u32, busy: u32) -> [u32; 256] {
-    let mut records = [0u32; 256];
-    records[12] = held;
-    records[13] = stale;
-    records[14] = dirty;
-    records[15] = busy;
-    records
+fn records_of(held: u32, stale: u32, dirty: u32, busy: u32, dirty_colour: u32) -> [u32; 320] {
+    show::put(show::start(), 3, held, stale, dirty, busy, dirty_colour)
 }
 
 // ---- beginnings
@@ -37,20 +32,20 @@ fn records_of(held: u32, stale: u32, dirty: u32, busy: u32) -> [u32; 256] {
 // An empty page; a dirty one with a stale colour, or with two before the dirty one; present colours with a stale one, behind these and before them.
 fn begins() {
     io::write_all(STDOUT_FILENO, b"begins\n");
-    begun(0, 0, 0);
-    begun(1, 2, 1);
-    begun(128, 3, 1);
-    begun(3, 4, 0);
-    begun(130, 1, 0);
+    begun(0, 0, 0, 8);
+    begun(1, 2, 1, 0);
+    begun(128, 3, 1, 7);
+    begun(3, 4, 0, 8);
+    begun(130, 1, 0, 8);
 }
 
 // A beginning each of a read and of a write, of a frame with this record.
-fn begun(held: u32, stale: u32, dirty: u32) {
-    let mut records = records_of(held, stale, dirty, 0);
+fn begun(held: u32, stale: u32, dirty: u32, dirty_colour: u32) {
+    let mut records = records_of(held, stale, dirty, 0, dirty_colour);
     let mut protections = [9u8; 256];
     show::begin_read(two_pages(), &mut records, &mut protections, 3);
     show::record(&records);
-    let mut again = records_of(held, stale, dirty, 0);
+    let mut again = records_of(held, stale, dirty, 0, dirty_colour);
     let mut filled = [9u8; 256];
     show::begin_write(two_pages(), &mut again, &mut filled, 3);
     show::record(&again);
@@ -62,23 +57,20 @@ fn begun(held: u32, stale: u32, dirty: u32) {
 fn bars() {
     io::write_all(STDOUT_FILENO, b"barred\n");
     let list = two_pages();
-    barred(list, 256, 256, 0);
-    barred(list, 256, 256, 2);
-    barred(mapping::insert_at(list, 2, entry(1, 8, 3, 1)), 256, 256, 0);
-    barred(list, 255, 256, 2);
-    barred(list, 256, 257, 2);
+    barred(list, 320, 256, 0);
+    barred(list, 320, 256, 2);
+    barred(mapping::insert_at(list, 2, entry(1, 8, 3, 1)), 320, 256, 0);
+    barred(list, 319, 256, 2);
+    barred(list, 320, 257, 2);
 }
 
 // On r words of records and p protections: accesses and new transfers of frame 3, which a device writes, a word of it in the wrong direction, and a
 // word and an end of frame 5, which is free.
 fn barred(list: MappingList, r: usize, p: usize, flag: u32)
-    requires { ⌜ (r ≤ 257) × (p ≤ 257) ⌝ }
+    requires { ⌜ (r ≤ 320) × (p ≤ 257) ⌝ }
 {
-    let mut records = [0u32; 257];
+    let mut records = show::put(records_of(0, 3, 0, 2, 8), 63, 0, 0, flag, 0, 8);
     let mut protections = [9u8; 257];
-    records[13] = 3;
-    records[15] = 2;
-    records[254] = flag;
     let r = &mut records[0..r];
     let p = &mut protections[0..p];
     show::read(list, r, p, 0, 0);
@@ -98,14 +90,14 @@ fn barred(list: MappingList, r: usize, p: usize, flag: u32)
 fn first_refusals() {
     io::write_all(STDOUT_FILENO, b"first\n");
     let list = two_pages();
-    let mut records = records_of(0, 3, 0, 2);
+    let mut records = records_of(0, 3, 0, 2, 8);
     let mut protections = [9u8; 256];
     records[3] = 2;
     before_busy(list, &mut records, &mut protections);
     before_words(list, &mut records, &mut protections);
 }
 
-fn before_busy(list: MappingList, records: &mut [u32; 256], protections: &mut [u8; 256]) {
+fn before_busy(list: MappingList, records: &mut [u32; 320], protections: &mut [u8; 256]) {
     show::read(list, records, protections, 16, 0);
     show::read(list, records, protections, 0, 5);
     show::write(list, records, protections, 0, 5);
@@ -118,7 +110,7 @@ fn before_busy(list: MappingList, records: &mut [u32; 256], protections: &mut [u
 }
 
 // Words of a frame that is free, and in the wrong direction.
-fn before_words(list: MappingList, records: &mut [u32; 256], protections: &mut [u8; 256]) {
+fn before_words(list: MappingList, records: &mut [u32; 320], protections: &mut [u8; 256]) {
     show::bring_word(list, records, protections, 64, 64);
     show::bring_word(list, records, protections, 5, 64);
     show::take_word(list, records, protections, 64, 64);
@@ -133,7 +125,7 @@ fn before_words(list: MappingList, records: &mut [u32; 256], protections: &mut [
 fn device_writes() {
     io::write_all(STDOUT_FILENO, b"device writes\n");
     let list = two_pages();
-    let mut records = records_of(0, 3, 0, 2);
+    let mut records = records_of(0, 3, 0, 2, 8);
     let mut protections = [9u8; 256];
     brought(list, &mut records, &mut protections);
     beside(list, &mut records, &mut protections);
@@ -141,7 +133,7 @@ fn device_writes() {
 }
 
 // Words fill the protections, which were spoilt before.
-fn brought(list: MappingList, records: &mut [u32; 256], protections: &mut [u8; 256]) {
+fn brought(list: MappingList, records: &mut [u32; 320], protections: &mut [u8; 256]) {
     show::bring_word(list, records, protections, 3, 0);
     protections[0] = 9;
     protections[2] = 9;
@@ -150,7 +142,7 @@ fn brought(list: MappingList, records: &mut [u32; 256], protections: &mut [u8; 2
 }
 
 // Map and unmap of the busy frame, and a transfer of another frame.
-fn beside(list: MappingList, records: &mut [u32; 256], protections: &mut [u8; 256]) {
+fn beside(list: MappingList, records: &mut [u32; 320], protections: &mut [u8; 256]) {
     let three = show::map(list, records, protections, entry(2, 8, 3, 2));
     show::unmap(three, records, protections, 2, 8);
     show::begin_read(list, records, protections, 4);
@@ -158,7 +150,7 @@ fn beside(list: MappingList, records: &mut [u32; 256], protections: &mut [u8; 25
 }
 
 // The end fills the protections too, and is the end of frame 3's transfer alone; what is refused after it leaves them.
-fn written(list: MappingList, records: &mut [u32; 256], protections: &mut [u8; 256]) {
+fn written(list: MappingList, records: &mut [u32; 320], protections: &mut [u8; 256]) {
     protections[0] = 9;
     show::end_transfer(list, records, protections, 3);
     show::record(records);
@@ -175,7 +167,7 @@ fn written(list: MappingList, records: &mut [u32; 256], protections: &mut [u8; 2
 fn device_reads() {
     io::write_all(STDOUT_FILENO, b"device reads\n");
     let list = two_pages();
-    let mut records = records_of(1, 2, 0, 1);
+    let mut records = records_of(1, 2, 0, 1, 8);
     let mut protections = [9u8; 256];
     barred_reading(list, &mut records, &mut protections);
     read_meanwhile(list, &mut records, &mut protections);
@@ -183,7 +175,7 @@ fn device_reads() {
 }
 
 // All the words as a part among them.
-fn barred_reading(list: MappingList, records: &mut [u32; 256], protections: &mut [u8; 256]) {
+fn barred_reading(list: MappingList, records: &mut [u32; 320], protections: &mut [u8; 256]) {
     show::write(list, records, protections, 0, 0);
     show::device_read(list, records, protections, 3);
     show::device_write(list, records, protections, 3);
@@ -196,7 +188,7 @@ fn barred_reading(list: MappingList, records: &mut [u32; 256], protections: &mut
 }
 
 // A word; a read through the stale colour, and one through an empty colour, mapped and unmapped meanwhile.
-fn read_meanwhile(list: MappingList, records: &mut [u32; 256], protections: &mut [u8; 256]) {
+fn read_meanwhile(list: MappingList, records: &mut [u32; 320], protections: &mut [u8; 256]) {
     show::take_word(list, records, protections, 3, 0);
     show::read(list, records, protections, 1, 9);
     show::record(records);
@@ -207,7 +199,7 @@ fn read_meanwhile(list: MappingList, records: &mut [u32; 256], protections: &mut
 }
 
 // A word and the end fill the protections, which were spoilt before; then the frame takes no word, and a write.
-fn taken(list: MappingList, records: &mut [u32; 256], protections: &mut [u8; 256]) {
+fn taken(list: MappingList, records: &mut [u32; 320], protections: &mut [u8; 256]) {
     protections[0] = 2;
     show::take_word(list, records, protections, 3, 63);
     protections[2] = 9;

@@ -7,6 +7,9 @@ use mapping::Batch;
 use mapping::Mapping;
 use mapping::MappingList;
 use page_model::Op;
+ghost use mathlib.Core.Path.{_≡_};
+ghost use Prim.Native.Nat.{_≤_};
+ghost use lib.ListN.{length};
 
 // A mapping by its fields.
 pub fn entry(space: u8, page: u16, frame: u8, rights: u8) -> Mapping {
@@ -16,6 +19,38 @@ pub fn entry(space: u8, page: u16, frame: u8, rights: u8) -> Mapping {
         frame,
         rights,
     }
+}
+
+// The records at the start.
+pub fn start() -> [u32; 320]
+    ensures { λ r. ⌜ length r ≡ 320 ⌝ }
+{
+    let mut records = [0u32; 320];
+    manager::start(&mut records);
+    records
+}
+
+// Gives a frame this record.
+pub fn put(
+    records: [u32; 320],
+    frame: usize,
+    held: u32,
+    stale: u32,
+    dirty: u32,
+    busy: u32,
+    dirty_colour: u32,
+) -> [u32; 320]
+    requires { ⌜ frame ≤ 63 ⌝ }
+    ensures { λ r. ⌜ length r ≡ 320 ⌝ }
+{
+    let at = 5 * frame;
+    let mut next = records;
+    next[at] = held;
+    next[at + 1] = stale;
+    next[at + 2] = dirty;
+    next[at + 3] = busy;
+    next[at + 4] = dirty_colour;
+    next
 }
 
 // Maps a page, and hands back the list.
@@ -150,14 +185,15 @@ pub fn end_transfer(list: MappingList, records: &mut [u32], protections: &mut [u
     line(answer, protections);
 }
 
-// r: the record of frame 3 with its busy mark.
+// r: the record of frame 3.
 pub fn record(records: &[u32]) {
     io::write_all(STDOUT_FILENO, b"r");
-    if records.len() > 15 {
-        word(records[12]);
-        word(records[13]);
-        word(records[14]);
+    if records.len() > 19 {
         word(records[15]);
+        word(records[16]);
+        word(records[17]);
+        word(records[18]);
+        word(records[19]);
     }
     io::write_all(STDOUT_FILENO, b"\n");
 }
