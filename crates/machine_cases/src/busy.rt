@@ -23,31 +23,32 @@ pub fn transfers() {
 // Marks that are none; a device that reads, beside a dirty colour, and one that writes, beside a present one; then the two beside what they may stand with.
 fn marks() {
     io::write_all(STDOUT_FILENO, b"marks\n");
-    marked(0, 0, 0, 3);
-    marked(0, 0, 0, 4294967295);
-    marked(1, 0, 1, 1);
-    marked(1, 2, 0, 2);
-    marked(1, 2, 0, 1);
-    marked(0, 3, 0, 2);
+    marked(0, 0, 0, 3, 8);
+    marked(0, 0, 0, 4294967295, 8);
+    marked(1, 0, 1, 1, 0);
+    marked(1, 2, 0, 2, 8);
+    marked(1, 2, 0, 1, 8);
+    marked(0, 3, 0, 2, 8);
 }
 
-// Calls that are refused for no mark but one that breaks the rules, with this record.
-fn marked(held: u32, stale: u32, dirty: u32, busy: u32) {
-    let mut r = [0u32; 256];
+// With this record of frame 3.
+fn marked(held: u32, stale: u32, dirty: u32, busy: u32, dirty_colour: u32) {
+    let mut r = show::records_of(held, stale, dirty, busy, dirty_colour);
+    unbarred(&mut r);
+}
+
+// Calls that are refused for no mark but one that breaks the rules.
+fn unbarred(r: &mut [u32; 320]) {
     let mut p = [9u8; 256];
     let mut m = [70u32; 4096];
     let w = [80u32; 512];
     let mut t = [0u8; 64];
-    r[12] = held;
-    r[13] = stale;
-    r[14] = dirty;
-    r[15] = busy;
     let list = two_pages();
-    show::map(list, &r, &mut p, &m, &w, &t, entry(0, 1, 3, 1));
-    show::unmap(list, &r, &mut p, &m, &w, &t, 0, 0);
-    show::evict(list, &r, &mut p, &mut m, &w, &mut t, 40);
-    show::end_transfer(list, &mut r, &mut p, &m, &w, &t, 3);
-    show::left(&r, &p, &m, &w, &t);
+    show::map(list, r, &mut p, &m, &w, &t, entry(0, 1, 3, 1));
+    show::unmap(list, r, &mut p, &m, &w, &t, 0, 0);
+    show::evict(list, r, &mut p, &mut m, &w, &mut t, 40);
+    show::end_transfer(list, r, &mut p, &m, &w, &t, 3);
+    show::left(r, &p, &m, &w, &t);
 }
 
 // ---- a frame that a device writes
@@ -66,20 +67,18 @@ fn bars() {
 fn barred(m: usize, tag: u8)
     requires { ⌜ m ≤ 4096 ⌝ }
 {
-    let mut records = [0u32; 256];
+    let mut records = show::records_of(0, 3, 0, 2, 8);
     let mut protections = [9u8; 256];
     let mut memory = [70u32; 4096];
     let mut words = [80u32; 512];
     let mut tags = [0u8; 64];
     let mut buffer = [90u32; 64];
     let twelve = [90u32; 12];
-    records[13] = 3;
-    records[15] = 2;
     tags[0] = 4;
     tags[8] = 4;
     tags[40] = tag;
     let list = two_pages();
-    let r = &mut records[0..256];
+    let r = &mut records[0..320];
     let p = &mut protections[0..256];
     let m = &mut memory[0..m];
     let w = &mut words[0..512];
@@ -100,14 +99,12 @@ fn barred(m: usize, tag: u8)
 
 // Frame 0 is written too: a page that is not mapped has no frame, and not that one.
 fn first_refusals() {
-    let mut r = [0u32; 256];
+    let mut r = show::records_of(0, 3, 0, 2, 8);
     let mut p = [9u8; 256];
     let mut m = [70u32; 4096];
     let mut w = [80u32; 512];
     let mut t = [0u8; 64];
     r[3] = 2;
-    r[13] = 3;
-    r[15] = 2;
     t[0] = 4;
     t[8] = 4;
     let list = two_pages();
@@ -118,7 +115,7 @@ fn first_refusals() {
 
 fn before_accesses(
     list: MappingList,
-    r: &mut [u32; 256],
+    r: &mut [u32; 320],
     p: &mut [u8; 256],
     m: &mut [u32; 4096],
     w: &mut [u32; 512],
@@ -135,7 +132,7 @@ fn before_accesses(
 // The last part's buffer is one short.
 fn before_transfers(
     list: MappingList,
-    r: &mut [u32; 256],
+    r: &mut [u32; 320],
     p: &mut [u8; 256],
     m: &mut [u32; 4096],
     w: &[u32; 512],
@@ -155,7 +152,7 @@ fn before_transfers(
 // Words of a frame that is free, and in the wrong direction.
 fn before_words(
     list: MappingList,
-    r: &mut [u32; 256],
+    r: &mut [u32; 320],
     p: &mut [u8; 256],
     m: &mut [u32; 4096],
     w: &[u32; 512],
@@ -170,10 +167,10 @@ fn before_words(
     show::left(r, p, m, w, t);
 }
 
-// ---- whole transfers: memory starts as 64 f + o at offset o of frame f, cache words as 7, tags and records as 0
+// ---- whole transfers: memory starts as 64 f + o at offset o of frame f, cache words as 7, tags as 0
 
 fn stories() {
-    let mut r = [0u32; 256];
+    let mut r = show::start();
     let mut p = [9u8; 256];
     let mut m = [0u32; 4096];
     let mut w = [7u32; 512];
@@ -192,7 +189,7 @@ fn stories() {
 // A device begins to read a page that is dirty in colour 0 and stale in colour 1, and takes its first and last word.
 fn taken(
     list: MappingList,
-    r: &mut [u32; 256],
+    r: &mut [u32; 320],
     p: &mut [u8; 256],
     m: &mut [u32; 4096],
     w: &mut [u32; 512],
@@ -211,7 +208,7 @@ fn taken(
 // What the device that reads bars.
 fn barred_reading(
     list: MappingList,
-    r: &mut [u32; 256],
+    r: &mut [u32; 320],
     p: &mut [u8; 256],
     m: &mut [u32; 4096],
     w: &mut [u32; 512],
@@ -230,7 +227,7 @@ fn barred_reading(
 // Programs read through the stale and the empty colour, and a line is evicted; a further word and the end, with protections that were spoilt before.
 fn read_meanwhile(
     list: MappingList,
-    r: &mut [u32; 256],
+    r: &mut [u32; 320],
     p: &mut [u8; 256],
     m: &mut [u32; 4096],
     w: &mut [u32; 512],
@@ -252,7 +249,7 @@ fn read_meanwhile(
 // neighbours stay. Meanwhile no program reads it, and no word goes out.
 fn brought(
     list: MappingList,
-    r: &mut [u32; 256],
+    r: &mut [u32; 320],
     p: &mut [u8; 256],
     m: &mut [u32; 4096],
     w: &mut [u32; 512],
@@ -276,7 +273,7 @@ fn brought(
 // present in both colours, and ends.
 fn found(
     list: MappingList,
-    r: &mut [u32; 256],
+    r: &mut [u32; 320],
     p: &mut [u8; 256],
     m: &mut [u32; 4096],
     w: &mut [u32; 512],
@@ -295,7 +292,7 @@ fn found(
 // A device begins to write a page that a program has written: its word is flushed, not lost. Map, unmap and eviction go on.
 fn over_dirty(
     list: MappingList,
-    r: &mut [u32; 256],
+    r: &mut [u32; 320],
     p: &mut [u8; 256],
     m: &mut [u32; 4096],
     w: &mut [u32; 512],
@@ -315,7 +312,7 @@ fn over_dirty(
 // One word is brought beside it, and the program finds both.
 fn found_beside(
     list: MappingList,
-    r: &mut [u32; 256],
+    r: &mut [u32; 320],
     p: &mut [u8; 256],
     m: &mut [u32; 4096],
     w: &mut [u32; 512],

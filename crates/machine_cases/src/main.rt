@@ -10,7 +10,9 @@ use mapping::Batch;
 use mapping::Mapping;
 use mapping::MappingList;
 use show::entry;
+ghost use mathlib.Core.Path.{_≡_};
 ghost use Prim.Native.Nat.{_≤_};
+ghost use lib.ListN.{length};
 
 // The largest number.
 const MOST: usize = 18446744073709551615;
@@ -35,7 +37,7 @@ fn two_pages() -> MappingList {
 // ---- rows of single calls: wrong lengths, broken rules
 
 // The single calls but that of a part, none with the list of another: a row of those made in one step, and one of a read and a write that take a while. On space 0, frame 3, offset 0 and line 0, which nothing but the case refuses, and again on space 16, frame 64, offset 64 and line 64.
-// A case is the lengths of what is lent, the tag of line 40, and the flag of frame 63.
+// A case is the lengths of what is lent, the tag of line 40, the flag of frame 63, and the dirty colour of frame 3.
 fn tried(
     list: MappingList,
     r: usize,
@@ -46,11 +48,12 @@ fn tried(
     b: usize,
     tag: u8,
     flag: u32,
+    dirty_colour: u32,
 ) {
-    show::case(r, p, m, w, t, b, tag, flag);
-    if r <= 257 && p <= 257 && m <= 4097 && w <= 513 && t <= 65 && b <= 65 {
-        row(list, r, p, m, w, t, b, tag, flag, 0, 3, 0);
-        row(list, r, p, m, w, t, b, tag, flag, 16, 64, 64);
+    show::case(r, p, m, w, t, b, tag, flag, dirty_colour);
+    if r <= 321 && p <= 257 && m <= 4097 && w <= 513 && t <= 65 && b <= 65 {
+        row(list, r, p, m, w, t, b, tag, flag, dirty_colour, 0, 3, 0);
+        row(list, r, p, m, w, t, b, tag, flag, dirty_colour, 16, 64, 64);
     }
 }
 
@@ -65,21 +68,19 @@ fn row(
     b: usize,
     tag: u8,
     flag: u32,
+    dirty_colour: u32,
     space: u8,
     frame: u8,
     place: usize,
 )
-    requires { ⌜ (r ≤ 257) × (p ≤ 257) × (m ≤ 4097) × (w ≤ 513) × (t ≤ 65) × (b ≤ 65) ⌝ }
+    requires { ⌜ (r ≤ 321) × (p ≤ 257) × (m ≤ 4097) × (w ≤ 513) × (t ≤ 65) × (b ≤ 65) ⌝ }
 {
-    let mut records = [0u32; 257];
+    let mut records = row_records(flag, dirty_colour);
     let mut protections = [9u8; 257];
     let mut memory = [70u32; 4097];
     let mut words = [80u32; 513];
     let mut tags = [0u8; 65];
     let mut buffer = [90u32; 65];
-    records[12] = 1;
-    records[14] = 1;
-    records[254] = flag;
     tags[0] = 132;
     tags[40] = tag;
     let r = &mut records[0..r];
@@ -104,48 +105,64 @@ fn row(
     show::parts(r, p, m, w, t);
 }
 
+// Records for a row of any length.
+fn row_records(flag: u32, dirty_colour: u32) -> [u32; 321]
+    ensures { λ r. ⌜ length r ≡ 321 ⌝ }
+{
+    let mut records = [0u32; 321];
+    manager::start(&mut records);
+    records[15] = 1;
+    records[17] = 1;
+    records[19] = dirty_colour;
+    records[317] = flag;
+    records
+}
+
 // Memory, cache words and tags, each one short and one long; the manager's own alone, and all at once; then the buffer, which only the transfers are lent.
 fn lengths() {
     io::write_all(STDOUT_FILENO, b"lengths\n");
     let list = two_pages();
-    tried(list, 256, 256, 4096, 512, 64, 64, 0, 0);
-    tried(list, 256, 256, 4095, 512, 64, 64, 0, 0);
-    tried(list, 256, 256, 4097, 512, 64, 64, 0, 0);
-    tried(list, 256, 256, 4096, 511, 64, 64, 0, 0);
-    tried(list, 256, 256, 4096, 513, 64, 64, 0, 0);
-    tried(list, 256, 256, 4096, 512, 63, 64, 0, 0);
-    tried(list, 256, 256, 4096, 512, 65, 64, 0, 0);
-    tried(list, 257, 257, 4096, 512, 64, 64, 0, 0);
-    tried(list, 255, 255, 4095, 511, 63, 63, 0, 0);
-    tried(list, 256, 256, 4096, 512, 64, 63, 0, 0);
-    tried(list, 256, 256, 4096, 512, 64, 65, 0, 0);
+    tried(list, 320, 256, 4096, 512, 64, 64, 0, 0, 0);
+    tried(list, 320, 256, 4095, 512, 64, 64, 0, 0, 0);
+    tried(list, 320, 256, 4097, 512, 64, 64, 0, 0, 0);
+    tried(list, 320, 256, 4096, 511, 64, 64, 0, 0, 0);
+    tried(list, 320, 256, 4096, 513, 64, 64, 0, 0, 0);
+    tried(list, 320, 256, 4096, 512, 63, 64, 0, 0, 0);
+    tried(list, 320, 256, 4096, 512, 65, 64, 0, 0, 0);
+    tried(list, 321, 257, 4096, 512, 64, 64, 0, 0, 0);
+    tried(list, 319, 255, 4095, 511, 63, 63, 0, 0, 0);
+    tried(list, 320, 256, 4096, 512, 64, 63, 0, 0, 0);
+    tried(list, 320, 256, 4096, 512, 64, 65, 0, 0, 0);
 }
 
 // Tags that keep the rules, and tags that break them; then beside lengths of the manager and of the machine.
 fn tags() {
     io::write_all(STDOUT_FILENO, b"tags\n");
     let list = two_pages();
-    tried(list, 256, 256, 4096, 512, 64, 64, 64, 0);
-    tried(list, 256, 256, 4096, 512, 64, 64, 192, 0);
-    tried(list, 256, 256, 4096, 512, 64, 64, 65, 0);
-    tried(list, 256, 256, 4096, 512, 64, 64, 128, 0);
-    tried(list, 256, 256, 4096, 512, 64, 64, 193, 0);
-    tried(list, 256, 256, 4096, 512, 64, 64, 255, 0);
-    tried(list, 255, 256, 4096, 512, 64, 64, 65, 0);
-    tried(list, 256, 256, 4096, 513, 64, 64, 65, 0);
+    tried(list, 320, 256, 4096, 512, 64, 64, 64, 0, 0);
+    tried(list, 320, 256, 4096, 512, 64, 64, 192, 0, 0);
+    tried(list, 320, 256, 4096, 512, 64, 64, 65, 0, 0);
+    tried(list, 320, 256, 4096, 512, 64, 64, 128, 0, 0);
+    tried(list, 320, 256, 4096, 512, 64, 64, 193, 0, 0);
+    tried(list, 320, 256, 4096, 512, 64, 64, 255, 0, 0);
+    tried(list, 319, 256, 4096, 512, 64, 64, 65, 0, 0);
+    tried(list, 320, 256, 4096, 513, 64, 64, 65, 0, 0);
 }
 
-// A record whose flag is 2, a list with a pair twice, one with a count of 257; then beside a length of the machine.
+// A record whose flag is 2, a list with a pair twice, one with a count of 257; then beside a length of the machine. Last a dirty colour of 8 where
+// colour 0 is dirty, and of 1 beside a short buffer.
 fn tables() {
     io::write_all(STDOUT_FILENO, b"tables\n");
     let list = two_pages();
     let double = mapping::insert_at(list, 1, entry(0, 0, 5, 2));
     let mut over = list;
     over.count = 257;
-    tried(list, 256, 256, 4096, 512, 64, 64, 0, 2);
-    tried(double, 256, 256, 4096, 512, 64, 64, 0, 0);
-    tried(over, 256, 256, 4096, 512, 64, 64, 0, 0);
-    tried(list, 256, 256, 4095, 512, 64, 64, 0, 2);
+    tried(list, 320, 256, 4096, 512, 64, 64, 0, 2, 0);
+    tried(double, 320, 256, 4096, 512, 64, 64, 0, 0, 0);
+    tried(over, 320, 256, 4096, 512, 64, 64, 0, 0, 0);
+    tried(list, 320, 256, 4095, 512, 64, 64, 0, 2, 0);
+    tried(list, 320, 256, 4096, 512, 64, 64, 0, 0, 8);
+    tried(list, 320, 256, 4096, 512, 64, 63, 0, 0, 1);
 }
 
 // ---- a list of mappings
@@ -165,7 +182,7 @@ fn lists() {
 fn laid(m: usize, w: usize, t: usize, a: usize, tag: u8)
     requires { ⌜ (m ≤ 4096) × (w ≤ 513) × (t ≤ 64) × (a ≤ 3) ⌝ }
 {
-    let records = [0u32; 256];
+    let records = show::start();
     let mut protections = [9u8; 256];
     let memory = [70u32; 4096];
     let words = [80u32; 513];
@@ -220,14 +237,12 @@ fn parts() {
 fn part(b: usize, tag: u8, frame: u8, first: usize, number: usize)
     requires { ⌜ b ≤ 65 ⌝ }
 {
-    let mut r = [0u32; 256];
+    let mut r = show::records_of(1, 0, 1, 0, 0);
     let mut p = [9u8; 256];
     let mut m = [70u32; 4096];
     let w = [80u32; 512];
     let mut t = [0u8; 64];
     let buffer = [90u32; 65];
-    r[12] = 1;
-    r[14] = 1;
     t[0] = 132;
     t[40] = tag;
     let b = &buffer[0..b];
@@ -250,13 +265,11 @@ fn part(b: usize, tag: u8, frame: u8, first: usize, number: usize)
 // ---- other refusals, on what the rows are given
 
 fn refused() {
-    let mut r = [0u32; 256];
+    let mut r = show::records_of(1, 0, 1, 0, 0);
     let mut p = [9u8; 256];
     let mut m = [70u32; 4096];
     let mut w = [80u32; 512];
     let mut t = [0u8; 64];
-    r[12] = 1;
-    r[14] = 1;
     t[0] = 132;
     let list = two_pages();
     offsets(list, &mut r, &mut p, &mut m, &mut w, &mut t);
@@ -268,7 +281,7 @@ fn refused() {
 // An offset of 64 by itself, and beside 8 and 10, which stand later.
 fn offsets(
     list: MappingList,
-    r: &mut [u32; 256],
+    r: &mut [u32; 320],
     p: &mut [u8; 256],
     m: &mut [u32; 4096],
     w: &mut [u32; 512],
@@ -286,7 +299,7 @@ fn offsets(
 // The manager's refusals: each by itself, and the first of several.
 fn handed_page(
     list: MappingList,
-    r: &mut [u32; 256],
+    r: &mut [u32; 320],
     p: &mut [u8; 256],
     m: &mut [u32; 4096],
     w: &mut [u32; 512],
@@ -303,7 +316,7 @@ fn handed_page(
 
 fn handed_map(
     list: MappingList,
-    r: &[u32; 256],
+    r: &[u32; 320],
     p: &mut [u8; 256],
     m: &[u32; 4096],
     w: &[u32; 512],
@@ -320,7 +333,7 @@ fn handed_map(
 }
 
 // The full list: a mapped pair, and a fresh one.
-fn full(r: &[u32; 256], p: &mut [u8; 256], m: &[u32; 4096], w: &[u32; 512], t: &[u8; 64]) {
+fn full(r: &[u32; 320], p: &mut [u8; 256], m: &[u32; 4096], w: &[u32; 512], t: &[u8; 64]) {
     let all = pages(256);
     show::map(all, r, p, m, w, t, entry(0, 255, 3, 1));
     show::map(all, r, p, m, w, t, entry(0, 256, 3, 1));
@@ -338,11 +351,11 @@ fn pages(n: u16) -> MappingList {
     list
 }
 
-// ---- accepted calls: memory starts as 64 f + o at offset o of frame f, cache words as 7, tags and records as 0
+// ---- accepted calls: memory starts as 64 f + o at offset o of frame f, cache words as 7, tags as 0
 
 fn accepted() {
     io::write_all(STDOUT_FILENO, b"accesses\n");
-    let mut r = [0u32; 256];
+    let mut r = show::start();
     let mut p = [9u8; 256];
     let mut m = [0u32; 4096];
     let mut w = [7u32; 512];
@@ -362,7 +375,7 @@ fn accepted() {
 // A read, a write and an eviction, each with what it leaves.
 fn read(
     list: MappingList,
-    r: &mut [u32; 256],
+    r: &mut [u32; 320],
     p: &mut [u8; 256],
     m: &mut [u32; 4096],
     w: &mut [u32; 512],
@@ -377,7 +390,7 @@ fn read(
 
 fn write(
     list: MappingList,
-    r: &mut [u32; 256],
+    r: &mut [u32; 320],
     p: &mut [u8; 256],
     m: &mut [u32; 4096],
     w: &mut [u32; 512],
@@ -393,7 +406,7 @@ fn write(
 
 fn evict(
     list: MappingList,
-    r: &[u32; 256],
+    r: &[u32; 320],
     p: &mut [u8; 256],
     m: &mut [u32; 4096],
     w: &[u32; 512],
@@ -407,7 +420,7 @@ fn evict(
 // A miss; a hit, which does not see what memory holds meanwhile; a write; a read through the other colour; a write through rights 1.
 fn accesses(
     list: MappingList,
-    r: &mut [u32; 256],
+    r: &mut [u32; 320],
     p: &mut [u8; 256],
     m: &mut [u32; 4096],
     w: &mut [u32; 512],
@@ -425,7 +438,7 @@ fn accesses(
 // A device write over a dirty page, its neighbours in memory, and a read that no longer finds the old line.
 fn writes_in(
     list: MappingList,
-    r: &mut [u32; 256],
+    r: &mut [u32; 320],
     p: &mut [u8; 256],
     m: &mut [u32; 4096],
     w: &mut [u32; 512],
@@ -446,7 +459,7 @@ fn writes_in(
 // A device read of a dirty page.
 fn reads_out(
     list: MappingList,
-    r: &mut [u32; 256],
+    r: &mut [u32; 320],
     p: &mut [u8; 256],
     m: &mut [u32; 4096],
     w: &mut [u32; 512],
@@ -463,7 +476,7 @@ fn reads_out(
 // A dirty line, with protections that were spoilt before; the same line, now empty, with a word changed in it; and a clean line older than memory.
 fn evictions(
     list: MappingList,
-    r: &mut [u32; 256],
+    r: &mut [u32; 320],
     p: &mut [u8; 256],
     m: &mut [u32; 4096],
     w: &mut [u32; 512],
@@ -482,7 +495,7 @@ fn evictions(
 // A page unmapped with a word in the cache, its frame mapped again in the other colour by a list of mappings, and a read through that.
 fn unmapped(
     list: MappingList,
-    r: &mut [u32; 256],
+    r: &mut [u32; 320],
     p: &mut [u8; 256],
     m: &mut [u32; 4096],
     w: &mut [u32; 512],
@@ -502,7 +515,7 @@ fn unmapped(
 // Twelve words under a page that a program reads: it then finds them, and the others.
 fn received(
     list: MappingList,
-    r: &mut [u32; 256],
+    r: &mut [u32; 320],
     p: &mut [u8; 256],
     m: &mut [u32; 4096],
     w: &mut [u32; 512],

@@ -1,6 +1,6 @@
 // Calls of the machine, and text on each: the refusal, or 0, the two operations and the word read; of a transfer also b, the first word of the buffer, and
 // of a list of mappings a, the first two answers.
-// Then `left` ends the line with parts of what the calls left: p the first three protections, r the record of frame 3 with its busy mark, m the frame's first
+// Then `left` ends the line with parts of what the calls left: p the first three protections, r the record of frame 3, m the frame's first
 // word in memory, l tag and first word of line 0, and of line 8, where the frame's first words lie in colours 0 and 1.
 use libc::STDOUT_FILENO;
 use machine::Loaded;
@@ -10,6 +10,8 @@ use mapping::Batch;
 use mapping::Mapping;
 use mapping::MappingList;
 use page_model::Op;
+ghost use mathlib.Core.Path.{_≡_};
+ghost use lib.ListN.{length};
 
 // A mapping by its fields.
 pub fn entry(space: u8, page: u16, frame: u8, rights: u8) -> Mapping {
@@ -19,6 +21,28 @@ pub fn entry(space: u8, page: u16, frame: u8, rights: u8) -> Mapping {
         frame,
         rights,
     }
+}
+
+// The records at the start.
+pub fn start() -> [u32; 320]
+    ensures { λ r. ⌜ length r ≡ 320 ⌝ }
+{
+    let mut records = [0u32; 320];
+    manager::start(&mut records);
+    records
+}
+
+// The same but for frame 3's.
+pub fn records_of(held: u32, stale: u32, dirty: u32, busy: u32, dirty_colour: u32) -> [u32; 320]
+    ensures { λ r. ⌜ length r ≡ 320 ⌝ }
+{
+    let mut records = start();
+    records[15] = held;
+    records[16] = stale;
+    records[17] = dirty;
+    records[18] = busy;
+    records[19] = dirty_colour;
+    records
 }
 
 // Maps a page, and hands back the list.
@@ -350,7 +374,7 @@ pub fn end_transfer(
     apart();
 }
 
-// What the next rows are given: the six lengths, a tag and a flag.
+// What the next rows are given: the six lengths, a tag, a flag and a dirty colour.
 pub fn case(
     records: usize,
     protections: usize,
@@ -360,6 +384,7 @@ pub fn case(
     buffer: usize,
     tag: u8,
     flag: u32,
+    dirty_colour: u32,
 ) {
     io::write_all(STDOUT_FILENO, b"with");
     spaced(records as u64);
@@ -370,6 +395,7 @@ pub fn case(
     spaced(buffer as u64);
     spaced(wide(tag));
     spaced(long(flag));
+    spaced(long(dirty_colour));
     end();
 }
 
@@ -457,7 +483,7 @@ fn on(letter: u8, frame: u8, colour: usize) {
 
 // Ends a line with what the calls left.
 pub fn left(
-    records: &[u32; 256],
+    records: &[u32; 320],
     protections: &[u8; 256],
     memory: &[u32; 4096],
     words: &[u32; 512],
@@ -492,11 +518,12 @@ fn three(protections: &[u8]) {
 // The record of frame 3.
 fn record(records: &[u32]) {
     io::write_all(STDOUT_FILENO, b" r");
-    if records.len() > 15 {
-        spaced(long(records[12]));
-        spaced(long(records[13]));
-        spaced(long(records[14]));
+    if records.len() > 19 {
         spaced(long(records[15]));
+        spaced(long(records[16]));
+        spaced(long(records[17]));
+        spaced(long(records[18]));
+        spaced(long(records[19]));
     }
 }
 
