@@ -29,7 +29,7 @@ fn main() {
 // The fix is delivered as twelve words, and looked at through page 0 of space 0.
 fn drawn(number: u32, second: u32, latitude: u32, longitude: u32, clock: u32, hold: u32) {
     let list = show::two_pages();
-    let mut records = [0u32; 256];
+    let mut records = show::start();
     let mut protections = [9u8; 256];
     let mut memory = [0u32; 4096];
     let mut words = [0u32; 512];
@@ -129,7 +129,7 @@ fn looked(length: usize, tag: u8, space: u8, page: u16, hold: u32)
     requires { ⌜ length ≤ 4097 ⌝ }
 {
     let list = show::two_pages();
-    let mut records = [0u32; 256];
+    let mut records = show::start();
     let mut protections = [9u8; 256];
     let mut all = [0u32; 4097];
     let mut words = [0u32; 512];
@@ -183,7 +183,7 @@ fn refusals() {
 fn two_programs() {
     io::write_all(STDOUT_FILENO, b"two programs\n");
     let list = show::two_pages();
-    let mut records = [0u32; 256];
+    let mut records = show::start();
     let mut protections = [0u8; 256];
     let mut memory = [0u32; 4096];
     let mut words = [0u32; 512];
@@ -241,7 +241,7 @@ fn two_programs() {
 // A look through each page, and what they left.
 fn both(
     list: MappingList,
-    records: &mut [u32; 256],
+    records: &mut [u32; 320],
     protections: &mut [u8; 256],
     memory: &mut [u32; 4096],
     words: &mut [u32; 512],
@@ -279,7 +279,7 @@ fn both(
 // Fixes 1 and 2, as twelve words each; the second is held for 2 seconds, passed by one, and held for 30.
 fn delivered(
     list: MappingList,
-    records: &mut [u32; 256],
+    records: &mut [u32; 320],
     protections: &mut [u8; 256],
     memory: &mut [u32; 4096],
     words: &mut [u32; 512],
@@ -321,7 +321,7 @@ fn delivered(
 // The fix's lines are evicted from both colours.
 fn evicted(
     list: MappingList,
-    records: &mut [u32; 256],
+    records: &mut [u32; 320],
     protections: &mut [u8; 256],
     memory: &mut [u32; 4096],
     words: &mut [u32; 512],
@@ -336,7 +336,7 @@ fn evicted(
 // A program writes the longitude; a delivery of the whole page comes after it, and one of the longitude alone.
 fn written(
     list: MappingList,
-    records: &mut [u32; 256],
+    records: &mut [u32; 320],
     protections: &mut [u8; 256],
     memory: &mut [u32; 4096],
     words: &mut [u32; 512],
@@ -383,7 +383,7 @@ fn written(
 // Twelve words come to a page that is dirty behind them, so it is flushed.
 fn dirty(
     list: MappingList,
-    records: &mut [u32; 256],
+    records: &mut [u32; 320],
     protections: &mut [u8; 256],
     memory: &mut [u32; 4096],
     words: &mut [u32; 512],
@@ -411,7 +411,7 @@ fn dirty(
 // A fix is brought word by word (N6): until the end no look finds a part of it, and a wrong hold still stands before.
 fn slowly(
     list: MappingList,
-    records: &mut [u32; 256],
+    records: &mut [u32; 320],
     protections: &mut [u8; 256],
     memory: &mut [u32; 4096],
     words: &mut [u32; 512],
@@ -442,7 +442,7 @@ fn slowly(
 // The other words of the fix.
 fn rest(
     list: MappingList,
-    records: &[u32; 256],
+    records: &[u32; 320],
     protections: &mut [u8; 256],
     memory: &mut [u32; 4096],
     words: &[u32; 512],
@@ -476,7 +476,7 @@ fn rest(
 // A device that reads the page lets looks through.
 fn read_out(
     list: MappingList,
-    records: &mut [u32; 256],
+    records: &mut [u32; 320],
     protections: &mut [u8; 256],
     memory: &mut [u32; 4096],
     words: &mut [u32; 512],

@@ -1,11 +1,13 @@
 // Calls on a machine whose fix page is frame 3, and text on each. A look's line is its space, page, clock and hold, then what is drawn: `position` with
 // latitude and longitude as words, `blank`, or `refused` with its number.
-// `left` is a line with parts of what the calls left: p the first two protections, r the record of frame 3 with its busy mark, t the tags of lines 0 and 8, where the
+// `left` is a line with parts of what the calls left: p the first two protections, r the record of frame 3, t the tags of lines 0 and 8, where the
 // fix lies in colours 0 and 1, m its four words in memory and the word at offset 40.
 use libc::STDOUT_FILENO;
 use mapping::Mapping;
 use mapping::MappingList;
 use position_hold::Drawn;
+ghost use mathlib.Core.Path.{_≡_};
+ghost use lib.ListN.{length};
 
 // Frame 3 behind pages of colours 0 and 1: page 0 of space 0, to read and write, and page 9 of space 1, to read.
 pub fn two_pages() -> MappingList {
@@ -20,6 +22,15 @@ fn entry(space: u8, page: u16, rights: u8) -> Mapping {
         frame: 3,
         rights,
     }
+}
+
+// The records at the start.
+pub fn start() -> [u32; 320]
+    ensures { λ r. ⌜ length r ≡ 320 ⌝ }
+{
+    let mut records = [0u32; 320];
+    manager::start(&mut records);
+    records
 }
 
 // The receiver's twelve words: a fix, and words of 7.
@@ -102,11 +113,12 @@ pub fn left(records: &[u32], protections: &[u8], memory: &[u32], tags: &[u8]) {
         byte(protections[1]);
     }
     io::write_all(STDOUT_FILENO, b" r");
-    if records.len() > 15 {
-        word(records[12]);
-        word(records[13]);
-        word(records[14]);
+    if records.len() > 19 {
         word(records[15]);
+        word(records[16]);
+        word(records[17]);
+        word(records[18]);
+        word(records[19]);
     }
     io::write_all(STDOUT_FILENO, b" t");
     if tags.len() > 8 {
