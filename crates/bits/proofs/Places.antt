@@ -86,7 +86,7 @@ unfolding firstOf
 first-none zero p h = refl
 first-none (suc n) p h = rw (h 0 (omega arith), first-none n (λ k. p (suc k)) (λ k l. h (suc k) (omega arith)))
 
--- a place that is picked, with none before it
+-- a place that is picked, and no other
 pub first-at : (n : ℕ) (p : ℕ → Bool) (d : ℕ) → d < n → ((k : ℕ) → k < n → p k ≡ true → k ≡ d) → p d ≡ true → firstOf n p ≡ d
 unfolding firstOf
 first-at zero p d l h e = absurd (omega arith)

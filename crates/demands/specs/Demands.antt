@@ -82,7 +82,7 @@ effectOf b st (takeWord frame offset) = nothing
 effectOf b st (endTransfer frame) = ends frame
 
 -- the orders are the table's, in order and on this frame; each of its colours is in the state of its cell, its mark is the step's, and other
--- frames are as they were
+-- frames are as they were (its dirty colour is then the one that is dirty, since the tables keep their rules: `DirtyColour`)
 pub record ByTable (b : Board) (before after : Tables) (o : Outcome) (f : ℕ) (s : table.Step) : Type 0 where
   pub few : length (operations (b .colours) s (recordAt (before .records) f)) ≤ 2
   pub ordered : o ≡ accepted f (firstTwo (operations (b .colours) s (recordAt (before .records) f)))

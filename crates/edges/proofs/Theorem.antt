@@ -45,7 +45,7 @@ transfers-hold = (refl, (refl, (refl, (refl, (refl, (refl, (refl, (refl, (refl, 
 
 dirty-colours-hold : EveryRowHolds dirtyColours
 unfolding mask.bit mask.maskOf mask.countOf mask.all mask.any mask.firstOf mask.placesOf board.pageLines board.lines board.cacheWords board.memoryWords board.colourOf board.lineOf board.colourLine board.lineAt board.cacheAt board.lineOffset board.frameAt board.memoryAt frame-record.stateOf frame-record.coloursKeepRules frame-record.dirtyColourOf frame-record.keepsRules frame-record.encode record-step.cellOf record-step.recordAfter record-step.operations list-change.empty list-change.including list-change.insertAt list-change.without list-change.remove entry.inRange entry.isZero entry.isAt entry.isBefore list-lookup.firstOf list-lookup.lookup list-lookup.mappingOf list-lookup.placeFor list-rules.allInRange list-rules.risesAt list-rules.rising list-rules.restZero list-rules.keepsRules refusals.firstRefusal manager-tables.recordAt manager-tables.putRecord manager-tables.startRecords manager-tables.recordsKeepRules manager-tables.lengthsRight manager-tables.rulesKept manager-tables.protection manager-tables.mappingState manager-tables.protectionAt manager-tables.tabulate manager-tables.refill hardware.lineWordsOf hardware.copyOut hardware.writeBack hardware.empty hardware.evict hardware.fill hardware.sweep hardware.flushLine hardware.purgeLine hardware.flush hardware.purge hardware.replace hardware.access hardware.readWord hardware.putWord hardware.writeWord hardware.deviceRead hardware.deviceWrite hardware.bringWord part.part part.overlay tag.isDirty tag.names tag.frameOf tag.tagKeepsRules tag.tagsKeepRules machine-refusals.storeLengths machine-refusals.lentCauses machine-refusals.ownCauses machine-refusals.causes machine-step.operate machine-step.carryOut machine-step.accept machine-step.step run.startWith run.start after ask askFrom
-dirty-colours-hold = (refl, (refl, (refl, (refl, (refl, (refl, (refl, (refl, (refl, (refl, (refl, (refl, (refl, (refl, (refl, (refl, (refl, (refl, (refl, (refl, tt))))))))))))))))))))
+dirty-colours-hold = (refl, (refl, (refl, (refl, (refl, (refl, (refl, (refl, (refl, (refl, (refl, (refl, (refl, (refl, (refl, (refl, (refl, (refl, (refl, (refl, (refl, (refl, tt))))))))))))))))))))))
 
 pub edges : Edges
 unfolding mask.bit mask.maskOf mask.countOf mask.all mask.any mask.firstOf mask.placesOf board.pageLines board.lines board.cacheWords board.memoryWords board.colourOf board.lineOf board.colourLine board.lineAt board.cacheAt board.lineOffset board.frameAt board.memoryAt frame-record.stateOf frame-record.coloursKeepRules frame-record.dirtyColourOf frame-record.keepsRules frame-record.encode record-step.cellOf record-step.recordAfter record-step.operations list-change.empty list-change.including list-change.insertAt list-change.without list-change.remove entry.inRange entry.isZero entry.isAt entry.isBefore list-lookup.firstOf list-lookup.lookup list-lookup.mappingOf list-lookup.placeFor list-rules.allInRange list-rules.risesAt list-rules.rising list-rules.restZero list-rules.keepsRules refusals.firstRefusal manager-tables.recordAt manager-tables.putRecord manager-tables.startRecords manager-tables.recordsKeepRules manager-tables.lengthsRight manager-tables.rulesKept manager-tables.protection manager-tables.mappingState manager-tables.protectionAt manager-tables.tabulate manager-tables.refill hardware.lineWordsOf hardware.copyOut hardware.writeBack hardware.empty hardware.evict hardware.fill hardware.sweep hardware.flushLine hardware.purgeLine hardware.flush hardware.purge hardware.replace hardware.access hardware.readWord hardware.putWord hardware.writeWord hardware.deviceRead hardware.deviceWrite hardware.bringWord part.part part.overlay tag.isDirty tag.names tag.frameOf tag.tagKeepsRules tag.tagsKeepRules machine-refusals.storeLengths machine-refusals.lentCauses machine-refusals.ownCauses machine-refusals.causes machine-step.operate machine-step.carryOut machine-step.accept machine-step.step format.byteAt format.twoBytes format.fourBytes format.mappingCount format.mappingPlace format.stepCount format.stepPlace format.sheetLength format.fieldsAt format.stepKeeps format.isBroken format.mappingCall format.stepCall run.startWith run.start run.advance run.advanceAll run.runMappings run.runSteps run.sheetText text.places text.decimal text.operationText text.wordText text.mappingLine text.answerText text.stepLine text.endLine after ask askFrom itemsOf

@@ -15,11 +15,13 @@ recordOf f st = tabulate recordWords (λ k. getD (st .tables .records) (f * reco
 
 abbrev pub dirtyColours : List Row
 dirtyColours =
-    -- with the flag set it is the place of the held bit, and the flush names it; another place and none get 2
+    -- with the flag set it is the place of the held bit, and the flush names it; another place, none and a number past 8 get 2
     (answers (ask (recorded 4 1 1 0 2) (beginRead 0 ∷ [])) gives answers (accepts 0 (only (Flush 2)) none ∷ []))
+    ∷ (answers (ask (recorded 128 127 1 0 7) (beginRead 0 ∷ [])) gives answers (accepts 0 (only (Flush 7)) none ∷ []))
     ∷ (answers (ask (recorded 4 1 1 0 0) (beginRead 0 ∷ [])) gives answers (refuses 2 ∷ []))
     ∷ (answers (ask (recorded 4 1 1 0 3) (beginRead 0 ∷ [])) gives answers (refuses 2 ∷ []))
     ∷ (answers (ask (recorded 4 1 1 0 8) (beginRead 0 ∷ [])) gives answers (refuses 2 ∷ []))
+    ∷ (answers (ask (recorded 4 1 1 0 10) (beginRead 0 ∷ [])) gives answers (refuses 2 ∷ []))
     -- without the flag it is 8: a held colour, a stale one, an empty one and a number past 8 get 2
     ∷ (answers (ask (recorded 4 1 0 0 8) (beginRead 0 ∷ [])) gives answers (begun 0 ∷ []))
     ∷ (answers (ask (recorded 4 1 0 0 2) (beginRead 0 ∷ [])) gives answers (refuses 2 ∷ []))

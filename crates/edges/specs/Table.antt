@@ -1,5 +1,6 @@
 -- Document 01, "At the edges" and the sheet of "The run sheet", with the tags at their limits, request N3's parts, request N6's transfers and
--- request N7's dirty colours at theirs, a sheet of each kind of step and every cell of the page model: each row is a case and what it must give, and every row holds.
+-- request N7's dirty colours at theirs, a sheet of each kind of step and every cell of the page model: each row is a case and what it must give,
+-- and every row holds.
 use mathlib.Core.List.{List, [], _∷_, _++_}
 use mathlib.Core.Option.{none}
 use Prim.Native.Nat.{_+_, _*_}

@@ -9,7 +9,7 @@ use borrow.Author.Tests.{eqb-true, eqb-false, eq-eqb, ne-eqb}
 use lib.Bits.{bitOr, or-lt}
 use lib.Dec.{eqb}
 use lib.Pow.{pow-pos}
-use Rattle.bits.specs.Mask.{bit, withBit, withoutBit, digit, any, all, placesOf}
+use Rattle.bits.specs.Mask.{bit, withBit, withoutBit, digit, all, placesOf}
 use Rattle.bits.proofs.Mask.{bit-past, bit-none, bit-one, bit-or, bit-with, bit-without, with-lt, without-lt, at-place, all-at, any-one, first-one, places-none, places-one}
 use Rattle.bits.proofs.Tautology.{all4, equalIf, law4}
 use Rattle.page_model.specs.declared.FrameRecord.{FrameRecord}
@@ -21,7 +21,7 @@ use Rattle.page_model.specs.Record.{stateFrom, stateOf, isHeld, isDirty,
 use Rattle.page_model.specs.Step.{isFlush, isPurge, cellOf, recordAfter, operations, opList, firstTwo, stepped}
 use Rattle.page_model.specs.Table.{ColourState, empty, present, dirty, stale, Operation, none, flush, purge, Cell, _⇒_, own, other, Step, read, write, deviceRead, deviceWrite, deviceWritePart, beginRead, beginWrite, roleIf, ownOf, reach}
 use Rattle.page_model.proofs.Rules.{Keeps, flag, dirty-only, dirty-at}
-use Rattle.page_model.proofs.Cells.{Test, Agree, apart, nextTest, operationTest, at, kept-next, kept-operation}
+use Rattle.page_model.proofs.Cells.{Test, Agree, apart, nextTest, operationTest, kept-next, kept-operation}
 use Rattle.page_model.proofs.Idle.{record-is}
 
 -- ---- the numbers

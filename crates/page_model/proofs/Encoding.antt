@@ -27,8 +27,8 @@ encode-decode n r e =
     let t = mask-of n (r .stale) _ (kr .stale-lt) (says isStale (λ o s h d. s) refl) in
     let dirties = says isDirty (λ o s h d. d && h) refl in
     let d = flag-digit (kr .flag-le) ∙ ap digit (sym (any-dirty n r kr) ∙ any-cong n _ _ dirties) in
-    let o = sym (first-dirty n r kr) ∙ first-cong n _ _ dirties in
-    λ i. record { held = sym h i; stale = sym t i; dirty = sym d i; busy = r .busy; «dirty_colour» = sym o i }
+    let c = sym (first-dirty n r kr) ∙ first-cong n _ _ dirties in
+    λ i. record { held = sym h i; stale = sym t i; dirty = sym d i; busy = r .busy; «dirty_colour» = sym c i }
 
 -- what the mark tells of flag and held mask
 fits-le : (mark flag held : ℕ) → markFits mark flag held ≡ true → mark ≤ 2
@@ -76,7 +76,7 @@ dirty-true dirty e = refl
 dirty-true stale e = absurd (false≢true e)
 
 pub dirty-colour : DirtyColour
-dirty-colour n r e = (bound (flag r) refl, λ k l. (λ z. owns k l z, λ z. dirties k l (flag r) refl z))
+dirty-colour n r e = (bound (flag r) refl, λ k l. (λ z. written k l z, λ z. dirties k l (flag r) refl z))
   where
     kr : Keeps n r
     kr = keeps n r e
@@ -89,8 +89,8 @@ dirty-colour n r e = (bound (flag r) refl, λ k l. (λ z. owns k l z, λ z. dirt
     says : (k : ℕ) → k < n → (flag r && eqb (r .«dirty_colour») k) ≡ isDirty (stateOf r k)
     says k l = sym (dirty-at n r kr k) ∙ kept-state n r kr isDirty (λ o s h d. d && h) refl k l
 
-    owns : (k : ℕ) → k < n → stateOf r k ≡ dirty → r .«dirty_colour» ≡ k
-    owns k l z = eqb-true (r .«dirty_colour») k (and-right (flag r) (eqb (r .«dirty_colour») k) (says k l ∙ ap isDirty z))
+    written : (k : ℕ) → k < n → stateOf r k ≡ dirty → r .«dirty_colour» ≡ k
+    written k l z = eqb-true (r .«dirty_colour») k (and-right (flag r) (eqb (r .«dirty_colour») k) (says k l ∙ ap isDirty z))
 
     dirties : (k : ℕ) → k < n → (b : Bool) → flag r ≡ b → r .«dirty_colour» ≡ k → stateOf r k ≡ dirty
     dirties k l true f z = dirty-true (stateOf r k) (sym (says k l) ∙ ap₂ _&&_ f (eq-eqb (r .«dirty_colour») k z))
@@ -124,16 +124,16 @@ module _ (n : ℕ) (states : ℕ → ColourState) (one : OneDirty n states) wher
         flag-le = omega (arith, digit-lt (any n (λ k. isDirty (states k))));
         one-held = single (any n (λ k. isDirty (states k))) refl;
         mark-fits = marked mark fits;
-        dirty-colour-is = owned (any n (λ k. isDirty (states k))) refl;
+        dirty-colour-is = first (any n (λ k. isDirty (states k))) refl;
       }
     where
-      owned : (b : Bool) → any n (λ k. isDirty (states k)) ≡ b
+      first : (b : Bool) → any n (λ k. isDirty (states k)) ≡ b
           → firstOf n (λ k. isDirty (states k)) ≡ cond (eqb (digit b) 1) (firstOf n (bit (maskOf n (λ k. isHeld (states k))))) n
-      owned true e =
+      first true e =
           let d = any-at n (λ k. isDirty (states k)) e in
           first-at n (λ k. isDirty (states k)) (d .0) (d .1) (λ k l z. sym (one (d .0) k (d .1) l (dirty-true (states (d .0)) (d .2)) (ap isHeld (dirty-true (states k) z)))) (d .2)
           ∙ sym (first-one n (d .0) true _ (λ z. d .1) (λ k l. bit-maskOf n _ k l ∙ held-only (d .0) (d .1) (d .2) k l))
-      owned false e = first-none n _ (any-false n _ e)
+      first false e = first-none n _ (any-false n _ e)
 
       marked : (mark : ℕ) → MarkFits n mark states → markFits mark (digit (any n (λ k. isDirty (states k)))) (maskOf n (λ k. isHeld (states k))) ≡ true
       marked zero f = refl

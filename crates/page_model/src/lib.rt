@@ -186,15 +186,15 @@ impl FrameRecord {
         self.holds(colour) & (self.dirty == 1)
     }
 
-    // A step: its own colour takes one cell, and the others that are held take another, which are all present or the one dirty. A transfer goes
-    // through no colour, and its cells do not look at one.
+    // A step: its own colour takes one cell, and the others that are held take another, which are all present or the one dirty. The others that are
+    // empty or stale stay so, as in every row. A transfer goes through no colour, and its cells do not look at one.
     fn step(self, step: u8, colours: usize, colour: usize) -> Stepped
         requires { ⌜ (colours ≤ width) × (colour < width) ⌝ }
         ensures { λ r. ⌜ ((s : Step) → step ≡ stepNumber s → colour ≡ ownOf s → reach s ≤ colours → keepsRules colours self ≡ true → r ≡ stepped colours s self) ⌝ }
     {
         let own = table::case_at(step, true, self.state(colour));
         let others = table::case_at(step, false, self.held_state());
-        let dirty = self.dirty_colour as usize;
+        let dirty_colour = self.dirty_colour as usize;
         let held = bits::without_bit(self.held, colour);
         let stale = bits::without_bit(self.stale, colour);
         let rest = FrameRecord {
@@ -205,7 +205,7 @@ impl FrameRecord {
             dirty_colour: colours as u32,
         };
         let next = rest.with_state(colour, own.1);
-        let first = elsewhere(others.0, dirty, colour);
+        let first = elsewhere(others.0, dirty_colour, colour);
         let second = operation(own.0, colour);
         let ops = first_two(first, second);
         Stepped { next, ops }
@@ -286,13 +286,14 @@ fn operation(number: u8, colour: usize) -> Op
     ensures { λ r. ⌜ r ≡ operationAt number colour ⌝ }
 {
     match number {
+        table::NONE => Op::None,
         table::FLUSH => Op::Flush(colour),
         table::PURGE => Op::Purge(colour),
-        _ => Op::None,
+        3..=255 => Op::None,
     }
 }
 
-// The operation of a number on the dirty colour, if that is not the step's own.
+// The operation of a number on the dirty colour, if that is not the step's own. Where none is dirty the number is that of no operation.
 fn elsewhere(number: u8, dirty: usize, own: usize) -> Op
     ensures { λ r. ⌜ r ≡ cond (eqb dirty own) Op.None (operationAt number dirty) ⌝ }
 {

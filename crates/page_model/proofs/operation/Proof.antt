@@ -1,17 +1,15 @@
 -- `page_model::operation` meets its contract.
-use mathlib.Core.Path.{_≡_, refl}
-use Prim.Native.Nat.{ℕ, zero, suc}
+use mathlib.Core.Path.{_≡_}
+use Prim.Native.Nat.{ℕ, suc, _-_, _≤_}
+use native.Mathlib.Omega.{arith}
 use Rattle.page_model.specs.declared.Op.the-variants.{None}
 use Rattle.page_model.specs.Cases.{operationAt}
 use Rattle.page_model.proofs.operation.Statement.{statement}
 use Rattle.page_model.proofs.operation.Tie as tie
 
--- neither a flush nor a purge
-no-operation : (number colour : ℕ) → (number ≡ 1 → ⊥) → (number ≡ 2 → ⊥) → None ≡ operationAt number colour
-no-operation zero colour a b = refl
-no-operation (suc zero) colour a b = absurd (a refl)
-no-operation (suc (suc zero)) colour a b = absurd (b refl)
-no-operation (suc (suc (suc number))) colour a b = refl
+-- an unused number
+other-number : (number colour : ℕ) → 3 ≤ number → None ≡ operationAt number colour
+other-number number colour l = let e : number ≡ suc (suc (suc (number - 3))) = omega arith in rw e
 
 pub operation-spec : {M : Type 1} → statement M
 operation-spec =
@@ -19,4 +17,5 @@ operation-spec =
     (tie.spec
     (λ c. rw (c .match .keys1))
     (λ c. rw (c .match .keys2))
-    (λ c. no-operation (c .before .args .number) (c .before .args .colour) (c .match .rest .0 .1) (c .match .rest .1)))
+    (λ c. rw (c .match .keys3))
+    (λ c. other-number (c .before .args .number) _ (omega arith)))
