@@ -68,10 +68,10 @@ pub fn start(colours: usize, records: &mut [u32])
     requires { ⌜ Colours colours ⌝ }
     ensures { λ _. ⌜ now (records .exit) ≡ tabulate (length (now (records .entry))) (startWord colours) ⌝ }
 {
-    let mut i = 0;
-    while i < records.len() {
-        records[i] = start_word(colours, i);
-        i += 1;
+    let mut at = 0;
+    while at < records.len() {
+        records[at] = start_word(colours, at);
+        at += 1;
     }
 }
 

@@ -21,7 +21,7 @@ loop-holds c = (refl, λ k l. absurd (omega arith))
 loop-again : tie.Need-loop-again Inv-loop μ-loop
 loop-again c =
     let l = c .before .before .loop in
-    (simp length-set (l .inv .0), set-more (l .records) (l .i) _ (startWord _) (omega arith) (l .inv .1) (c .start-word .ensures))
+    (simp length-set (l .inv .0), set-more (l .records) (l .at) _ (startWord _) (omega arith) (l .inv .1) (c .start-word .ensures))
 
 same-length : tie.Need-same-length Inv-loop μ-loop
 same-length c = c .before .loop .inv .0
