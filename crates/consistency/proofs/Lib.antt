@@ -20,3 +20,4 @@ pub mod Begun
 pub mod Start
 pub mod Evicted
 pub mod Theorem
+pub mod Rows

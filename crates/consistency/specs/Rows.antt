@@ -1,0 +1,37 @@
+-- What demand 3 must not admit, computed on a small board: states beside a cacheless memory that they disagree with, and calls that show it, one
+-- list for each kind of read, for a write, and for what is left in memory.
+use mathlib.Core.List.{List, [], _∷_}
+use Prim.Native.Nat.{ℕ}
+use lib.ListN.{replicate}
+use Rattle.board.specs.declared.Board.{Board}
+use Rattle.mapping.specs.Entry.{capacity}
+use Rattle.machine.specs.State.{State, map, read, write, deviceRead, beginRead, takeWord, Call, single}
+use Rattle.consistency.specs.Cacheless.{Cacheless, start}
+use Rattle.consistency.specs.Demand3.{startState, stateAfter, Holds}
+
+-- one frame of four words, and a cache of four lines in two colours
+abbrev pub small : Board
+small = record { page = 4; line = 2; colours = 2; frames = 1 }
+
+-- the start with 0 in every word of memory; a cacheless memory that starts with 0 everywhere, and one with 1 at the last offset
+abbrev pub atStart : State
+atStart = startState small (0 ∷ 0 ∷ 0 ∷ 0 ∷ []) (replicate 8 0) (replicate capacity 0)
+
+abbrev pub same : Cacheless
+same = start small (0 ∷ 0 ∷ 0 ∷ 0 ∷ [])
+
+abbrev pub another : Cacheless
+another = start small (0 ∷ 0 ∷ 0 ∷ 1 ∷ [])
+
+abbrev pub NotHolds : State → Cacheless → List Call → Type 0
+NotHolds st m calls = Holds small st m calls → ⊥
+
+pub record WrongWords : Type 0 where
+  -- a read after a map, a device's read of the page, and a word that it takes
+  pub read-word : NotHolds atStart another (single (map 0 0 0 1) ∷ single (read 0 0 3) ∷ [])
+  pub page-read : NotHolds atStart another (single (deviceRead 0 (replicate 4 0)) ∷ [])
+  pub word-taken : NotHolds atStart another (single (beginRead 0) ∷ single (takeWord 0 3) ∷ [])
+  -- a write through a page that the cacheless memory was not told of
+  pub unmapped-write : NotHolds (stateAfter small atStart (single (map 0 0 0 2) ∷ [])) same (single (write 0 0 3 5) ∷ [])
+  -- no call, and memory after every line has been evicted
+  pub left-in-memory : NotHolds atStart another []
