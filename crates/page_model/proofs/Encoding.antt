@@ -98,7 +98,7 @@ dirty-colour n r e = (bound (flag r) refl, λ k l. (λ z. written k l z, λ z. d
 
 pub dirty-colour-aside : DirtyColourAside
 unfolding stateOf recordAfter operations cellOf
-dirty-colour-aside n c s r = (λ k. refl, refl, refl)
+dirty-colour-aside n c s r = (refl, λ k. refl, refl, refl)
 
 -- ---- states that are encoded and decoded
 

@@ -60,7 +60,10 @@ withDirtyColour r c = record { held = r .held; stale = r .stale; dirty = r .dirt
 abbrev pub DirtyColourAside : Type 0
 DirtyColourAside =
     (n c : ℕ) (s : Step) (r : FrameRecord)
-    → ((k : ℕ) → stateOf (withDirtyColour r c) k ≡ stateOf r k) × (operations n s (withDirtyColour r c) ≡ operations n s r) × (recordAfter n s (withDirtyColour r c) ≡ recordAfter n s r)
+    → (withDirtyColour r c .«dirty_colour» ≡ c)
+    × ((k : ℕ) → stateOf (withDirtyColour r c) k ≡ stateOf r k)
+    × (operations n s (withDirtyColour r c) ≡ operations n s r)
+    × (recordAfter n s (withDirtyColour r c) ≡ recordAfter n s r)
 
 -- ---- a step
 
