@@ -18,7 +18,7 @@ use Rattle.page_model.specs.Busy.{bars}
 use Rattle.page_model.specs.Record.{stateOf, encode, freed}
 use Rattle.page_model.specs.Step.{cellOf, recordAfter, stepped}
 use Rattle.page_model.specs.Table as table
-use Rattle.page_model.specs.Theorems.{Passes}
+use Rattle.page_model.specs.Theorems.{Idle}
 use Rattle.page_model.proofs.Theorems.{few-operations, state-after}
 use Rattle.mapping.specs.Entry.{capacity, readWrite, mappingAt}
 use Rattle.mapping.specs.Lookup.{isMapped}
@@ -361,9 +361,9 @@ module _ (b : Board) (reg : Regular b) (st : State) (call : Single) (e : firstRe
         protections = agree;
         unread = λ ps same. unread-after b st ps same call e;
         read-passes = λ i h.
-            subst⁻¹ (λ (p : ℕ). (1 ≤ p) ↔ ((isRight (mappingAt (t .list) i .rights) ≡ true) × Passes (b .colours) (table.read (colourOf b (mappingAt (t .list) i .page))) (recordAt (t .records) (mappingAt (t .list) i .frame))))
+            subst⁻¹ (λ (p : ℕ). (1 ≤ p) ↔ ((isRight (mappingAt (t .list) i .rights) ≡ true) × Idle (b .colours) (table.read (colourOf b (mappingAt (t .list) i .page))) (recordAt (t .records) (mappingAt (t .list) i .frame))))
             (byte-at b t w agree i h) (read-protection b t i reg w h);
         write-passes = λ i h.
-            subst⁻¹ (λ (p : ℕ). (2 ≤ p) ↔ ((mappingAt (t .list) i .rights ≡ readWrite) × Passes (b .colours) (table.write (colourOf b (mappingAt (t .list) i .page))) (recordAt (t .records) (mappingAt (t .list) i .frame))))
+            subst⁻¹ (λ (p : ℕ). (2 ≤ p) ↔ ((mappingAt (t .list) i .rights ≡ readWrite) × Idle (b .colours) (table.write (colourOf b (mappingAt (t .list) i .page))) (recordAt (t .records) (mappingAt (t .list) i .frame))))
             (byte-at b t w agree i h) (write-protection b t i reg w h);
       }

@@ -13,7 +13,7 @@ use Rattle.page_model.specs.Record.{stateOf, freed}
 use Rattle.page_model.specs.Step.{operations, firstTwo}
 use Rattle.page_model.specs.Table as table
 use Rattle.page_model.specs.Table.{cellAt}
-use Rattle.page_model.specs.Theorems.{Passes}
+use Rattle.page_model.specs.Theorems.{Idle}
 use Rattle.mapping.specs.declared.Mapping.{Mapping}
 use Rattle.mapping.specs.declared.MappingList.{MappingList}
 use Rattle.mapping.specs.Change.{insert, remove}
@@ -57,8 +57,7 @@ Demand1 b = (st : State) (call : Call) → NoCause b st call ⊎ ((n : ℕ) × F
 -- The refusals of the items of a list are in `ItemLeft` below.
 
 -- ---- 2. Orders, page states and protections are those of the page model; list, memory, cache words and tags after each call are what the
--- board's rules leave. An access passes without a stop exactly if its right allows it, no transfer bars it, and the model would order nothing and
--- alter nothing.
+-- board's rules leave. An access passes without a stop exactly if its right allows it and the model would order nothing and alter nothing.
 
 -- what a call makes of the record of a frame: a step of the page model, the end of a transfer, or nothing
 pub data Effect : Type 0 where
@@ -160,12 +159,12 @@ pub record Left (b : Board) (st : State) (call : Single) (after : State) (a : An
       (i : ℕ) → i < after .tables .list .count
       → let m = mappingAt (after .tables .list) i in
       (1 ≤ getD (after .tables .protections) i 0)
-      ↔ ((isRight (m .rights) ≡ true) × Passes (b .colours) (table.read (colourOf b (m .page))) (recordAt (after .tables .records) (m .frame)))
+      ↔ ((isRight (m .rights) ≡ true) × Idle (b .colours) (table.read (colourOf b (m .page))) (recordAt (after .tables .records) (m .frame)))
   pub write-passes :
       (i : ℕ) → i < after .tables .list .count
       → let m = mappingAt (after .tables .list) i in
       (2 ≤ getD (after .tables .protections) i 0)
-      ↔ ((m .rights ≡ readWrite) × Passes (b .colours) (table.write (colourOf b (m .page))) (recordAt (after .tables .records) (m .frame)))
+      ↔ ((m .rights ≡ readWrite) × Idle (b .colours) (table.write (colourOf b (m .page))) (recordAt (after .tables .records) (m .frame)))
 
 -- no order, no word
 abbrev pub mapped : List ℕ → Answer
@@ -199,7 +198,8 @@ Demand2 b =
     (st : State) (call : Call) → isRefused (perform b st call .answer) ≡ false → CallLeft b st call (perform b st call .after) (perform b st call .answer)
 
 -- ---- 3. Over any list of calls from the start, every accepted read finds what memory without a cache would give, and once every line has
--- been evicted memory equals that memory word for word: `Demand3`.
+-- been evicted memory equals that memory word for word: `Demand3`. A look at the position, which is no call of the machine, joins demands 1 and 3
+-- in the crate `position_hold`: `LookRefusals` in its specs/Refusals, and `Demand3` over lists of calls and looks in its specs/Demand3.
 
 -- ---- all three, of every regular board, and so of document 01's
 

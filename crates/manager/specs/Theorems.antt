@@ -8,7 +8,7 @@ use Rattle.board.specs.declared.Board.{Board}
 use Rattle.board.specs.Board.{Regular, colourOf}
 use Rattle.page_model.specs.Record.{startRecord}
 use Rattle.page_model.specs.Table as step
-use Rattle.page_model.specs.Theorems.{Passes}
+use Rattle.page_model.specs.Theorems.{Idle}
 use Rattle.mapping.specs.Entry.{readWrite, mappingAt}
 use Rattle.manager.specs.Tables.{Tables, recordWords, recordAt, startRecords, startWord, lengthsRight, rulesKept, protectionAt, tabulate}
 use Rattle.manager.specs.Refusals.{Cause, _if_, firstRefusal, refusalPlace, inOrder, isRight}
@@ -42,18 +42,18 @@ FirstRefusal =
 
 -- ---- protections
 
--- a listed mapping's protection lets a read pass exactly if its rights allow one, no transfer bars it, and the page model would order nothing and
--- alter nothing
+-- a listed mapping's protection lets a read pass exactly if its rights allow one and the page model would order nothing and alter nothing; a mark
+-- bars none of these (`IdleNotBarred`)
 abbrev pub ReadProtection : Type 0
 ReadProtection =
     (b : Board) (t : Tables) (i : ℕ) → Regular b → WellFormed b t → i < t .list .count
     → let m = mappingAt (t .list) i in
     (1 ≤ protectionAt b (t .list) (t .records) i)
-    ↔ ((isRight (m .rights) ≡ true) × Passes (b .colours) (step.read (colourOf b (m .page))) (recordAt (t .records) (m .frame)))
+    ↔ ((isRight (m .rights) ≡ true) × Idle (b .colours) (step.read (colourOf b (m .page))) (recordAt (t .records) (m .frame)))
 
 abbrev pub WriteProtection : Type 0
 WriteProtection =
     (b : Board) (t : Tables) (i : ℕ) → Regular b → WellFormed b t → i < t .list .count
     → let m = mappingAt (t .list) i in
     (2 ≤ protectionAt b (t .list) (t .records) i)
-    ↔ ((m .rights ≡ readWrite) × Passes (b .colours) (step.write (colourOf b (m .page))) (recordAt (t .records) (m .frame)))
+    ↔ ((m .rights ≡ readWrite) × Idle (b .colours) (step.write (colourOf b (m .page))) (recordAt (t .records) (m .frame)))

@@ -1,4 +1,4 @@
--- An access is not barred, has no operation and alters nothing exactly if its colour's state lets it pass.
+-- An access has no operation and alters nothing exactly if its colour's state lets it pass, and then no mark bars it.
 use mathlib.Core.Path.{_≡_, refl, sym, ap, _∙_}
 use mathlib.Core.Bool.{Bool, true, false, not, false≢true}
 use Prim.Native.Nat.{ℕ, _≤_, _<_}
@@ -10,7 +10,7 @@ use Rattle.page_model.specs.Record.{stateOf, keepsRules, isHeld, isDirty
 use Rattle.page_model.specs.Busy.{free, reading, writing}
 use Rattle.page_model.specs.Step.{recordAfter}
 use Rattle.page_model.specs.Table.{ColourState, own, Cell, Step, read, write, roleIf, ownOf}
-use Rattle.page_model.specs.Theorems.{passesRead, passesWrite, ReadPasses, WritePasses}
+use Rattle.page_model.specs.Theorems.{passesRead, passesWrite, ReadPasses, WritePasses, IdleNotBarred}
 use Rattle.page_model.proofs.Rules.{keeps}
 use Rattle.page_model.proofs.Cells.{stateTest, rowOf, row-cell, at-law, each-state}
 use Rattle.page_model.proofs.Idle.{read-idle, write-idle}
@@ -25,33 +25,34 @@ idle-passes n step r passes l e own-next same =
     let cell = row-cell step r c ∙ ap (λ (b : Bool). rowOf step (roleIf b) (stateOf r c)) (eq-eqb c c refl) in
     ap passes (sym (ap (λ (x : FrameRecord). stateOf x c) same) ∙ state-after n step r e c l ∙ ap (λ (x : Cell). x .next) cell) ∙ own-next (stateOf r c)
 
--- of a mark that goes with the states: where a colour is present or dirty no device writes, and where one is dirty the frame is free
-not-writing : (mark : ℕ) → (mark ≡ writing → ⊥) → eqb mark writing ≡ false
-not-writing mark = ne-eqb mark writing
-
-not-busy : (mark : ℕ) → mark ≤ writing → (mark ≡ reading → ⊥) → (mark ≡ writing → ⊥) → not (eqb mark free) ≡ false
-not-busy mark l nr nw = ap not (eq-eqb mark free (omega arith))
-
 pub read-passes : ReadPasses
 unfolding stateOf
 read-passes n c r lc e = (
-  λ z.
-      let held = at-law r 0 c (stateTest passesRead) (stateTest isHeld) (λ o s h d. true) refl z in (
-        not-writing (r .busy) (λ m. false≢true (sym (kept-mark n r e .none-held m c lc) ∙ held)),
-        read-idle n r (keeps n r e) c lc (at-law r 0 c (stateTest passesRead) (λ o s h d. h) (λ o s h d. true) refl z),
-      ),
-  λ passes. idle-passes n (read c) r passesRead lc e (each-state _ refl) (passes .1 .1),
+  λ z. read-idle n r (keeps n r e) c lc (at-law r 0 c (stateTest passesRead) (λ o s h d. h) (λ o s h d. true) refl z),
+  λ idle. idle-passes n (read c) r passesRead lc e (each-state _ refl) (idle .1),
 )
 
 pub write-passes : WritePasses
 unfolding stateOf
 write-passes n c r lc e = (
-  λ z.
-      let is-dirty = at-law r 0 c (stateTest passesWrite) (stateTest isDirty) (λ o s h d. true) refl z in
-      let held = at-law r 0 c (stateTest passesWrite) (stateTest isHeld) (λ o s h d. true) refl z in
-      let mark = kept-mark n r e in (
-        not-busy (r .busy) (mark .is-mark) (λ m. false≢true (sym (mark .none-dirty m c lc) ∙ is-dirty)) (λ m. false≢true (sym (mark .none-held m c lc) ∙ held)),
-        write-idle n r (keeps n r e) c lc is-dirty,
-      ),
-  λ passes. idle-passes n (write c) r passesWrite lc e (each-state _ refl) (passes .1 .1),
+  λ z. write-idle n r (keeps n r e) c lc (at-law r 0 c (stateTest passesWrite) (stateTest isDirty) (λ o s h d. true) refl z),
+  λ idle. idle-passes n (write c) r passesWrite lc e (each-state _ refl) (idle .1),
 )
+
+-- where a colour is present or dirty no device writes, and where one is dirty none reads either
+not-busy : (mark : ℕ) → mark ≤ writing → (mark ≡ reading → ⊥) → (mark ≡ writing → ⊥) → not (eqb mark free) ≡ false
+not-busy mark l nr nw = ap not (eq-eqb mark free (omega arith))
+
+pub idle-not-barred : IdleNotBarred
+unfolding stateOf
+idle-not-barred n c r lc e =
+    let mark = kept-mark n r e in (
+      λ idle.
+          let held = at-law r 0 c (stateTest passesRead) (stateTest isHeld) (λ o s h d. true) refl (read-passes n c r lc e .1 idle) in
+          ne-eqb (r .busy) writing (λ m. false≢true (sym (mark .none-held m c lc) ∙ held)),
+      λ idle.
+          let passes = write-passes n c r lc e .1 idle in
+          let is-dirty = at-law r 0 c (stateTest passesWrite) (stateTest isDirty) (λ o s h d. true) refl passes in
+          let held = at-law r 0 c (stateTest passesWrite) (stateTest isHeld) (λ o s h d. true) refl passes in
+          not-busy (r .busy) (mark .is-mark) (λ m. false≢true (sym (mark .none-dirty m c lc) ∙ is-dirty)) (λ m. false≢true (sym (mark .none-held m c lc) ∙ held)),
+    )

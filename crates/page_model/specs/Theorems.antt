@@ -113,13 +113,15 @@ passesWrite stale = false
 abbrev pub Idle : ℕ → Step → FrameRecord → Type 0
 Idle n s r = (operations n s r ≡ []) × (recordAfter n s r ≡ r)
 
--- a step that the record's mark does not bar, and that is idle
-abbrev pub Passes : ℕ → Step → FrameRecord → Type 0
-Passes n s r = (bars (r .busy) s ≡ false) × Idle n s r
-
--- an access passes exactly if its colour's state lets it
+-- an access is idle exactly if its colour's state lets it pass
 abbrev pub ReadPasses : Type 0
-ReadPasses = (n c : ℕ) (r : FrameRecord) → c < n → keepsRules n r ≡ true → (passesRead (stateOf r c) ≡ true) ↔ Passes n (read c) r
+ReadPasses = (n c : ℕ) (r : FrameRecord) → c < n → keepsRules n r ≡ true → (passesRead (stateOf r c) ≡ true) ↔ Idle n (read c) r
 
 abbrev pub WritePasses : Type 0
-WritePasses = (n c : ℕ) (r : FrameRecord) → c < n → keepsRules n r ≡ true → (passesWrite (stateOf r c) ≡ true) ↔ Passes n (write c) r
+WritePasses = (n c : ℕ) (r : FrameRecord) → c < n → keepsRules n r ≡ true → (passesWrite (stateOf r c) ≡ true) ↔ Idle n (write c) r
+
+-- and no mark bars an access that is idle
+abbrev pub IdleNotBarred : Type 0
+IdleNotBarred =
+    (n c : ℕ) (r : FrameRecord) → c < n → keepsRules n r ≡ true
+    → (Idle n (read c) r → bars (r .busy) (read c) ≡ false) × (Idle n (write c) r → bars (r .busy) (write c) ≡ false)
