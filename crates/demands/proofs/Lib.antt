@@ -5,3 +5,4 @@ pub mod Items
 pub mod Manager
 pub mod Batch
 pub mod Theorem
+pub mod Protected
