@@ -8,13 +8,13 @@ use native.Mathlib.Nat.{pow-suc, div-one, div-eq-of-lt, div-add-mod', mod-lt, ze
 use native.Mathlib.Numerals.{add-one, one-add}
 use borrow.Author.Tests.{eqb-true, eq-eqb, ne-eqb, lt-ltb, le-ltb, not-true}
 use lib.Arith.{lt-one}
-use lib.Bits.{bitAnd, bitOr, bitXor, and-shr, or-shr, xor-shr, and-mod, or-mod, xor-mod, or-lt, xor-lt, or-add-and, and-le-l, and-le-r}
+use lib.Bits.{bitAnd, bitOr, bitXor, and-shr, or-shr, xor-shr, and-mod, or-mod, xor-mod, or-lt, or-add-and, and-le-l, and-le-r}
 use lib.Count.{ones, trailingZeros, under, ones-step, ones-cat}
 use lib.Dec.{eqb, ltb, lit<, eqb·zero-suc, eqb·suc-zero, eqb·suc-suc}
 use lib.Pow.{pow-pos, pow-lt, pow-mono, shr-shr, shr-lt}
 use Rattle.bits.proofs.Tautology.{iff}
 pub use Rattle.bits.proofs.Places.{at-place, all-at, all-of, any-cong, any-none, any-false, any-of, any-at, any-one, first-cong, first-none, first-one, first-at, countOf-cong, places-at, places-none, places-one, places-few}
-use Rattle.bits.specs.Mask.{bit, withBit, withoutBit, digit, maskOf, countOf, all, firstOf}
+use Rattle.bits.specs.Mask.{bit, withBit, digit, maskOf, countOf, all, firstOf}
 
 half-lt : {n : ℕ} (k : ℕ) → n < 2 ^ suc k → n / 2 < 2 ^ k
 half-lt {n} k h = shr-lt k 1 (subst (λ (x : ℕ). n < 2 ^ x) (sym (add-one k)) h)
@@ -58,6 +58,12 @@ pub maskOf-lt : (n : ℕ) (p : ℕ → Bool) → maskOf n p < 2 ^ n
 unfolding maskOf
 maskOf-lt zero p = lit< tt
 maskOf-lt (suc n) p = rw pow-suc (omega (arith, maskOf-lt n (λ k. p (suc k)), digit-lt (p 0)))
+
+-- the mask of all places below n is one less than the next place's weight
+pub mask-ones : (n : ℕ) → suc (maskOf n (λ k. true)) ≡ 2 ^ n
+unfolding maskOf
+mask-ones zero = refl
+mask-ones (suc n) = let e = mask-ones n in omega arith
 
 -- bit k of the mask of p is p's value at k
 pub bit-maskOf : (n : ℕ) (p : ℕ → Bool) (k : ℕ) → k < n → bit (maskOf n p) k ≡ p k
@@ -141,28 +147,11 @@ bit-one (suc j) (suc k) =
     let half : 2 ^ suc j / 2 ≡ 2 ^ j = omega (arith, pow-suc 2 j) in
     rw (bit-suc, half, eqb·suc-suc) (bit-one j k)
 
--- ---- a bit set, and one cleared
-
 pub bit-with : (m j k : ℕ) → bit (withBit m j) k ≡ (bit m k || eqb j k)
 unfolding withBit
 bit-with m j k = rw (bit-or, bit-one)
 
-pub bit-without : (m j k : ℕ) → bit (withoutBit m j) k ≡ (bit m k && not (eqb j k))
-unfolding withoutBit
-bit-without m j k = rw (bit-xor, bit-and, bit-one) (cleared (bit m k) (eqb j k))
-  where
-    cleared : (h o : Bool) → cond (h && o) (not h) h ≡ (h && not o)
-    cleared true true = refl
-    cleared true false = refl
-    cleared false o = refl
-
-pub with-lt : (n m j : ℕ) → m < 2 ^ n → j < n → withBit m j < 2 ^ n
-unfolding withBit
-with-lt n m j l lj = or-lt n m (2 ^ j) l (pow-lt lj)
-
-pub without-lt : (n m j : ℕ) → m < 2 ^ n → withoutBit m j < 2 ^ n
-unfolding withoutBit
-without-lt n m j l = xor-lt n m (bitAnd m (2 ^ j)) l (omega (arith, and-le-l m (2 ^ j)))
+-- ---- a mask within the first places
 
 -- no bit stands past the first k places exactly if the mask is below 2 ^ k
 pub shr-none : (m k : ℕ) → eqb (m / 2 ^ k) 0 ≡ ltb m (2 ^ k)

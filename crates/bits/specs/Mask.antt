@@ -2,7 +2,7 @@
 use mathlib.Core.Bool.{Bool, true, false, cond, _&&_, _||_}
 use mathlib.Core.List.{List, [], _∷_, map}
 use Prim.Native.Nat.{ℕ, zero, suc, _+_, _*_, _/_, _%_, _^_}
-use lib.Bits.{bitAnd, bitOr, bitXor}
+use lib.Bits.{bitOr}
 use lib.Dec.{eqb}
 
 -- the bits of a u32, the mask of the code
@@ -16,10 +16,6 @@ bit m k = eqb (m / 2 ^ k % 2) 1
 -- m with bit k set
 unfoldable pub withBit : ℕ → ℕ → ℕ
 withBit m k = bitOr m (2 ^ k)
-
--- m with bit k cleared
-unfoldable pub withoutBit : ℕ → ℕ → ℕ
-withoutBit m k = bitXor m (bitAnd m (2 ^ k))
 
 -- a test as a binary digit
 abbrev pub digit : Bool → ℕ

@@ -1,28 +1,28 @@
--- A step as the code takes it: one cell for its own colour, and one for the others that are held.
+-- A step as the code takes it: one cell for its own colour, and one for each class of the others.
 use mathlib.Core.Path.{_≡_, refl, sym, ap, ap₂, _∙_}
 use mathlib.Core.Bool.{Bool, true, false, not, _&&_, _||_, cond, or-false, and-false, false≢true}
 use mathlib.Core.List.{_++_, map}
-use Prim.Native.Nat.{ℕ, _^_, _≤_, _<_}
+use Prim.Native.Nat.{ℕ, _≤_, _<_}
 use native.Mathlib.Decide.{decLt}
 use native.Mathlib.Omega.{arith}
 use borrow.Author.Tests.{eqb-true, eqb-false, eq-eqb, ne-eqb}
-use lib.Bits.{bitOr, or-lt}
 use lib.Dec.{eqb}
-use lib.Pow.{pow-pos}
-use Rattle.bits.specs.Mask.{bit, withBit, withoutBit, digit, all, placesOf}
-use Rattle.bits.proofs.Mask.{bit-past, bit-none, bit-one, bit-or, bit-with, bit-without, with-lt, without-lt, at-place, all-at, any-one, first-one, places-none, places-one}
+use Rattle.bits.specs.Mask.{bit, digit, all, placesOf}
+use Rattle.bits.proofs.Mask.{maskOf-cong, bit-past, bit-one, at-place, all-at, any-one, first-one, places-none, places-one}
 use Rattle.bits.proofs.Tautology.{all4, equalIf, law4}
 use Rattle.page_model.specs.declared.FrameRecord.{FrameRecord}
+use Rattle.page_model.specs.declared.masks.Classes.{Classes}
+use Rattle.page_model.specs.declared.masks.Masks.{Masks}
 use Rattle.page_model.specs.declared.Op.{Op}
 use Rattle.page_model.specs.declared.Op.the-variants.{None, Flush, Purge}
-use Rattle.page_model.specs.Cases.{stateNumber, operationNumber, stepNumber, rowAt, caseOf, caseAt, markAt, operationAt, withState}
+use Rattle.page_model.specs.Cases.{stateNumber, operationNumber, stepNumber, rowAt, caseOf, caseAt, markAt, operationAt}
 use Rattle.page_model.specs.Busy.{markAfter}
-use Rattle.page_model.specs.Record.{stateFrom, stateOf, isHeld, isDirty, isStale}
+use Rattle.page_model.specs.Masks.{inHeld, inStale, numberAt, moved}
+use Rattle.page_model.specs.Record.{stateFrom, stateOf, encode, isHeld, isDirty, isStale}
 use Rattle.page_model.specs.Step.{isFlush, isPurge, cellOf, recordAfter, operations, opList, firstTwo, stepped}
 use Rattle.page_model.specs.Table.{ColourState, empty, present, dirty, stale, Operation, none, flush, purge, Cell, _⇒_, own, other, Step, read, write, deviceRead, deviceWrite, deviceWritePart, beginRead, beginWrite, roleIf, ownOf, reach}
 use Rattle.page_model.proofs.Rules.{Keeps, flag, dirty-only, dirty-at}
-use Rattle.page_model.proofs.Cells.{Test, Agree, apart, nextTest, operationTest, kept-next, kept-operation}
-use Rattle.page_model.proofs.Idle.{record-is}
+use Rattle.page_model.proofs.Cells.{Test, Agree, apart, row-cell, nextTest, operationTest, kept-next, kept-operation}
 
 -- ---- the numbers
 
@@ -66,26 +66,12 @@ ownCell x = rowAt x own
 abbrev othersCell : ℕ → Bool → Cell
 othersCell x d = rowAt x other (stateFrom false true d)
 
--- what they tell of any colour's state after the step, and of its operation
-abbrev heldAfter : ℕ → Test
-heldAfter x o s h d = (eqb (stateNumber (othersCell x d .next)) 1 && (h && not o)) || (o && isHeld (ownCell x (stateFrom s h d) .next))
-
-abbrev staleAfter : ℕ → Test
-staleAfter x o s h d = (s && not o || eqb (stateNumber (othersCell x d .next)) 3 && (h && not o)) || (o && isStale (ownCell x (stateFrom s h d) .next))
-
+-- what they tell of any colour: whether it is dirty after the step, and its operation
 abbrev dirtyAfter : ℕ → Test
 dirtyAfter x o s h d = o && isDirty (ownCell x (stateFrom s h d) .next)
 
 abbrev operationAfter : (Operation → Bool) → ℕ → Test
 operationAfter f x o s h d = f (othersCell x d .operation) && ((d && h) && not o) || (o && f (ownCell x (stateFrom s h d) .operation))
-
-held-after : (s : Step) → Agree apart (heldAfter (stepNumber s)) (nextTest s isHeld)
-unfolding all
-held-after s = each-row heldAfter (λ x o t h d. isHeld (rowAt x (roleIf o) (stateFrom t h d) .next)) refl s
-
-stale-after : (s : Step) → Agree apart (staleAfter (stepNumber s)) (nextTest s isStale)
-unfolding all
-stale-after s = each-row staleAfter (λ x o t h d. isStale (rowAt x (roleIf o) (stateFrom t h d) .next)) refl s
 
 dirty-after : (s : Step) → Agree apart (dirtyAfter (stepNumber s)) (nextTest s isDirty)
 unfolding all
@@ -101,23 +87,16 @@ purge-after s = each-row (operationAfter isPurge) (λ x o t h d. isPurge (rowAt 
 
 -- ---- the record after the step
 
--- a bit that is set if it is picked
-bit-with-if : (b : Bool) (m c k : ℕ) → bit (cond b (withBit m c) m) k ≡ (bit m k || (b && eqb c k))
-bit-with-if true m c k = bit-with m c k
-bit-with-if false m c k = sym (or-false (bit m k))
-
-with-if-lt : (n : ℕ) (b : Bool) (m c : ℕ) → m < 2 ^ n → (b ≡ true → c < n) → cond b (withBit m c) m < 2 ^ n
-with-if-lt n true m c l lc = with-lt n m c l (lc refl)
-with-if-lt n false m c l lc = l
-
--- a colour put in a state where none is dirty
-put : (h t k mark n : ℕ) (state : ColourState)
-    → withState (record { held = h; stale = t; dirty = 0; busy = mark; «dirty_colour» = n }) k (stateNumber state)
-    ≡ record { held = cond (isHeld state) (withBit h k) h; stale = cond (isStale state) (withBit t k) t; dirty = digit (isDirty state); busy = mark; «dirty_colour» = cond (isDirty state) k n }
-put h t k mark n empty = refl
-put h t k mark n present = refl
-put h t k mark n dirty = refl
-put h t k mark n stale = refl
+-- what the number of a state says of it: in which mask its colours stand, and whether they are dirty, by any choice and as a flag
+of-number : (state : ColourState) (x y : ℕ)
+    → (inHeld (stateNumber state) ≡ isHeld state)
+    × (inStale (stateNumber state) ≡ isStale state)
+    × (cond (eqb (stateNumber state) (stateNumber dirty)) x y ≡ cond (isDirty state) x y)
+    × (cond (eqb (stateNumber state) (stateNumber dirty)) 1 0 ≡ digit (isDirty state))
+of-number empty x y = (refl, refl, refl, refl)
+of-number present x y = (refl, refl, refl, refl)
+of-number dirty x y = (refl, refl, refl, refl)
+of-number stale x y = (refl, refl, refl, refl)
 
 -- a colour past the board's is empty, and only a transfer goes through it
 past-state : (n : ℕ) (r : FrameRecord) → Keeps n r → (k : ℕ) → n ≤ k → stateOf r k ≡ empty
@@ -220,57 +199,60 @@ module _ (n : ℕ) (r : FrameRecord) (kr : Keeps n r) (s : Step) (reaches : reac
   at-own : (f : Cell → Bool) (k : ℕ) → (f ownNow && eqb c k) ≡ (eqb c k && f (ownCell (stepNumber s) (stateOf r k)))
   at-own f k = sym (at-place (λ j. f (ownCell (stepNumber s) (stateOf r j))) c k)
 
-  -- the masks of the other colours
-  abbrev heldIf : Bool → ℕ
-  heldIf b = cond b (withoutBit (r .held) c) 0
+  -- the record's masks, and the number of the state that each class of its colours goes to
+  abbrev masks : Masks
+  masks = record { held = r .held; stale = r .stale }
 
-  abbrev heldRest : ℕ
-  heldRest = heldIf (eqb (stateNumber (othersNow .next)) 1)
+  abbrev to : Classes
+  to =
+      record {
+        own = stateNumber (ownNow .next);
+        held = stateNumber (othersNow .next);
+        stale = stateNumber (rowAt (stepNumber s) other stale .next);
+        empty = stateNumber (rowAt (stepNumber s) other empty .next);
+      }
 
-  abbrev staleRest : ℕ
-  staleRest = bitOr (withoutBit (r .stale) c) (heldIf (eqb (stateNumber (othersNow .next)) 3))
-
-  bit-held-if : (b : Bool) (k : ℕ) → bit (heldIf b) k ≡ (b && (bit (r .held) k && not (eqb c k)))
-  bit-held-if true k = bit-without (r .held) c k
-  bit-held-if false k = bit-none k
-
-  held-if-lt : (b : Bool) → heldIf b < 2 ^ n
-  held-if-lt true = without-lt n (r .held) c (kr .held-lt)
-  held-if-lt false = pow-pos n
-
-  held-is : (k : ℕ) → k < n → bit (cond (isHeld (ownNow .next)) (withBit heldRest c) heldRest) k ≡ isHeld (cellOf s r k .next)
+  -- it is the one that each colour goes to by its own cell
+  number-at : (k : ℕ) → numberAt c to masks k ≡ stateNumber (cellOf s r k .next)
   unfolding stateOf
-  held-is k l =
-      bit-with-if (isHeld (ownNow .next)) heldRest c k
-      ∙ ap₂ _||_ (bit-held-if (eqb (stateNumber (othersNow .next)) 1) k) (at-own (λ x. isHeld (x .next)) k)
-      ∙ kept-next n r kr s isHeld (heldAfter (stepNumber s)) (held-after s) k l
+  number-at k = go (eqb c k) refl ∙ sym (ap (λ (x : Cell). stateNumber (x .next)) (row-cell s r k))
+    where
+      others : (t h : Bool) → cond t (to .stale) (cond h (to .held) (to .empty)) ≡ stateNumber (rowAt (stepNumber s) other (stateFrom t h (flag r)) .next)
+      others true h = refl
+      others false true = refl
+      others false false = refl
 
-  stale-is : (k : ℕ) → k < n → bit (cond (isStale (ownNow .next)) (withBit staleRest c) staleRest) k ≡ isStale (cellOf s r k .next)
-  unfolding stateOf
-  stale-is k l =
-      bit-with-if (isStale (ownNow .next)) staleRest c k
-      ∙ ap₂ _||_
-      (bit-or (withoutBit (r .stale) c) (heldIf (eqb (stateNumber (othersNow .next)) 3)) k
-      ∙ ap₂ _||_ (bit-without (r .stale) c k) (bit-held-if (eqb (stateNumber (othersNow .next)) 3) k))
-      (at-own (λ x. isStale (x .next)) k)
-      ∙ kept-next n r kr s isStale (staleAfter (stepNumber s)) (stale-after s) k l
+      go : (o : Bool) → eqb c k ≡ o → cond o (to .own) (cond (bit (r .stale) k) (to .stale) (cond (bit (r .held) k) (to .held) (to .empty))) ≡ stateNumber (rowAt (stepNumber s) (roleIf o) (stateOf r k) .next)
+      go true e = ap (λ (j : ℕ). stateNumber (ownCell (stepNumber s) (stateOf r j) .next)) (eqb-true c k e)
+      go false e = others (bit (r .stale) k) (bit (r .held) k)
 
   dirty-is : (k : ℕ) → k < n → isDirty (cellOf s r k .next) ≡ (isDirty (ownNow .next) && eqb c k)
   unfolding stateOf
   dirty-is k l = sym (kept-next n r kr s isDirty (dirtyAfter (stepNumber s)) (dirty-after s) k l) ∙ sym (at-own (λ x. isDirty (x .next)) k)
 
-  pub step-record : withState (record { held = heldRest; stale = staleRest; dirty = 0; busy = markAfter s (r .busy); «dirty_colour» = n }) c (stateNumber (ownNow .next)) ≡ recordAfter n s r
+  -- the record that the code makes of them
+  abbrev nextNow : FrameRecord
+  nextNow =
+      record {
+        held = moved n c to masks .held;
+        stale = moved n c to masks .stale;
+        dirty = cond (eqb (to .own) (stateNumber dirty)) 1 0;
+        busy = markAfter s (r .busy);
+        «dirty_colour» = cond (eqb (to .own) (stateNumber dirty)) c n;
+      }
+
+  step-record : nextNow ≡ recordAfter n s r
+  unfolding recordAfter encode moved
   step-record =
-      let dirty-below = own-below (λ x. isDirty (x .next)) refl in
-      put heldRest staleRest c (markAfter s (r .busy)) n (ownNow .next)
-      ∙ record-is n s r
-      (with-if-lt n (isHeld (ownNow .next)) heldRest c (held-if-lt (eqb (stateNumber (othersNow .next)) 1)) (own-below (λ x. isHeld (x .next)) refl))
-      (with-if-lt n (isStale (ownNow .next)) staleRest c (or-lt n _ _ (without-lt n (r .stale) c (kr .stale-lt)) (held-if-lt (eqb (stateNumber (othersNow .next)) 3))) (own-below (λ x. isStale (x .next)) refl))
-      held-is
-      stale-is
-      (ap digit (sym (any-one n c (isDirty (ownNow .next)) _ dirty-below dirty-is)))
-      refl
-      (sym (first-one n c (isDirty (ownNow .next)) _ dirty-below dirty-is))
+      let below = own-below (λ x. isDirty (x .next)) refl in
+      let own = of-number (ownNow .next) c n in
+      λ i. record {
+        held = maskOf-cong n _ _ (λ k l. ap inHeld (number-at k) ∙ of-number (cellOf s r k .next) 0 0 .0) i;
+        stale = maskOf-cong n _ _ (λ k l. ap inStale (number-at k) ∙ of-number (cellOf s r k .next) 0 0 .1) i;
+        dirty = (own .3 ∙ ap digit (sym (any-one n c (isDirty (ownNow .next)) _ below dirty-is))) i;
+        busy = markAfter s (r .busy);
+        «dirty_colour» = (own .2 ∙ sym (first-one n c (isDirty (ownNow .next)) _ below dirty-is)) i;
+      }
 
   -- the operation on the dirty colour, if that is not the own colour
   abbrev onDirty : Operation
@@ -322,7 +304,7 @@ module _ (n : ℕ) (r : FrameRecord) (kr : Keeps n r) (s : Step) (reaches : reac
       (picks isFlush refl (flush-after s)) (picks isPurge refl (purge-after s))
 
   pub step-is : {next : FrameRecord} {first second : Op}
-      → next ≡ withState (record { held = heldRest; stale = staleRest; dirty = 0; busy = markAfter s (r .busy); «dirty_colour» = n }) c (stateNumber (ownNow .next))
+      → next ≡ nextNow
       → first ≡ cond (eqb (r .«dirty_colour») c) None (operationAt (operationNumber (othersNow .operation)) (r .«dirty_colour»))
       → second ≡ operationAt (operationNumber (ownNow .operation)) c
       → record { next = next; ops = firstTwo (opList first ++ opList second) } ≡ stepped n s r

@@ -6,6 +6,7 @@ pub mod Start
 pub mod Encoding
 pub mod After
 pub mod Operations
+pub mod Moving
 pub mod Colours
 pub mod Passing
 pub mod Theorems

@@ -1,10 +1,8 @@
 -- The numbers that the code's cases go by, in the order of document 01's tables: what each stands for, the cell that they name, the busy mark
--- that they leave, the operation, and the record that a colour more in a numbered state makes.
+-- that they leave, and the operation.
 use mathlib.Core.Bool.{Bool, cond}
 use Prim.Native.Nat.{ℕ, zero, suc}
 use lib.Dec.{eqb}
-use Rattle.bits.specs.Mask.{withBit}
-use Rattle.page_model.specs.declared.FrameRecord.{FrameRecord}
 use Rattle.page_model.specs.declared.Op.{Op}
 use Rattle.page_model.specs.declared.Op.the-variants.{None, Flush, Purge}
 use Rattle.page_model.specs.declared.table.Case.{Case}
@@ -71,13 +69,3 @@ operationAt zero c = None
 operationAt (suc zero) c = Flush c
 operationAt (suc (suc zero)) c = Purge c
 operationAt (suc (suc (suc number))) c = None
-
--- ---- a record and one colour more
-
--- the record with colour k, so far empty, in the state of a number; any number but a state's leaves it as it is
-abbrev pub withState : FrameRecord → ℕ → ℕ → FrameRecord
-withState r k zero = r
-withState r k (suc zero) = record { held = withBit (r .held) k; stale = r .stale; dirty = r .dirty; busy = r .busy; «dirty_colour» = r .«dirty_colour» }
-withState r k (suc (suc zero)) = record { held = withBit (r .held) k; stale = r .stale; dirty = 1; busy = r .busy; «dirty_colour» = k }
-withState r k (suc (suc (suc zero))) = record { held = r .held; stale = withBit (r .stale) k; dirty = r .dirty; busy = r .busy; «dirty_colour» = r .«dirty_colour» }
-withState r k (suc (suc (suc (suc state)))) = r

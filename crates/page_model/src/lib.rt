@@ -1,5 +1,6 @@
 // The page model: a frame's record, and what each step makes of it.
 pub mod busy;
+mod masks;
 mod table;
 
 ghost use mathlib.Core.Path.{_≡_};
@@ -9,11 +10,14 @@ ghost use Prim.Native.Nat.{ℕ, _≤_, _<_};
 ghost use lib.Count.{trailingZeros};
 ghost use lib.Dec.{eqb};
 ghost use Rattle.bits.specs.Mask.{width};
-ghost use Rattle.page_model.specs.Cases.{stateNumber, stepNumber, operationAt, withState};
+ghost use Rattle.page_model.specs.Cases.{stateNumber, stepNumber, operationAt};
 ghost use Rattle.page_model.specs.Busy.{free, bars};
 ghost use Rattle.page_model.specs.Record.{keepsRules, coloursKeepRules, stateFrom, stateOf, isHeld, isDirty, freed};
 ghost use Rattle.page_model.specs.Step.{stepped, firstTwo, opList};
 ghost use Rattle.page_model.specs.Table.{Step, ownOf, reach, read, write, deviceRead, deviceWrite, deviceWritePart, beginRead, beginWrite};
+use masks::Classes;
+use masks::Masks;
+use masks::pick;
 
 // An operation that the cache is to carry out on one colour of a frame: document 01's order.
 pub enum Op {
@@ -186,26 +190,38 @@ impl FrameRecord {
         self.holds(colour) & (self.dirty == 1)
     }
 
-    // A step: its own colour takes one cell, and the others that are held take another, which are all present or the one dirty. The others that are
-    // empty or stale stay so, as in every row. A transfer goes through no colour, and its cells do not look at one.
+    // A step: each class of colours takes its cell, and goes to the mask of its next state. The classes are the own colour and of the others those
+    // that are held, which are all present or the one dirty, those that are stale and those that are empty. In every row none of the others but the
+    // dirty one has an operation, and none is dirty afterwards. A transfer goes through no colour, and its cells do not look at one.
     fn step(self, step: u8, colours: usize, colour: usize) -> Stepped
         requires { ⌜ (colours ≤ width) × (colour < width) ⌝ }
         ensures { λ r. ⌜ ((s : Step) → step ≡ stepNumber s → colour ≡ ownOf s → reach s ≤ colours → keepsRules colours self ≡ true → r ≡ stepped colours s self) ⌝ }
     {
         let own = table::case_at(step, true, self.state(colour));
-        let others = table::case_at(step, false, self.held_state());
-        let dirty_colour = self.dirty_colour as usize;
-        let held = bits::without_bit(self.held, colour);
-        let stale = bits::without_bit(self.stale, colour);
-        let rest = FrameRecord {
-            held: if_picked(held, others.1 == table::PRESENT),
-            stale: stale | if_picked(held, others.1 == table::STALE),
-            dirty: 0,
-            busy: busy::mark_at(step, self.busy),
-            dirty_colour: colours as u32,
+        let held = table::case_at(step, false, self.held_state());
+        let stale = table::case_at(step, false, table::STALE);
+        let empty = table::case_at(step, false, table::EMPTY);
+        let to = Classes {
+            own: own.1,
+            held: held.1,
+            stale: stale.1,
+            empty: empty.1,
         };
-        let next = rest.with_state(colour, own.1);
-        let first = elsewhere(others.0, dirty_colour, colour);
+        let masks = Masks {
+            held: self.held,
+            stale: self.stale,
+        };
+        let after = masks.moved(colours, colour, to);
+        let dirty_colour = self.dirty_colour as usize;
+        let dirty = own.1 == table::DIRTY;
+        let next = FrameRecord {
+            held: after.held,
+            stale: after.stale,
+            dirty: pick(dirty, 1, 0),
+            busy: busy::mark_at(step, self.busy),
+            dirty_colour: pick(dirty, colour as u32, colours as u32),
+        };
+        let first = elsewhere(held.0, dirty_colour, colour);
         let second = operation(own.0, colour);
         let ops = first_two(first, second);
         Stepped { next, ops }
@@ -240,45 +256,6 @@ impl FrameRecord {
             table::EMPTY
         }
     }
-
-    // The record with a colour, so far empty, in a state.
-    fn with_state(self, colour: usize, state: u8) -> FrameRecord
-        requires { ⌜ colour < width ⌝ }
-        ensures { λ r. ⌜ r ≡ withState self colour state ⌝ }
-    {
-        match state {
-            table::EMPTY => self,
-            table::PRESENT => FrameRecord {
-                held: bits::with_bit(self.held, colour),
-                stale: self.stale,
-                dirty: self.dirty,
-                busy: self.busy,
-                dirty_colour: self.dirty_colour,
-            },
-            table::DIRTY => FrameRecord {
-                held: bits::with_bit(self.held, colour),
-                stale: self.stale,
-                dirty: 1,
-                busy: self.busy,
-                dirty_colour: colour as u32,
-            },
-            table::STALE => FrameRecord {
-                held: self.held,
-                stale: bits::with_bit(self.stale, colour),
-                dirty: self.dirty,
-                busy: self.busy,
-                dirty_colour: self.dirty_colour,
-            },
-            4..=255 => self,
-        }
-    }
-}
-
-// The mask if it is picked, and else the empty one.
-fn if_picked(mask: u32, picked: bool) -> u32
-    ensures { λ r. ⌜ r ≡ cond picked mask 0 ⌝ }
-{
-    if picked { mask } else { 0 }
 }
 
 // The operation of a number on a colour.

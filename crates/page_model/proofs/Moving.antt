@@ -1,0 +1,81 @@
+-- Masks moved class by class, as the code does it, are the masks of the states that the colours went to.
+use mathlib.Core.Path.{_≡_, sym, _∙_}
+use mathlib.Core.Bool.{Bool, true, false, not, _&&_, _||_, cond, or-false, and-false, and-true}
+use Prim.Native.Nat.{ℕ, _^_, _<_}
+use native.Mathlib.Omega.{arith}
+use lib.Bits.{bitAnd, bitOr, bitXor, or-lt, xor-lt, and-le-l}
+use lib.Dec.{eqb}
+use lib.Pow.{pow-pos}
+use Rattle.bits.specs.Mask.{bit, withBit, maskOf}
+use Rattle.bits.proofs.Mask.{mask-of, maskOf-lt, bit-maskOf, bit-none, bit-and, bit-or, bit-xor, bit-with}
+use Rattle.page_model.specs.declared.masks.Masks.{Masks}
+use Rattle.page_model.specs.declared.masks.Classes.{Classes}
+use Rattle.page_model.specs.Masks.{inHeld, inStale, withClass, numberAt, moved}
+
+-- a mask if a test holds, and else the empty one
+bit-if : (b : Bool) (m k : ℕ) → bit (cond b m 0) k ≡ (bit m k && b)
+bit-if true m k = sym (and-true (bit m k))
+bit-if false m k = bit-none k ∙ sym (and-false (bit m k))
+
+if-lt : (n : ℕ) (b : Bool) (m : ℕ) → m < 2 ^ n → cond b m 0 < 2 ^ n
+if-lt n true m l = l
+if-lt n false m l = pow-pos n
+
+-- what is left of a class when some of it are taken out, as the code's xor says it
+abbrev left : Bool → Bool → Bool
+left class taken = cond taken (not class) class
+
+-- a colour is in one of the four classes: own, else stale, else held, else empty
+one-class : (p : ℕ → Bool) (to : Classes) (o s h : Bool)
+    → (left (left (left true o) (left true o && s)) (left (left true o) (left true o && s) && h) && p (to .empty)
+    || (left (left true o) (left true o && s) && h && p (to .held) || (left true o && s && p (to .stale) || (o && p (to .own) || false))))
+    ≡ p (cond o (to .own) (cond s (to .stale) (cond h (to .held) (to .empty))))
+one-class p to true s h = or-false (p (to .own))
+one-class p to false true h = or-false (p (to .stale))
+one-class p to false false true = or-false (p (to .held))
+one-class p to false false false = or-false (p (to .empty))
+
+module _ (n c : ℕ) (to : Classes) (m : Masks) where
+  -- the classes
+  abbrev every : ℕ
+  every = maskOf n (λ k. true)
+
+  abbrev own : ℕ
+  own = bitAnd every (withBit 0 c)
+
+  abbrev others : ℕ
+  others = bitXor every own
+
+  abbrev stale : ℕ
+  stale = bitAnd others (m .stale)
+
+  abbrev rest : ℕ
+  rest = bitXor others stale
+
+  abbrev held : ℕ
+  held = bitAnd rest (m .held)
+
+  abbrev empty : ℕ
+  empty = bitXor rest held
+
+  -- the mask of those that go to a state of which a test holds
+  gathered : (p : ℕ → Bool)
+      → bitOr (cond (p (to .empty)) empty 0) (bitOr (cond (p (to .held)) held 0) (bitOr (cond (p (to .stale)) stale 0) (bitOr (cond (p (to .own)) own 0) 0)))
+      ≡ maskOf n (λ k. p (numberAt c to m k))
+  gathered p =
+      let every-lt = maskOf-lt n (λ k. true) in
+      let own-lt : own < 2 ^ n = omega (arith, and-le-l every (withBit 0 c)) in
+      let others-lt = xor-lt n every own every-lt own-lt in
+      let stale-lt : stale < 2 ^ n = omega (arith, and-le-l others (m .stale)) in
+      let rest-lt = xor-lt n others stale others-lt stale-lt in
+      let held-lt : held < 2 ^ n = omega (arith, and-le-l rest (m .held)) in
+      mask-of n _ (λ k. p (numberAt c to m k))
+      (or-lt n _ _ (if-lt n (p (to .empty)) empty (xor-lt n rest held rest-lt held-lt))
+      (or-lt n _ _ (if-lt n (p (to .held)) held held-lt)
+      (or-lt n _ _ (if-lt n (p (to .stale)) stale stale-lt)
+      (or-lt n _ _ (if-lt n (p (to .own)) own own-lt) (pow-pos n)))))
+      (λ k l. simp (bit-or, bit-if, bit-and, bit-xor, bit-with, bit-none) (rw (bit-maskOf n (λ j. true) k l) (one-class p to (eqb c k) (bit (m .stale) k) (bit (m .held) k))))
+
+  pub moved-is : withClass (withClass (withClass (withClass (record { held = 0; stale = 0 }) own (to .own)) stale (to .stale)) held (to .held)) empty (to .empty) ≡ moved n c to m
+  unfolding moved
+  moved-is = λ i. record { held = gathered inHeld i; stale = gathered inStale i }
