@@ -19,7 +19,7 @@ use Rattle.page_model.proofs.Rules.{Keeps, flag, flag-digit, dirty-only
 use Rattle.page_model.proofs.Cells.{Test, Agree, apart, nextTest, operationTest, at, next-law, operation-law, kept-state}
 
 -- masks whose bits are the states after the step, the flag of whether one of these is dirty, and the first that is, make the record after it
-pub record-is : (n : ℕ) (s : Step) (r : FrameRecord) {h t d b c : ℕ} → h < 2 ^ n → t < 2 ^ n
+record-is : (n : ℕ) (s : Step) (r : FrameRecord) {h t d b c : ℕ} → h < 2 ^ n → t < 2 ^ n
     → ((k : ℕ) → k < n → bit h k ≡ isHeld (cellOf s r k .next))
     → ((k : ℕ) → k < n → bit t k ≡ isStale (cellOf s r k .next))
     → d ≡ digit (any n (λ k. isDirty (cellOf s r k .next)))
