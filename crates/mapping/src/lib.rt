@@ -9,7 +9,7 @@ ghost use Rattle.board.specs.declared.Board as any;
 ghost use Rattle.mapping.specs.Entry.{zeroMapping, pageNumbers, keyOf, inRange, isZero, isAt};
 ghost use Rattle.mapping.specs.Rules.{keepsRules};
 ghost use Rattle.mapping.specs.Change.{empty, insertAt, remove};
-ghost use Rattle.mapping.specs.Look.{find, look};
+ghost use Rattle.mapping.specs.Look.{find, look, ToldWithin};
 ghost use Rattle.mapping.specs.Batch.{batchSize, zeroBatch, put};
 use board::Board;
 
@@ -50,7 +50,7 @@ pub struct Batch {
 
 // What one look at the list tells of a page of a space.
 pub struct Seen {
-    // Whether the list keeps its rules; where it does not, nothing else is told.
+    // Whether the list keeps its rules; where it does not, nothing else is told. True where that is not tested.
     pub kept: bool,
     pub count: usize,
     // The place of the page's mapping, or the one where it would go.
@@ -190,10 +190,12 @@ pub fn keeps_rules(board: Board, list: MappingList) -> bool
     rest == 0
 }
 
-// What a list that keeps its rules tells of a page of a space, found by halving. Of another list only the count is told; the rest is free.
+// What a list that keeps its rules tells of a page of a space, found by halving. The rules are not tested: kept is true whatever the list. In one
+// that breaks them the place is free, but at most the count and CAPACITY; mapped says whether the page's mapping is listed at that place, and mapping
+// is that record, or all 0.
 pub fn find(list: MappingList, space: u8, page: u16) -> Seen
     ensures told { λ r. ⌜ ((b : any.Board) → keepsRules b list ≡ true → r ≡ find list space page) ⌝ }
-    ensures always { λ r. ⌜ (r .kept ≡ true) × (r .count ≡ list .count) ⌝ }
+    ensures always { λ r. ⌜ ToldWithin list space page r ⌝ }
 {
     let count = list.count;
     let end = if count < CAPACITY { count } else { CAPACITY };

@@ -1,11 +1,12 @@
 -- `mapping::find` meets its contract. The loop's invariant, in a list in order: the places below stand before the page, those from `past` on do not.
 use Prim.Native.Nat.{ℕ, _+_, _≤_, _<_, _-_, min}
-use mathlib.Core.Path.{_≡_, refl, sym, ap, ap₂, subst⁻¹, _∙_}
-use mathlib.Core.Bool.{true, false}
-use mathlib.Core.Logic.{⊎-elim}
+use mathlib.Core.Path.{_≡_, sym, ap, ap₂, subst⁻¹, _∙_}
+use mathlib.Core.Bool.{Bool, true, false, cond}
+use mathlib.Core.Logic.{_⊎_, inl, inr, ⊎-elim}
 use native.Mathlib.Omega.{arith}
 use native.Mathlib.Nat.{eq-or-lt-of-le}
 use borrow.Author.Needs.{needs}
+use borrow.Author.Tests.{lt-ltb, le-ltb}
 use lib.ListN.{length, List·getD-eq-default}
 use Rattle.board.specs.declared.Board.{Board}
 use Rattle.mapping.specs.declared.Found.{Found}
@@ -14,7 +15,7 @@ use Rattle.mapping.specs.declared.Mapping.{Mapping}
 use Rattle.mapping.specs.declared.MappingList.{MappingList}
 use Rattle.mapping.specs.declared.Seen.{Seen}
 use Rattle.mapping.specs.Entry.{capacity, zeroMapping, isAt, mappingAt}
-use Rattle.mapping.specs.Look.{find}
+use Rattle.mapping.specs.Look.{find, isListedAt, ToldWithin}
 use Rattle.mapping.specs.Lookup.{found, placeOf, placeFor}
 use Rattle.mapping.specs.Rules.{keepsRules}
 use Rattle.mapping.specs.Facts.{Before, Ordered, Rules, GoesTo}
@@ -23,6 +24,7 @@ use Rattle.mapping.proofs.Order.{before-trans, key-before, before-key}
 use Rattle.mapping.proofs.Place.{goes-place, goes-found, goes-nothing}
 use Rattle.mapping.proofs.Rules.{keepsRules-true}
 use Rattle.mapping.proofs.Records.{items-length}
+use Rattle.mapping.proofs.Tests.{lt-or-le}
 use Rattle.mapping.proofs.find.Statement.{statement}
 use Rattle.mapping.proofs.find.Tie as tie
 
@@ -74,6 +76,40 @@ module _ (b : Board) (l : MappingList) (s p place end : ℕ) (kept : keepsRules 
       ap₂ (λ (i : ℕ) (m : Mapping). record { kept = true; count = l .count; place = i; mapped = false; mapping = m }) (sym (goes-place l s p place goes)) z
       ∙ ap (λ (x : Found). record { kept = true; count = l .count; place = placeFor l s p; mapped = found x; mapping = mappingAt l (placeOf x) }) (sym f)
 
+-- what is told of a page in any list, by whether it stands at the last place
+abbrev Finds : MappingList → ℕ → ℕ → Seen → Type 0
+Finds l s p seen = ((b : Board) → keepsRules b l ≡ true → seen ≡ find l s p) × ToldWithin l s p seen
+
+module _ (l : MappingList) (s p place end : ℕ) (long : length (l .items) ≡ capacity) (is-end : end ≡ min (l .count) capacity)
+    (split : Ordered l → Earlier l s p place × Later l s p place end) (within : place ≤ end) where
+  told-as : (t : Bool) → isListedAt l s p place ≡ t
+      → ToldWithin l s p (record { kept = true; count = l .count; place = place; mapped = t; mapping = cond t (mappingAt l place) zeroMapping })
+  told-as t e = record {
+    within-count = omega arith;
+    within-items = omega arith;
+    told = ap (λ (x : Bool). record { kept = true; count = l .count; place = place; mapped = x; mapping = cond x (mappingAt l place) zeroMapping }) (sym e);
+  }
+
+  listed-here : place < end → isListedAt l s p place ≡ isAt (mappingAt l place) s p
+  listed-here h = simp (lt-ltb place (l .count) (omega arith), lt-ltb place (length (l .items)) (omega arith))
+
+  not-listed : (place < end → isAt (mappingAt l place) s p ≡ false) → isListedAt l s p place ≡ false
+  not-listed h = ⊎-elim (λ i. listed-here i ∙ h i) (λ i. past i (lt-or-le place (l .count))) (lt-or-le place end)
+    where
+      past : end ≤ place → (place < l .count) ⊎ (l .count ≤ place) → isListedAt l s p place ≡ false
+      past i (inl j) = simp (lt-ltb place (l .count) j, le-ltb place (length (l .items)) (omega arith))
+      past i (inr j) = simp (le-ltb place (l .count) j)
+
+  finds-here : place < end → isAt (mappingAt l place) s p ≡ true
+      → Finds l s p (record { kept = true; count = l .count; place = place; mapped = true; mapping = mappingAt l place })
+  finds-here h e = (λ b kept. told-found b l s p place end kept is-end split within h e, told-as true (listed-here h ∙ e))
+
+  finds-nothing : (m : Mapping) → m ≡ zeroMapping → (place < end → isAt (mappingAt l place) s p ≡ false)
+      → Finds l s p (record { kept = true; count = l .count; place = place; mapped = false; mapping = m })
+  finds-nothing m z h =
+      subst⁻¹ (λ (m : Mapping). Finds l s p (record { kept = true; count = l .count; place = place; mapped = false; mapping = m })) z
+      (λ b kept. told-nothing b l s p place end kept is-end split within long h, told-as false (not-listed h))
+
 abbrev Inv-loop : tie.InvT-loop
 Inv-loop space page list count end wanted place₀ past₀ place past =
     (place ≤ past) × (past ≤ end) × (end ≡ min (list .count) capacity) × (Ordered list → Earlier list space page place × Later list space page past end)
@@ -114,25 +150,21 @@ returns : tie.Need-returns Inv-loop μ-loop
 returns c =
     let at = c .before .before .before .before .before in
     let a = at .before .before .before in
-    let done : at .loop .past ≡ at .loop .place = omega arith in (
-      λ b kept. told-found b (a .args .t1) _ _ (at .loop .place) _ kept (at .loop .inv .2)
-          (λ o. let i = at .loop .inv .3 o in (i .0, λ k h j. i .1 k (omega arith) j))
-          (omega arith) (omega arith) (sym (c .before .is-at .ensures) ∙ c .if4 .taken),
-      (refl, refl),
-    )
+    let l = a .args .t1 in
+    let done : at .loop .past ≡ at .loop .place = omega arith in
+    finds-here l _ _ (at .loop .place) _ (items-length l _ (a .good .0)) (at .loop .inv .2)
+    (λ o. let i = at .loop .inv .3 o in (i .0, λ k h j. i .1 k (omega arith) j))
+    (omega arith) (omega arith) (sym (c .before .is-at .ensures) ∙ c .if4 .taken)
 
 returns-2 : tie.Need-returns-2 Inv-loop μ-loop
 returns-2 c =
     let at = c .before .before .before in
     let a = at .before .before .before in
-    let done : at .loop .past ≡ at .loop .place = omega arith in (
-      λ b kept. ap (λ (m : Mapping). record { kept = true; count = a .args .t1 .count; place = at .loop .place; mapped = false; mapping = m }) (c .zero .ensures)
-          ∙ told-nothing b (a .args .t1) _ _ (at .loop .place) _ kept (at .loop .inv .2)
-          (λ o. let i = at .loop .inv .3 o in (i .0, λ k h j. i .1 k (omega arith) j))
-          (omega arith) (items-length (a .args .t1) _ (a .good .0))
-          (λ h. ⊎-elim (λ w. sym (w .2 .ensures) ∙ w .3 .left) (λ w. absurd (omega arith)) (c .before .if3 .came)),
-      (refl, refl),
-    )
+    let l = a .args .t1 in
+    let done : at .loop .past ≡ at .loop .place = omega arith in
+    finds-nothing l _ _ (at .loop .place) _ (items-length l _ (a .good .0)) (at .loop .inv .2)
+    (λ o. let i = at .loop .inv .3 o in (i .0, λ k h j. i .1 k (omega arith) j))
+    (omega arith) _ (c .zero .ensures) (λ h. ⊎-elim (λ w. sym (w .2 .ensures) ∙ w .3 .left) (λ w. absurd (omega arith)) (c .before .if3 .came))
 
 pub find-spec : {M : Type 1} → statement M
 find-spec =
