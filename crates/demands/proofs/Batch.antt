@@ -1,6 +1,6 @@
 -- The manager's list of mappings agrees with the machine's, since each item does; and a kernel's own list is that list.
 use mathlib.Core.Path.{_≡_, refl, sym, ap, subst⁻¹, fun-ext, _∙_}
-use mathlib.Core.Bool.{Bool, not, _||_, and-true, true≢false}
+use mathlib.Core.Bool.{Bool, not, _&&_, _||_, and-true, true≢false}
 use mathlib.Core.List.{List, [], _∷_}
 use Prim.Native.Nat.{ℕ, zero, suc, _≤_, _<_}
 use native.Mathlib.Decide.{decLe}
@@ -16,17 +16,18 @@ use Rattle.manager.specs.Answers.{accepted, numberOf}
 use Rattle.manager.specs.Batch as manager
 use Rattle.manager.specs.Batch.{itemAt, mapItem, tablesAfter, BatchResult, batchResult, mapAllCauses, wholeResult, mapAllCall}
 use Rattle.manager.specs.Calls.{Result, result, noOps}
-use Rattle.manager.specs.Refusals.{_if_, firstRefusal, batchCause}
+use Rattle.manager.specs.Refusals.{Cause, _if_, firstRefusal, batchCause}
 use Rattle.manager.specs.Tables.{Tables, lengthsRight, tabulate}
 use Rattle.manager.proofs.CauseLaws.{none-applies}
 use Rattle.cache.specs.Store.{WellFormed}
-use Rattle.machine.specs.Call.{mapOf, afterItems, answerAt, callCauses}
+use Rattle.machine.specs.Call.{mapOf, afterItems, answerAt, callCauses, perform}
+use Rattle.machine.specs.Refusals.{storeLengths}
 use Rattle.machine.specs.State.{State, single, mapAll}
 use Rattle.machine.specs.State as state-of
 use Rattle.machine.specs.Step.{step}
-use Rattle.machine.proofs.CallLaws.{perform-cases, map-store}
+use Rattle.machine.proofs.CallLaws.{perform-cases, perform-refused, map-store}
 use Rattle.machine.proofs.StoreLaws.{lengths-right}
-use Rattle.demands.specs.Manager.{BatchAgrees, ManagerAgrees, LentList}
+use Rattle.demands.specs.Manager.{BatchAgrees, ManagerAgrees, LentList, LentListPerformed}
 use Rattle.demands.proofs.Manager.{single-agrees}
 
 -- what an accepted list gives
@@ -80,20 +81,24 @@ manager-agrees b st (mapAll items answers) wf = batch-agrees b st wf items answe
 
 -- ---- a kernel's own list
 
-module _ (b : Board) (t : Tables) (items : List Mapping) (answers : List ℕ) where
+-- whatever else is lent
+module _ (lengths : Bool) (items : List Mapping) (answers : List ℕ) where
+  abbrev wholeCauses : List Mapping → List Cause
+  wholeCauses xs = (1 if not lengths) ∷ batchCause (length xs) (length answers) ∷ []
+
   -- one that is too long is refused
-  long-refused : batchSize < length items → firstRefusal (mapAllCauses b t items answers) ≡ 0 → ⊥
+  long-refused : batchSize < length items → firstRefusal (wholeCauses items) ≡ 0 → ⊥
   long-refused h e =
-      let n = none-applies (mapAllCauses b t items answers) refl e in
+      let n = none-applies (wholeCauses items) refl e in
       true≢false (sym (ap (λ (l : Bool). l || not (eqb (length answers) (length items))) (lt-ltb batchSize (length items) h)) ∙ n .1 .0)
 
-  -- a refusal is the same whatever the list would have given
-  refused-alike : (n : ℕ) → (n ≡ 0 → ⊥) → (r r′ : BatchResult) → wholeResult n answers t r ≡ wholeResult n answers t r′
-  refused-alike zero h r r′ = absurd (h refl)
-  refused-alike (suc n) h r r′ = refl
+  lent-refusal : firstRefusal (wholeCauses (itemsOf (batchOf items))) ≡ firstRefusal (wholeCauses items)
+  lent-refusal = ap (λ (n : ℕ). firstRefusal ((1 if not lengths) ∷ batchCause n (length answers) ∷ [])) (batch-of-length items)
 
-  lent-refusal : firstRefusal (mapAllCauses b t (itemsOf (batchOf items)) answers) ≡ firstRefusal (mapAllCauses b t items answers)
-  lent-refusal = ap (λ (n : ℕ). firstRefusal ((1 if not (lengthsRight b t)) ∷ batchCause n (length answers) ∷ [])) (batch-of-length items)
+-- a refusal is the same whatever the list would have given
+refused-alike : (answers : List ℕ) (t : Tables) (n : ℕ) → (n ≡ 0 → ⊥) → (r r′ : BatchResult) → wholeResult n answers t r ≡ wholeResult n answers t r′
+refused-alike answers t zero h r r′ = absurd (h refl)
+refused-alike answers t (suc n) h r r′ = refl
 
 pub lent-list : LentList
 unfolding mapAllCall
@@ -102,5 +107,19 @@ lent-list b t items answers = go (decLe (length items) batchSize)
     go : Dec (length items ≤ batchSize) → mapAllCall b t (itemsOf (batchOf items)) answers ≡ mapAllCall b t items answers
     go (yes fits) = ap (λ (xs : List Mapping). mapAllCall b t xs answers) (batch-of-items items fits)
     go (no long) =
-        ap (λ (n : ℕ). wholeResult n answers t (made b t (itemsOf (batchOf items)))) (lent-refusal b t items answers)
-        ∙ refused-alike b t items answers (firstRefusal (mapAllCauses b t items answers)) (long-refused b t items answers (omega arith)) _ _
+        ap (λ (n : ℕ). wholeResult n answers t (made b t (itemsOf (batchOf items)))) (lent-refusal (lengthsRight b t) items answers)
+        ∙ refused-alike answers t (firstRefusal (mapAllCauses b t items answers)) (long-refused (lengthsRight b t) items answers (omega arith)) _ _
+
+pub lent-list-performed : LentListPerformed
+unfolding callCauses
+lent-list-performed b st items answers = go (decLe (length items) batchSize)
+  where
+    lengths : Bool
+    lengths = lengthsRight b (st .tables) && storeLengths b (st .store)
+
+    go : Dec (length items ≤ batchSize) → perform b st (mapAll (itemsOf (batchOf items)) answers) ≡ perform b st (mapAll items answers)
+    go (yes fits) = ap (λ (xs : List Mapping). perform b st (mapAll xs answers)) (batch-of-items items fits)
+    go (no long) =
+        perform-cases b st (mapAll items answers) (λ r. perform b st (mapAll (itemsOf (batchOf items)) answers) ≡ r)
+        (λ e. absurd (long-refused lengths items answers (omega arith) e))
+        (λ n e. sym (perform-refused b st (mapAll (itemsOf (batchOf items)) answers) n (lent-refusal lengths items answers ∙ e)))

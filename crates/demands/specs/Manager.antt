@@ -48,3 +48,9 @@ ManagerAgrees b = (st : State) (call : Call) → WellFormed b (st .store) → Ma
 abbrev pub LentList : Type 0
 LentList =
     (b : Board) (t : Tables) (items : List Mapping) (answers : List ℕ) → mapAllCall b t (itemsOf (batchOf items)) answers ≡ mapAllCall b t items answers
+
+-- and to the machine's call
+abbrev pub LentListPerformed : Type 0
+LentListPerformed =
+    (b : Board) (st : State) (items : List Mapping) (answers : List ℕ)
+    → perform b st (mapAll (itemsOf (batchOf items)) answers) ≡ perform b st (mapAll items answers)

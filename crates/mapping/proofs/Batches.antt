@@ -9,6 +9,7 @@ use Rattle.mapping.specs.declared.Mapping.{Mapping}
 use Rattle.mapping.specs.declared.Batch.{Batch}
 use Rattle.mapping.specs.Entry.{zeroMapping}
 use Rattle.mapping.specs.Batch.{batchSize, batchOf, itemsOf}
+use Rattle.mapping.specs.Theorems.{BatchOfItems, BatchOfLength}
 
 -- a default put last changes no element
 getD-zeros : (z : Mapping) (n k : ℕ) → getD (replicate n z) k z ≡ z
@@ -31,14 +32,12 @@ pub items-of-at : (x : Batch) (k : ℕ) → k < x .count → getD (itemsOf x) k 
 unfolding itemsOf
 items-of-at x k h = getD-take (x .count) _ k zeroMapping h ∙ getD-pad (x .items) zeroMapping (x .count) k
 
--- a lent list that fits comes back as it was
-pub batch-of-items : (xs : List Mapping) → length xs ≤ batchSize → itemsOf (batchOf xs) ≡ xs
+pub batch-of-items : BatchOfItems
 unfolding itemsOf batchOf
 batch-of-items xs h =
     let n : length xs ≤ length (take batchSize (xs ++ replicate batchSize zeroMapping)) = simp (length-take, length-append, length-replicate) (omega arith) in
     take-append-le (length xs) _ _ n ∙ take-take (length xs) batchSize _ h ∙ take-append-seam xs _
 
--- any lent list keeps its length, also one that is too long
-pub batch-of-length : (xs : List Mapping) → length (itemsOf (batchOf xs)) ≡ length xs
+pub batch-of-length : BatchOfLength
 unfolding batchOf
 batch-of-length xs = items-of-length (batchOf xs)
