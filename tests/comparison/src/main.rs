@@ -14,7 +14,9 @@ const SEED: u64 = 1;
 
 fn main() -> ExitCode {
     let Some((seed, count)) = arguments(std::env::args().skip(1)) else {
-        eprintln!("usage: tests/compare [--stub] [COUNT] [--seed N], COUNT from 1");
+        eprintln!(
+            "usage: tests/compare [--stub | --archive FILE] [COUNT] [--seed N], COUNT from 1"
+        );
         return ExitCode::from(2);
     };
     println!(

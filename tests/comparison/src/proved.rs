@@ -1,7 +1,8 @@
 //! The proved library as one function from a sheet's bytes to its text. Its name and its C signature
 //! stand here and nowhere else: a slice goes as a pointer and a length.
 
-pub const NAME: &str = "the proved library";
+/// With the hash of what is linked, as `sha256sum` prints it.
+pub const NAME: &str = concat!("libsheet_ffi.a, ", env!("SHEET_FFI_SHA256"));
 
 #[link(name = "sheet_ffi", kind = "static")]
 extern "C" {
