@@ -1,10 +1,12 @@
 # The assembler of run sheets: text to bytes, bytes to instructions, and why a sheet is broken, all from the one table below.
 #
-# Reads a file's bytes as `od -An -v -tu1` prints them. NAME in the environment is the file's name in messages, WRITE what is wanted:
-#   bytes   why the sheet is broken, or an empty line; then every byte as an escape of printf
+# Reads a file's bytes as `od -An -v -tu1` prints them, and writes two lines: why the sheet is broken, or nothing; then what is wanted
+# of it, as escapes of printf, with \c at its end, so that the line is never empty. NAME in the environment is the file's name in
+# messages, WRITE what is wanted:
+#   bytes   every byte
 #   run     the same, without the bytes that no sheet can have and the program does not read
-#   text    the sheet as instructions; of a broken one a message, and status 1
-# A text with a mistake gets a message with its line, and status 2.
+#   text    the sheet as instructions; of a broken one nothing
+# A text with mistakes gets a message for each line that has one, and status 2.
 
 BEGIN {
     # A section of a sheet: its name, the most records it may have, and a record's places with their bytes.
@@ -31,11 +33,22 @@ BEGIN {
     word_for("RIGHTS", 1, "r")
     word_for("RIGHTS", 2, "rw")
 
+    # The numbers of a field that a call takes, where its place holds others; with these the call is refused.
+    taken("SPACE", "0 to 15")
+    taken("PAGE", "0 to 1023")
+    taken("FRAME", "0 to 63")
+    taken("RIGHTS", "1 and 2")
+    taken("OFFSET", "0 to 63")
+    taken("LINE", "0 to 63")
+    taken("FIRST", "0 to 63")
+    taken("NUMBER", "1 to 64")
+
     longest_text = 1048576
     longest_quote = 40
+    most_told = 10
     for (i = 0; i < 256; i++) character[i] = sprintf("%c", i)
     for (i = 0; i < 16; i++) digit[substr("0123456789abcdef", i + 1, 1)] = digit[substr("0123456789ABCDEF", i + 1, 1)] = i
-    inputs = words = count = 0
+    inputs = words = count = mistakes = 0
 }
 
 { for (i = 1; i <= NF; i++) input[inputs++] = $i + 0 }
@@ -44,11 +57,15 @@ END {
     for (i = 0; i < inputs && input[i] != 0; i++);
     if (inputs > longest_text && (i == inputs || ENVIRON["WRITE"] == "bytes"))
         mistake("", sprintf("it is longer than %d bytes, the longest that is taken; the largest sheet has %d bytes", longest_text, largest()))
-    if (i < inputs) take_bytes()
+    else if (i < inputs) take_bytes()
     else take_text()
+    if (mistakes > most_told) say(sprintf("%d more line%s with a mistake", mistakes - most_told, mistakes - most_told == 1 ? "" : "s"))
+    if (mistakes > 0) exit 2
     why = broken()
-    if (ENVIRON["WRITE"] == "text") write_text()
-    else write_bytes(ENVIRON["WRITE"] == "run" && count > largest() ? largest() + 1 : count)
+    print why
+    if (ENVIRON["WRITE"] != "text") write_bytes(ENVIRON["WRITE"] == "run" && count > largest() ? largest() + 1 : count)
+    else if (why == "") write_text()
+    print "\\c"
 }
 
 # ---- the table
@@ -83,6 +100,8 @@ function word_for(f, number, word) {
     words_for[f] = words_for[f] word " or "
 }
 
+function taken(f, numbers) { taken_by_a_call[f] = ", of which a call takes " numbers }
+
 # ---- what is read, as the sheet's bytes
 
 function take_bytes() {
@@ -90,9 +109,10 @@ function take_bytes() {
 }
 
 # Finds the text's words: word k stands in line[k], from first[k] to before past[k]. A comment goes from # to the end of its line.
+# A byte order mark at the text's start is passed over.
 function take_text(    i, c, text_line, in_comment, open) {
     text_line = 1
-    for (i = 0; i < inputs; i++) {
+    for (i = input[0] == 239 && input[1] == 187 && input[2] == 191 ? 3 : 0; i < inputs; i++) {
         c = input[i]
         if (c == 10) {
             text_line++
@@ -110,9 +130,20 @@ function take_text(    i, c, text_line, in_comment, open) {
             past[words - 1] = i + 1
         }
     }
-    if (words > 0 && !is_hexadecimal(0)) take_instructions()
-    else take_hexadecimal()
+    if (words == 0 || is_of_bytes()) take_hexadecimal()
+    else take_instructions()
 }
+
+# Whether the text is of bytes. Its first word says so by having hexadecimal digits alone; if these are letters, as of a mistyped
+# `add`, no later line may begin with an instruction.
+function is_of_bytes(    k) {
+    if (!is_hexadecimal(0)) return 0
+    if (!begins_with_letters()) return 1
+    for (k = 1; k < words; k++) if (line[k] != line[k - 1] && text_of(k) in section_of) return 0
+    return 1
+}
+
+function begins_with_letters() { return text_of(0) !~ /[^A-Fa-f]/ }
 
 function is_hexadecimal(k,    i) {
     for (i = first[k]; i < past[k]; i++) if (!(character[input[i]] in digit)) return 0
@@ -121,11 +152,23 @@ function is_hexadecimal(k,    i) {
 
 function take_hexadecimal(    k, i) {
     for (k = 0; k < words; k++) {
-        if (!is_hexadecimal(k)) mistake(line[k], quote(k) " is not hexadecimal; expected bytes of two hexadecimal digits each")
-        if ((past[k] - first[k]) % 2) mistake(line[k], quote(k) " has an odd number of digits; expected two for each byte")
-        for (i = first[k]; i < past[k]; i += 2) put(16 * digit[character[input[i]]] + digit[character[input[i + 1]]], 1, line[k])
+        if (!is_hexadecimal(k)) mistake_in_bytes(k, " is not hexadecimal; expected bytes of two hexadecimal digits each")
+        else if ((past[k] - first[k]) % 2) mistake_in_bytes(k, " has an odd number of digits; expected two for each byte")
+        else for (i = first[k]; i < past[k]; i += 2) put(16 * digit[character[input[i]]] + digit[character[input[i + 1]]], 1, line[k])
     }
 }
+
+# What is wrong with a word, which may stand in a mistyped instruction.
+function mistake_in_bytes(k, what) { mistake(line[k], line[k] == line[0] && begins_with_letters() ? neither(k) : quote(k) what) }
+
+# Of the text's first line: its first word is not an instruction, and word k is not bytes.
+function neither(k) {
+    return (k == 0 ? quote(0) " is neither an instruction nor bytes" : quote(0) " is not an instruction, nor " quote(k) " bytes") \
+        all_instructions() ", or bytes of two hexadecimal digits each"
+}
+
+# What was expected, which is told once.
+function all_instructions() { return told_all++ ? "" : "; expected one of " instructions }
 
 # Takes each line's instruction; then come the sections, each after its count.
 function take_instructions(    k, end, name, s, i) {
@@ -133,11 +176,13 @@ function take_instructions(    k, end, name, s, i) {
     for (k = 0; k < words; k = end) {
         for (end = k; end < words && line[end] == line[k]; end++);
         name = text_of(k)
-        if (!(name in section_of))
-            mistake(line[k], quote(k) " is not an instruction; expected one of " instructions (k == 0 ? ", or bytes of two hexadecimal digits each" : ""))
+        if (!(name in section_of)) {
+            mistake(line[k], k == 0 ? neither(0) : quote(k) " is not an instruction" all_instructions())
+            continue
+        }
         for (i = 0; section_named[i] != section_of[name]; i++);
         if (i < s) mistake(line[k], quote(k) " stands after a " section_named[s] "; expected every " section_of[name] " before it")
-        s = i
+        else s = i
         take_fields(name, k, end)
         head[section_of[name], records[section_of[name]]++] = k
     }
@@ -156,7 +201,10 @@ function take_fields(name, k, end,    i, f, number, most) {
     for (i = 0; i < field_count[name]; i++) {
         f = field[name, i]
         most = 256 ^ width[section_of[name], place_of[name, f]] - 1
-        if (k + 1 + i >= end) mistake(line[k], "the line ends after " quote(end - 1) "; " expected(name, f, most))
+        if (k + 1 + i >= end) {
+            mistake(line[k], "the line ends after " quote(end - 1) "; " expected(name, f, most))
+            return
+        }
         number = number_from(f, text_of(k + 1 + i))
         if (number < 0 || number > most) mistake(line[k], quote(k + 1 + i) " is not what was expected; " expected(name, f, most))
         value[k, place_of[name, f]] = number
@@ -213,17 +261,23 @@ function from_digits(digits, base,    i, number) {
     return number
 }
 
-function expected(name, f, most) { return sprintf("expected %s, %sa number from 0 to %.0f, as in %s", f, words_for[f], most, form(name)) }
+function expected(name, f, most) {
+    return sprintf("expected %s, %sa number from 0 to %.0f%s, as in %s", f, words_for[f], most, taken_by_a_call[f], form(name))
+}
 
 function form(name,    i, text) {
     for (i = 0; i < field_count[name]; i++) text = text " " field[name, i]
     return "`" name text "`"
 }
 
+# Tells of the first mistake of a line, unless enough are told.
 function mistake(text_line, what) {
-    printf "sheet: %s: %s%s\n", ENVIRON["NAME"], text_line == "" ? "" : "line " text_line ": ", what > "/dev/stderr"
-    exit 2
+    if (mistakes > 0 && text_line == last_mistaken) return
+    last_mistaken = text_line
+    if (mistakes++ < most_told) say((text_line == "" ? "" : "line " text_line ": ") what)
 }
+
+function say(what) { printf "sheet: %s: %s\n", ENVIRON["NAME"], what > "/dev/stderr" }
 
 # ---- why a sheet is broken
 
@@ -277,25 +331,19 @@ function name_at(s, at) { return instruction_of[s, place[s, 0] == "kind" ? byte[
 # ---- what is written
 
 function write_bytes(n,    i) {
-    print why
     for (i = 0; i < n; i++) printf "\\x%02x", byte[i]
-    print ""
 }
 
 # A line for each record, numbered as in what a run prints. A sheet without any has no instruction, so its bytes are written.
 function write_text(    s, at, n, k, name) {
-    if (why != "") {
-        printf "sheet: %s: broken: %s\n", ENVIRON["NAME"], why > "/dev/stderr"
-        exit 1
-    }
-    if (count == 2 * sections) print "00 00 00 00    # no mapping and no step"
+    if (count == 2 * sections) printf "00 00 00 00    # no mapping and no step\\n"
     at = 0
     for (s = 0; s < sections; s++) {
         name = section_named[s]
         n = number_at(at, 2)
         at += 2
         for (k = 0; k < n; k++) {
-            printf "%-34s # %s%d\n", line_for(name, at), name == "step" ? "" : substr(name, 1, 1), k
+            printf "%-34s # %s%d\\n", line_for(name, at), name == "step" ? "" : substr(name, 1, 1), k
             at += record_bytes[name]
         }
     }
