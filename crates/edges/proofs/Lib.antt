@@ -1,4 +1,5 @@
 -- The theorem of the edges.
+pub mod Opened
 pub mod Full
 pub mod Again
 pub mod Theorem
