@@ -6,10 +6,11 @@ use Rattle.board.specs.Board.{board01}
 use Rattle.mapping.specs.declared.MappingList.{MappingList}
 use Rattle.mapping.specs.Entry.{zeroMapping}
 use Rattle.manager.specs.Tables.{startRecords}
-use Rattle.machine.specs.State.{State, machineOf, read}
-use Rattle.machine.specs.Step.{result, step}
+use Rattle.machine.specs.Call.{perform}
+use Rattle.machine.specs.State.{State, machineOf}
+use Rattle.machine.specs.Step.{result}
 use Rattle.edges.proofs.Opened.{opened}
-use Rattle.edges.specs.Calls.{finds, readOnce}
+use Rattle.edges.specs.Calls.{read, finds, readOnce}
 use Rattle.edges.specs.Rows.{Holds, outcome}
 use Rattle.edges.specs.Table.{secondRead}
 
@@ -29,12 +30,12 @@ first-leaves : readOnce ≡ known
 unfolding opened
 first-leaves = refl
 
-second-leaves : step board01 known (read 0 2 3) ≡ result (finds 5 0) known
+second-leaves : perform board01 known (read 0 2 3) ≡ result (finds 5 0) known
 unfolding opened
 second-leaves = refl
 
 pub second-read : Holds secondRead
 second-read =
-    ap (λ (st : State). outcome (step board01 st (read 0 2 3))) first-leaves
+    ap (λ (st : State). outcome (perform board01 st (read 0 2 3))) first-leaves
     ∙ ap outcome second-leaves
     ∙ ap (λ (st : State). outcome (result (finds 5 0) st)) (sym first-leaves)

@@ -29,7 +29,7 @@ use Rattle.cache.specs.Tag as tag
 use Rattle.machine.specs.Refusals as machine-refusals
 use Rattle.machine.specs.Step as machine-step
 use Rattle.run_sheet.specs.Run as run
-use Rattle.edges.specs.Calls.{ask, askFrom, pageMapping, itemAt, itemsOf, pagesMapped, listing}
+use Rattle.edges.specs.Calls.{ask, pageMapping, itemAt, itemsOf, pagesMapped, listing}
 use Rattle.edges.specs.Rows.{Holds, Seen, answers}
 use Rattle.edges.specs.Table.{roomForOne, freshPair, mappedPair}
 
@@ -99,17 +99,17 @@ one : Result → Seen
 one got = answers (got .answer ∷ [])
 
 pub room-for-one : Holds roomForOne
-unfolding ask askFrom one machine-step.accept
+unfolding ask one machine-step.accept
 room-for-one = sym (ap one (step-accepted board01 (listing 255) (map 1 0 0 1) (first-of 255 (omega arith) (map 1 0 0 1) refl ∙ own-255)))
 
 pub fresh-pair : Holds freshPair
-unfolding ask askFrom one
+unfolding ask one
 fresh-pair =
     let e = first-of 256 (omega arith) (map 1 0 0 1) refl ∙ own-fresh in
     sym (ap one (step-refused board01 (listing 256) (map 1 0 0 1) 9 (e, λ z. omega arith)))
 
 pub mapped-pair : Holds mappedPair
-unfolding ask askFrom one
+unfolding ask one
 mapped-pair =
     let e = first-of 256 (omega arith) (map 0 255 0 1) refl ∙ own-mapped in
     sym (ap one (step-refused board01 (listing 256) (map 0 255 0 1) 7 (e, λ z. omega arith)))

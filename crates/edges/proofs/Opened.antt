@@ -11,6 +11,7 @@ use Rattle.manager.specs.Refusals as refusals
 use Rattle.manager.specs.Tables as manager-tables
 use Rattle.cache.specs.Cache as hardware
 use Rattle.cache.specs.Tag as tag
+use Rattle.machine.specs.Call as machine-call
 use Rattle.machine.specs.Refusals as machine-refusals
 use Rattle.machine.specs.Step as machine-step
 use Rattle.run_sheet.specs.Run as run
@@ -38,7 +39,7 @@ unfolding hardware.flush hardware.purge hardware.readWord hardware.writeWord har
 hardware-opened = tt
 
 calls-opened : Unit {0}
-unfolding machine-refusals.causes machine-step.carryOut machine-step.step run.sheetText text.operationText text.wordText text.answerText after ask itemsOf
+unfolding machine-refusals.causes machine-step.carryOut machine-step.step machine-call.perform run.sheetText text.operationText text.wordText text.answerText after ask itemsOf
 calls-opened = tt
 
 unfoldable pub opened : Unit {0}

@@ -16,28 +16,70 @@ use Rattle.manager.specs.Answers.{refused, accepted}
 use Rattle.manager.specs.Calls.{noOps}
 use Rattle.manager.specs.Tables.{tables, putRecord}
 use Rattle.cache.specs.Store.{store}
-use Rattle.machine.specs.State.{State, state, Single, map, read, write, deviceWritePart, beginRead, beginWrite, Answer, Result}
-use Rattle.machine.specs.Step.{answer, step}
+use Rattle.machine.specs.Call.{perform}
+use Rattle.machine.specs.State as machine
+use Rattle.machine.specs.State.{State, state, Call, single, Answer, Result}
+use Rattle.machine.specs.Step.{answer}
 use Rattle.run_sheet.specs.Run.{start}
 
 -- ---- calls
 
 -- the state after calls
-unfoldable pub after : State → List Single → State
-unfolding step
+unfoldable pub after : State → List Call → State
+unfolding perform
 after st [] = st
-after st (call ∷ calls) = after (step board01 st call .after) calls
+after st (call ∷ calls) = after (perform board01 st call .after) calls
 
 -- the answers of calls, one after the other, the state of each from the one before it
-unfoldable pub askFrom : Result → List Single → List Answer
-unfolding step
+unfoldable pub askFrom : Result → List Call → List Answer
+unfolding perform
 askFrom got [] = got .answer ∷ []
-askFrom got (call ∷ calls) = got .answer ∷ askFrom (step board01 (got .after) call) calls
+askFrom got (call ∷ calls) = got .answer ∷ askFrom (perform board01 (got .after) call) calls
 
-unfoldable pub ask : State → List Single → List Answer
+unfoldable pub ask : State → List Call → List Answer
 unfolding askFrom
 ask st [] = []
-ask st (call ∷ calls) = askFrom (step board01 st call) calls
+ask st (call ∷ calls) = askFrom (perform board01 st call) calls
+
+-- the single calls by their names; the numbers stand in the order of `Single`
+abbrev pub map : ℕ → ℕ → ℕ → ℕ → Call
+map space page frame rights = single (machine.map space page frame rights)
+
+abbrev pub unmap : ℕ → ℕ → Call
+unmap space page = single (machine.unmap space page)
+
+abbrev pub read : ℕ → ℕ → ℕ → Call
+read space page offset = single (machine.read space page offset)
+
+abbrev pub write : ℕ → ℕ → ℕ → ℕ → Call
+write space page offset word = single (machine.write space page offset word)
+
+abbrev pub deviceRead : ℕ → List ℕ → Call
+deviceRead frame buffer = single (machine.deviceRead frame buffer)
+
+abbrev pub deviceWrite : ℕ → List ℕ → Call
+deviceWrite frame buffer = single (machine.deviceWrite frame buffer)
+
+abbrev pub deviceWritePart : ℕ → ℕ → ℕ → List ℕ → Call
+deviceWritePart frame first number buffer = single (machine.deviceWritePart frame first number buffer)
+
+abbrev pub evict : ℕ → Call
+evict line = single (machine.evict line)
+
+abbrev pub beginRead : ℕ → Call
+beginRead frame = single (machine.beginRead frame)
+
+abbrev pub beginWrite : ℕ → Call
+beginWrite frame = single (machine.beginWrite frame)
+
+abbrev pub bringWord : ℕ → ℕ → ℕ → Call
+bringWord frame offset word = single (machine.bringWord frame offset word)
+
+abbrev pub takeWord : ℕ → ℕ → Call
+takeWord frame offset = single (machine.takeWord frame offset)
+
+abbrev pub endTransfer : ℕ → Call
+endTransfer frame = single (machine.endTransfer frame)
 
 -- ---- answers
 
@@ -133,5 +175,5 @@ abbrev pub deviceWrites : State
 deviceWrites = after fresh (beginWrite 5 ∷ [])
 
 -- so many words from an offset of frame 5 on, all 7
-abbrev pub sevens : ℕ → ℕ → Single
+abbrev pub sevens : ℕ → ℕ → Call
 sevens first number = deviceWritePart 5 first number (replicate number 7)

@@ -5,8 +5,8 @@ use Prim.Native.Nat.{ℕ, _+_, _*_}
 use lib.ListN.{replicate, getD}
 use Rattle.page_model.specs.declared.Op.the-variants.{Flush, Purge}
 use Rattle.manager.specs.Tables.{recordWords, tabulate}
-use Rattle.machine.specs.State.{State, map, unmap, read, write, deviceRead, deviceWrite, beginRead, beginWrite, endTransfer}
-use Rattle.edges.specs.Calls.{after, ask, refuses, accepts, only, done, begun, fresh, recorded, wroteLast, sevens}
+use Rattle.machine.specs.State.{State}
+use Rattle.edges.specs.Calls.{after, ask, map, unmap, read, write, deviceRead, deviceWrite, beginRead, beginWrite, endTransfer, refuses, accepts, only, done, begun, fresh, recorded, wroteLast, sevens}
 use Rattle.edges.specs.Rows.{answers, numbers, Row, _gives_}
 
 -- the words of frame f's record: held, stale, dirty, busy, dirty colour

@@ -10,10 +10,10 @@ use Rattle.board.specs.Board.{board01, lineOf}
 use Rattle.page_model.specs.declared.Op.the-variants.{Flush, Purge}
 use Rattle.manager.specs.Tables.{tabulate}
 use Rattle.cache.specs.Tag.{frameOf, isDirty}
-use Rattle.machine.specs.State.{map, read, write, deviceWrite, evict}
-use Rattle.machine.specs.Step.{result, step}
+use Rattle.machine.specs.Call.{perform}
+use Rattle.machine.specs.Step.{result}
 use Rattle.run_sheet.specs.Run.{sheetText}
-use Rattle.edges.specs.Calls.{ask, refuses, accepts, only, done, written, finds, fresh, recorded, listing, tagged, readOnce, wroteOnce, wroteLast, sevens}
+use Rattle.edges.specs.Calls.{ask, map, read, write, deviceWrite, evict, refuses, accepts, only, done, written, finds, fresh, recorded, listing, tagged, readOnce, wroteOnce, wroteLast, sevens}
 use Rattle.edges.specs.Cells.{cells}
 use Rattle.edges.specs.DirtyColours.{dirtyColours}
 use Rattle.edges.specs.Rows.{text, answers, outcome, numbers, Row, _gives_, EveryRowHolds}
@@ -32,7 +32,7 @@ mappedPair = answers (ask (listing 256) (map 0 255 0 1 ∷ [])) gives answers (r
 
 -- that of case 9, whose states are compared
 abbrev pub secondRead : Row
-secondRead = outcome (step board01 readOnce (read 0 2 3)) gives outcome (result (finds 5 0) readOnce)
+secondRead = outcome (perform board01 readOnce (read 0 2 3)) gives outcome (result (finds 5 0) readOnce)
 
 abbrev pub table : List Row
 table =

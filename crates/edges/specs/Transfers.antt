@@ -5,13 +5,13 @@ use mathlib.Core.Option.{none, some}
 use lib.ListN.{replicate}
 use Rattle.page_model.specs.declared.Op.the-variants.{Flush, Purge}
 use Rattle.manager.specs.Answers.{refused}
-use Rattle.machine.specs.State.{Single, map, unmap, read, write, deviceRead, deviceWrite, evict, beginRead, beginWrite, bringWord, takeWord, endTransfer, Answer}
+use Rattle.machine.specs.State.{Call, Answer}
 use Rattle.machine.specs.Step.{answer}
-use Rattle.edges.specs.Calls.{ask, refuses, accepts, only, done, written, finds, begun, takes, fresh, recorded, readOnce, wroteLast, deviceReads, deviceWrites, sevens}
+use Rattle.edges.specs.Calls.{ask, map, unmap, read, write, deviceRead, deviceWrite, evict, beginRead, beginWrite, bringWord, takeWord, endTransfer, refuses, accepts, only, done, written, finds, begun, takes, fresh, recorded, readOnce, wroteLast, deviceReads, deviceWrites, sevens}
 use Rattle.edges.specs.Rows.{answers, Row, _gives_}
 
 -- each new transfer of frame 5, and one of frame 4
-abbrev pub newTransfers : List Single
+abbrev pub newTransfers : List Call
 newTransfers =
     deviceRead 5 (replicate 64 0) ∷ deviceWrite 5 (replicate 64 7) ∷ sevens 0 64 ∷ sevens 63 1 ∷ sevens 64 1 ∷ beginRead 5 ∷ beginWrite 5 ∷ beginRead 4 ∷ []
 
