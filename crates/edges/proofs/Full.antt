@@ -1,4 +1,4 @@
--- Case 4: lists of 255 and of 256 mappings. That they stand in order is shown and not computed.
+-- Case 4, lists of 255 and of 256 mappings, and one that a list of mappings fills. That they stand in order is shown and not computed.
 use mathlib.Core.Bool.{true, _&&_}
 use mathlib.Core.Logic.{inl, inr, ⊎-elim}
 use mathlib.Core.Path.{_≡_, refl, sym, ap, subst⁻¹, _∙_}
@@ -15,8 +15,11 @@ use Rattle.mapping.specs.Entry.{capacity, zeroMapping, mappingAt}
 use Rattle.mapping.specs.Facts.{InRange, Rules}
 use Rattle.mapping.proofs.Order.{before-cong₂}
 use Rattle.mapping.proofs.Rules.{rules-keepsRules}
+use Rattle.manager.specs.Inserted.{wholeRefusal}
 use Rattle.manager.specs.Refusals.{firstRefusal}
-use Rattle.machine.specs.State.{State, Single, map, Result}
+use Rattle.manager.proofs.CauseLaws.{refusal-rest}
+use Rattle.machine.specs.Call.{mapOf, perform}
+use Rattle.machine.specs.State.{State, Single, map, mapAll, Result}
 use Rattle.machine.specs.Refusals.{bufferRight, lentCauses, ownCauses, causes}
 use Rattle.machine.proofs.StepLaws.{step-refused, step-accepted}
 use Rattle.bits.specs.Mask as mask
@@ -29,7 +32,10 @@ use Rattle.cache.specs.Tag as tag
 use Rattle.machine.specs.Refusals as machine-refusals
 use Rattle.machine.specs.Step as machine-step
 use Rattle.run_sheet.specs.Run as run
-use Rattle.edges.specs.Calls.{ask, pageMapping, itemAt, itemsOf, pagesMapped, listing}
+use Rattle.edges.proofs.Items.{refusalsOf, listWith, inTurn, in-turn}
+use Rattle.edges.proofs.Opened.{opened}
+use Rattle.edges.specs.Calls.{ask, unanswered, pageMapping, itemAt, itemsOf, pagesMapped, listing, leaves}
+use Rattle.edges.specs.Lists.{overflowing, fullWithin, fullLeft}
 use Rattle.edges.specs.Rows.{Holds, Seen, answers}
 use Rattle.edges.specs.Table.{roomForOne, freshPair, mappedPair}
 
@@ -68,17 +74,24 @@ module _ (n : ℕ) (room : n ≤ capacity) where
 module _ (b : Board) (st : State) (call : Single) where
   lent-clear : (manager-tables.lengthsRight b (st .tables) && machine-refusals.storeLengths b (st .store) && bufferRight b call) ≡ true
       → (manager-tables.rulesKept b (st .tables) && tag.tagsKeepRules b (st .store .tags)) ≡ true
-      → firstRefusal (causes b st call) ≡ firstRefusal (ownCauses b st call)
-  unfolding causes lentCauses firstRefusal
+      → firstRefusal (lentCauses b st call) ≡ 0
+  unfolding lentCauses firstRefusal
   lent-clear e f = rw (e, f)
+
+  own-first : firstRefusal (lentCauses b st call) ≡ 0 → firstRefusal (causes b st call) ≡ firstRefusal (ownCauses b st call)
+  unfolding causes
+  own-first e = sym (refusal-rest (lentCauses b st call) (ownCauses b st call) refl e)
 
 lent-rules : (n : ℕ) → n ≤ capacity → (manager-tables.rulesKept board01 (listing n .tables) && tag.tagsKeepRules board01 (listing n .store .tags)) ≡ true
 unfolding manager-tables.rulesKept manager-tables.recordsKeepRules manager-tables.recordAt manager-tables.startRecords mask.all mask.bit mask.countOf mask.firstOf frame-record.coloursKeepRules frame-record.dirtyColourOf frame-record.keepsRules run.startWith run.start board.lines board.pageLines tag.tagsKeepRules
 lent-rules n room = rw (rules-keepsRules board01 (pagesMapped n) (pages-rules n room))
 
-first-of : (n : ℕ) → n ≤ capacity → (call : Single) → bufferRight board01 call ≡ true → firstRefusal (causes board01 (listing n) call) ≡ firstRefusal (ownCauses board01 (listing n) call)
+lent-none : (n : ℕ) → n ≤ capacity → (call : Single) → bufferRight board01 call ≡ true → firstRefusal (lentCauses board01 (listing n) call) ≡ 0
 unfolding manager-tables.lengthsRight machine-refusals.storeLengths run.startWith run.start board.lines board.pageLines board.memoryWords board.cacheWords itemsOf
-first-of n room call e = lent-clear board01 (listing n) call e (lent-rules n room)
+lent-none n room call e = lent-clear board01 (listing n) call e (lent-rules n room)
+
+first-of : (n : ℕ) → n ≤ capacity → (call : Single) → bufferRight board01 call ≡ true → firstRefusal (causes board01 (listing n) call) ≡ firstRefusal (ownCauses board01 (listing n) call)
+first-of n room call e = own-first board01 (listing n) call (lent-none n room call e)
 
 own-255 : firstRefusal (ownCauses board01 (listing 255) (map 1 0 0 1)) ≡ 0
 unfolding ownCauses firstRefusal list-lookup.lookup list-lookup.firstOf entry.isAt itemsOf
@@ -113,3 +126,16 @@ unfolding ask one
 mapped-pair =
     let e = first-of 256 (omega arith) (map 0 255 0 1) refl ∙ own-mapped in
     sym (ap one (step-refused board01 (listing 256) (map 0 255 0 1) 7 (e, λ z. omega arith)))
+
+-- and of a list of mappings, its items in turn
+overflowed : perform board01 (listing 254) (mapAll overflowing (unanswered 5)) ≡ inTurn board01 (listing 254) overflowing
+unfolding wholeRefusal firstRefusal
+overflowed = in-turn board01 (listing 254) overflowing (unanswered 5) (lent-none 254 (omega arith) (mapOf zeroMapping) refl) refl
+
+pub full-within : Holds fullWithin
+unfolding opened refusalsOf one
+full-within = ap one overflowed
+
+pub full-left : Holds fullLeft
+unfolding opened listWith
+full-left = ap (λ (r : Result). leaves (r .after)) overflowed

@@ -1,10 +1,10 @@
 -- How a case is asked: calls one after the other, the answers that they must give, and the states from which they are made.
 use mathlib.Core.Bool.{cond}
-use mathlib.Core.List.{List, [], _∷_}
+use mathlib.Core.List.{List, [], _∷_, _++_}
 use mathlib.Core.Option.{Option, none, some}
-use Prim.Native.Nat.{ℕ, zero, suc}
+use Prim.Native.Nat.{ℕ, zero, suc, _-_}
 use lib.Dec.{ltb}
-use lib.ListN.{replicate, set}
+use lib.ListN.{length, replicate, set}
 use Rattle.board.specs.Board.{board01}
 use Rattle.mapping.specs.declared.Mapping.{Mapping}
 use Rattle.mapping.specs.declared.MappingList.{MappingList}
@@ -18,9 +18,20 @@ use Rattle.manager.specs.Tables.{tables, putRecord}
 use Rattle.cache.specs.Store.{store}
 use Rattle.machine.specs.Call.{perform}
 use Rattle.machine.specs.State as machine
-use Rattle.machine.specs.State.{State, state, Call, single, Answer, Result}
+use Rattle.machine.specs.State.{State, state, Call, single, mapAll, Answer, Result}
 use Rattle.machine.specs.Step.{answer}
 use Rattle.run_sheet.specs.Run.{start}
+use Rattle.edges.specs.Rows as seen
+use Rattle.edges.specs.Rows.{Seen}
+
+-- ---- mappings
+
+abbrev pub mapping : ℕ → ℕ → ℕ → ℕ → Mapping
+mapping space page frame rights = record { space = space; page = page; frame = frame; rights = rights }
+
+-- the list of these
+abbrev pub listOf : List Mapping → MappingList
+listOf mappings = record { items = mappings ++ replicate (capacity - length mappings) zeroMapping; count = length mappings }
 
 -- ---- calls
 
@@ -41,7 +52,7 @@ unfolding askFrom
 ask st [] = []
 ask st (call ∷ calls) = askFrom (perform board01 st call) calls
 
--- the single calls by their names; the numbers stand in the order of `Single`
+-- the single calls by their names, with their numbers and words as in `Single`
 abbrev pub map : ℕ → ℕ → ℕ → ℕ → Call
 map space page frame rights = single (machine.map space page frame rights)
 
@@ -81,6 +92,14 @@ takeWord frame offset = single (machine.takeWord frame offset)
 abbrev pub endTransfer : ℕ → Call
 endTransfer frame = single (machine.endTransfer frame)
 
+-- so many answers as they are lent, of a number that is no answer
+abbrev pub unanswered : ℕ → List ℕ
+unanswered n = replicate n 99
+
+-- a list of mappings, with an answer for each
+abbrev pub mapThese : List Mapping → Call
+mapThese items = mapAll items (unanswered (length items))
+
 -- ---- answers
 
 abbrev pub refuses : ℕ → Answer
@@ -114,6 +133,20 @@ begun frame = accepts frame noOps none
 abbrev pub takes : ℕ → Answer
 takes word = accepts 0 noOps (some word)
 
+-- an answer to each item of a list of mappings; a refusal of the whole, with the answers as they were lent
+abbrev pub each : List ℕ → Answer
+each numbers = answer (accepted 0 noOps) none numbers
+
+abbrev pub refusesWhole : ℕ → List ℕ → Answer
+refusesWhole n lent = answer (refused n) none lent
+
+-- what is left in the mapping list and the protections; these mappings with these protections, and zeros past them
+abbrev pub leaves : State → Seen
+leaves st = seen.tables (st .tables .list) (st .tables .protections)
+
+abbrev pub listed : List Mapping → List ℕ → Seen
+listed mappings protections = seen.tables (listOf mappings) (protections ++ replicate (capacity - length protections) 0)
+
 -- ---- states
 
 abbrev pub fresh : State
@@ -129,9 +162,17 @@ withRecords records st = state (tables (st .tables .list) records (st .tables .p
 abbrev pub withCache : List ℕ → List ℕ → State → State
 withCache words tags st = state (st .tables) (store (st .store .memory) words tags)
 
+-- the start with these mappings and protections, whatever they are
+abbrev pub holding : List Mapping → List ℕ → State
+holding mappings protections = state (tables (listOf mappings) (fresh .tables .records) protections) (fresh .store)
+
+-- protections that no call has filled
+abbrev pub unfilled : List ℕ
+unfilled = replicate capacity 9
+
 -- the start with pages 0 to n - 1 of space 0 mapped to frame 0, to read
 abbrev pub pageMapping : ℕ → Mapping
-pageMapping page = record { space = 0; page = page; frame = 0; rights = 1 }
+pageMapping page = mapping 0 page 0 1
 
 abbrev pub itemAt : ℕ → ℕ → Mapping
 itemAt n i = cond (ltb i n) (pageMapping i) zeroMapping
