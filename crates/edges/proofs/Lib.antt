@@ -4,4 +4,5 @@ pub mod Items
 pub mod Full
 pub mod Again
 pub mod Lists
+pub mod Order
 pub mod Theorem

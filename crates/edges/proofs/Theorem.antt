@@ -6,9 +6,11 @@ use Rattle.edges.proofs.Again.{second-read}
 use Rattle.edges.proofs.Full.{room-for-one, fresh-pair, mapped-pair}
 use Rattle.edges.proofs.Lists.{lists-hold}
 use Rattle.edges.proofs.Opened.{opened}
+use Rattle.edges.proofs.Order.{order-holds}
 use Rattle.edges.specs.Cells.{cells}
 use Rattle.edges.specs.DirtyColours.{dirtyColours}
 use Rattle.edges.specs.Lists.{lists}
+use Rattle.edges.specs.Order.{order}
 use Rattle.edges.specs.Rows.{Row, EveryRowHolds}
 use Rattle.edges.specs.Table.{Edges}
 use Rattle.edges.specs.Transfers.{transfers}
@@ -33,4 +35,4 @@ dirty-colours-hold = (refl, (refl, (refl, (refl, (refl, (refl, (refl, (refl, (re
 
 pub edges : Edges
 unfolding opened
-edges = (refl, (refl, (refl, (refl, (refl, (room-for-one, (fresh-pair, (mapped-pair, (refl, (refl, (refl, (refl, (second-read, (refl, (refl, (refl, (refl, (refl, (refl, (refl, (refl, (refl, (refl, (refl, (refl, (refl, (refl, (refl, (refl, (refl, (refl, (refl, (refl, (refl, (refl, (refl, (refl, (refl, (refl, both-hold lists (transfers ++ (dirtyColours ++ cells)) lists-hold (both-hold transfers (dirtyColours ++ cells) transfers-hold (both-hold dirtyColours cells dirty-colours-hold cells-hold)))))))))))))))))))))))))))))))))))))))))
+edges = (refl, (refl, (refl, (refl, (refl, (room-for-one, (fresh-pair, (mapped-pair, (refl, (refl, (refl, (refl, (second-read, (refl, (refl, (refl, (refl, (refl, (refl, (refl, (refl, (refl, (refl, (refl, (refl, (refl, (refl, (refl, (refl, (refl, (refl, (refl, (refl, (refl, (refl, (refl, (refl, (refl, (refl, both-hold lists (order ++ (transfers ++ (dirtyColours ++ cells))) lists-hold (both-hold order (transfers ++ (dirtyColours ++ cells)) order-holds (both-hold transfers (dirtyColours ++ cells) transfers-hold (both-hold dirtyColours cells dirty-colours-hold cells-hold))))))))))))))))))))))))))))))))))))))))))

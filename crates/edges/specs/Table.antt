@@ -1,6 +1,6 @@
 -- Document 01, "At the edges" and the sheet of "The run sheet", with the tags at their limits, and at theirs the lists of mappings of request
--- N1, the parts of N3, the transfers of N6 and the dirty colours of N7; a sheet of each kind of step and every cell of the page model. Each row
--- is a case and what it must give, and every row holds.
+-- N1, the order of N2, the parts of N3, the transfers of N6 and the dirty colours of N7; a sheet of each kind of step and every cell of the page
+-- model. Each row is a case and what it must give, and every row holds.
 use mathlib.Core.List.{List, [], _∷_, _++_}
 use mathlib.Core.Option.{none}
 use Prim.Native.Nat.{_+_, _*_}
@@ -17,6 +17,7 @@ use Rattle.edges.specs.Calls.{ask, map, read, write, deviceWrite, evict,
 use Rattle.edges.specs.Cells.{cells}
 use Rattle.edges.specs.DirtyColours.{dirtyColours}
 use Rattle.edges.specs.Lists.{lists}
+use Rattle.edges.specs.Order.{order}
 use Rattle.edges.specs.Rows.{text, answers, outcome, numbers, Row, _gives_, EveryRowHolds}
 use Rattle.edges.specs.Sheets.{exampleSheet, exampleText, oneStep, oneLine, cardSheet, cardText}
 use Rattle.edges.specs.Transfers.{transfers}
@@ -101,8 +102,8 @@ table =
     ∷ (text (sheetText board01 (oneStep (12 ∷ 3 ∷ 0 ∷ 0 ∷ 0 ∷ 0 ∷ 0 ∷ 0 ∷ 0 ∷ []))) gives text (oneLine (49 ∷ 54 ∷ []) 45))
     -- and within one: the word that was brought is taken, and shown
     ∷ (text (sheetText board01 cardSheet) gives text cardText)
-    -- request N1's lists of mappings, request N6's transfers, request N7's dirty colours, and the cells of the page model
-    ∷ (lists ++ (transfers ++ (dirtyColours ++ cells)))
+    -- request N1's lists of mappings, request N2's order, request N6's transfers, request N7's dirty colours, and the cells of the page model
+    ∷ (lists ++ (order ++ (transfers ++ (dirtyColours ++ cells))))
 
 -- every row of the table holds
 abbrev pub Edges : Type 0
