@@ -35,4 +35,4 @@ dirty-colours-hold = (refl, (refl, (refl, (refl, (refl, (refl, (refl, (refl, (re
 
 pub edges : Edges
 unfolding opened
-edges = (refl, (refl, (refl, (refl, (refl, (room-for-one, (fresh-pair, (mapped-pair, (refl, (refl, (refl, (refl, (second-read, (refl, (refl, (refl, (refl, (refl, (refl, (refl, (refl, (refl, (refl, (refl, (refl, (refl, (refl, (refl, (refl, (refl, (refl, (refl, (refl, (refl, (refl, (refl, (refl, (refl, (refl, both-hold lists (order ++ (transfers ++ (dirtyColours ++ cells))) lists-hold (both-hold order (transfers ++ (dirtyColours ++ cells)) order-holds (both-hold transfers (dirtyColours ++ cells) transfers-hold (both-hold dirtyColours cells dirty-colours-hold cells-hold))))))))))))))))))))))))))))))))))))))))))
+edges = (refl, (refl, (refl, (refl, (refl, (refl, (room-for-one, (fresh-pair, (mapped-pair, (refl, (refl, (refl, (refl, (refl, (refl, (second-read, (refl, (refl, (refl, (refl, (refl, (refl, (refl, (refl, (refl, (refl, (refl, (refl, (refl, (refl, (refl, (refl, (refl, (refl, (refl, (refl, (refl, (refl, (refl, (refl, (refl, (refl, both-hold lists (order ++ (transfers ++ (dirtyColours ++ cells))) lists-hold (both-hold order (transfers ++ (dirtyColours ++ cells)) order-holds (both-hold transfers (dirtyColours ++ cells) transfers-hold (both-hold dirtyColours cells dirty-colours-hold cells-hold)))))))))))))))))))))))))))))))))))))))))))))

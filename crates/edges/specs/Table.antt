@@ -1,6 +1,6 @@
--- Document 01, "At the edges" and the sheet of "The run sheet", with the tags at their limits, and at theirs the lists of mappings of request
--- N1, the order of N2, the parts of N3, the transfers of N6 and the dirty colours of N7; a sheet of each kind of step and every cell of the page
--- model. Each row is a case and what it must give, and every row holds.
+-- Document 01, "At the edges" and the sheet of "The run sheet", with spaces, flags and tags at their limits, and at theirs the lists of mappings
+-- of request N1, the order of N2, the parts of N3, the transfers of N6 and the dirty colours of N7; a sheet of each kind of step and every cell
+-- of the page model. Each row is a case and what it must give, and every row holds.
 use mathlib.Core.List.{List, [], _∷_, _++_}
 use mathlib.Core.Option.{none}
 use Prim.Native.Nat.{_+_, _*_}
@@ -13,7 +13,7 @@ use Rattle.cache.specs.Tag.{frameOf, isDirty}
 use Rattle.machine.specs.Call.{perform}
 use Rattle.machine.specs.Step.{result}
 use Rattle.run_sheet.specs.Run.{sheetText}
-use Rattle.edges.specs.Calls.{ask, map, read, write, deviceWrite, evict, refuses, accepts, only, done, written, finds, fresh, recorded, listing, tagged, readOnce, wroteOnce, wroteLast, sevens}
+use Rattle.edges.specs.Calls.{ask, map, unmap, read, write, deviceWrite, evict, refuses, accepts, only, done, written, finds, fresh, recorded, listing, tagged, readOnce, wroteOnce, wroteLast, sevens}
 use Rattle.edges.specs.Cells.{cells}
 use Rattle.edges.specs.DirtyColours.{dirtyColours}
 use Rattle.edges.specs.Lists.{lists}
@@ -42,6 +42,8 @@ table =
     (text (sheetText board01 exampleSheet) gives text exampleText)
     -- 1. page 1023 is accepted, 1024 gets 3
     ∷ (answers (ask fresh (map 0 1023 0 1 ∷ map 0 1024 0 1 ∷ [])) gives answers (done ∷ refuses 3 ∷ []))
+    -- space 15 is accepted, 16 gets 3, and so by each call that names a space and a page
+    ∷ (answers (ask fresh (map 15 1023 5 2 ∷ map 16 0 5 1 ∷ write 15 1023 0 42 ∷ write 16 0 0 42 ∷ write 0 1024 0 42 ∷ read 15 1023 0 ∷ read 16 0 0 ∷ read 0 1024 0 ∷ unmap 16 0 ∷ unmap 0 1024 ∷ unmap 15 1023 ∷ [])) gives answers (done ∷ refuses 3 ∷ written 5 ∷ refuses 3 ∷ refuses 3 ∷ finds 5 42 ∷ refuses 3 ∷ refuses 3 ∷ refuses 3 ∷ refuses 3 ∷ done ∷ []))
     -- 2. frame 63 is accepted, 64 gets 4
     ∷ (answers (ask fresh (map 0 0 63 1 ∷ map 0 1 64 1 ∷ [])) gives answers (done ∷ refuses 4 ∷ []))
     -- 3. offset 63 lies in line 8c + 7; 64 gets 6
@@ -57,6 +59,9 @@ table =
     ∷ (answers (ask fresh (map 0 0 5 2 ∷ map 0 1 5 2 ∷ write 0 0 3 42 ∷ write 0 1 3 43 ∷ [])) gives answers (done ∷ done ∷ written 5 ∷ accepts 5 (only (Flush 0)) none ∷ []))
     -- 7. held mask 3 with the flag set: 2
     ∷ (answers (ask (recorded 3 0 1 0 0) (map 0 0 0 1 ∷ [])) gives answers (refuses 2 ∷ []))
+    -- a flag of 2 with one held bit: 2, whether the dirty colour is that bit's place or none
+    ∷ (answers (ask (recorded 4 0 2 0 2) (map 0 0 0 1 ∷ [])) gives answers (refuses 2 ∷ []))
+    ∷ (answers (ask (recorded 4 0 2 0 8) (map 0 0 0 1 ∷ [])) gives answers (refuses 2 ∷ []))
     -- 8. device write over a dirty page: one purge
     ∷ (answers (ask fresh (map 0 2 5 2 ∷ write 0 2 3 42 ∷ deviceWrite 5 (replicate 64 7) ∷ [])) gives answers (done ∷ written 5 ∷ accepts 5 (only (Purge 2)) none ∷ []))
     -- 9. second read of one word in a row: no order, no change
