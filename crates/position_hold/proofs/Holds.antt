@@ -8,6 +8,7 @@ use native.Mathlib.Omega.{arith}
 use borrow.Author.Tests.{lt-ltb, le-ltb, ltb-false}
 use lib.Dec.{eqb, ltb}
 use Rattle.board.specs.declared.Board.{Board}
+use Rattle.manager.proofs.AcceptedLaws.{or-neither}
 use Rattle.machine.specs.State.{State}
 use Rattle.position_hold.specs.declared.Found.{Found}
 use Rattle.position_hold.specs.declared.Found.the-variants as found-by
@@ -26,6 +27,10 @@ hold-short hold h = rw (lt-ltb hold shortestHold h)
 pub hold-long : (hold : ℕ) → longestHold < hold → holdRefused hold ≡ true
 unfolding holdRefused
 hold-long hold h = rw (lt-ltb longestHold hold h, le-ltb hold shortestHold (omega arith))
+
+pub hold-range : (hold : ℕ) → holdRefused hold ≡ false → (shortestHold ≤ hold) × (hold ≤ longestHold)
+unfolding holdRefused
+hold-range hold e = let r = or-neither (ltb hold shortestHold) (ltb longestHold hold) e in (ltb-false hold shortestHold (r .0), ltb-false longestHold hold (r .1))
 
 -- ---- a look by its hold, and by its reads
 
@@ -65,10 +70,10 @@ not-blank-longer clock short long fix h = go (eqb (fix .number) 0) (ltb clock (f
 
 -- ---- two holds
 
-same-as : (d : Display) → SameButBlank d d
+pub same-as : (d : Display) → SameButBlank d d
 same-as d = record { drawn = λ latitude longitude e. e; but-blank = inl refl }
 
-blank-drawn : {latitude longitude : ℕ} → blank ≡ position latitude longitude → ⊥
+pub blank-drawn : {latitude longitude : ℕ} → blank ≡ position latitude longitude → ⊥
 blank-drawn e = let z : _≡_ {A = ℕ} 0 1 = cc in omega arith
 
 judged-same : (clock short long : ℕ) (fix : Fix) → short ≤ long → SameButBlank (judged clock short fix) (judged clock long fix)
@@ -89,34 +94,36 @@ drawn-same clock short long (words ws) h = judged-same clock short long (fixOf w
 -- ---- a position that was drawn
 
 judged-drawn : (clock hold latitude longitude : ℕ) (fix : Fix) → judged clock hold fix ≡ position latitude longitude
-    → (fix .latitude ≡ latitude) × (fix .longitude ≡ longitude)
+    → (fix .latitude ≡ latitude) × (fix .longitude ≡ longitude) × (isBlank clock hold fix ≡ false)
 unfolding judged
 judged-drawn clock hold latitude longitude fix = go (isBlank clock hold fix)
   where
     go : (t : Bool) → cond t blank (position (fix .latitude) (fix .longitude)) ≡ position latitude longitude
-        → (fix .latitude ≡ latitude) × (fix .longitude ≡ longitude)
+        → (fix .latitude ≡ latitude) × (fix .longitude ≡ longitude) × (t ≡ false)
     go true e = absurd (blank-drawn e)
-    go false e = (cc, cc)
+    go false e = (cc, cc, refl)
 
 refused-drawn : {n latitude longitude : ℕ} → refused n ≡ position latitude longitude → ⊥
 refused-drawn e = let z : _≡_ {A = ℕ} 0 1 = cc in omega arith
 
--- is latitude and longitude of the words that were read
-abbrev pub DrawnOf : Words → ℕ → ℕ → Type 0
-DrawnOf r latitude longitude = (ws : List ℕ) × (r ≡ words ws) × (fixOf ws .latitude ≡ latitude) × (fixOf ws .longitude ≡ longitude)
+-- is latitude and longitude of the words that were read, which are not judged blank
+abbrev pub DrawnOf : ℕ → ℕ → Words → ℕ → ℕ → Type 0
+DrawnOf clock hold r latitude longitude =
+    (ws : List ℕ) × (r ≡ words ws) × (fixOf ws .latitude ≡ latitude) × (fixOf ws .longitude ≡ longitude) × (isBlank clock hold (fixOf ws) ≡ false)
 
-words-drawn : (clock hold latitude longitude : ℕ) (r : Words) → drawnFrom clock hold r ≡ position latitude longitude → DrawnOf r latitude longitude
+words-drawn : (clock hold latitude longitude : ℕ) (r : Words) → drawnFrom clock hold r ≡ position latitude longitude → DrawnOf clock hold r latitude longitude
 words-drawn clock hold latitude longitude (stopped n) e = absurd (refused-drawn e)
-words-drawn clock hold latitude longitude (words ws) e = let d = judged-drawn clock hold latitude longitude (fixOf ws) e in (ws, refl, d .0, d .1)
+words-drawn clock hold latitude longitude (words ws) e = let d = judged-drawn clock hold latitude longitude (fixOf ws) e in (ws, refl, d .0, d .1, d .2)
 
+-- and the hold is in its range
 pub look-drawn : (b : Board) (st : State) (space page clock hold latitude longitude : ℕ) → look b st space page clock hold .display ≡ position latitude longitude
-    → DrawnOf (fixReads b st space page .words) latitude longitude
+    → (holdRefused hold ≡ false) × DrawnOf clock hold (fixReads b st space page .words) latitude longitude
 unfolding look
 look-drawn b st space page clock hold latitude longitude = go (holdRefused hold)
   where
     go : (t : Bool)
         → cond {A = Look} t (looked (refused 14) st) (looked (drawnFrom clock hold (fixReads b st space page .words)) (fixReads b st space page .after)) .display
         ≡ position latitude longitude
-        → DrawnOf (fixReads b st space page .words) latitude longitude
+        → (t ≡ false) × DrawnOf clock hold (fixReads b st space page .words) latitude longitude
     go true e = absurd (refused-drawn e)
-    go false e = words-drawn clock hold latitude longitude (fixReads b st space page .words) e
+    go false e = (refl, words-drawn clock hold latitude longitude (fixReads b st space page .words) e)

@@ -4,6 +4,7 @@ pub mod FirstReads
 pub mod Reading
 pub mod Holds
 pub mod Refusals
+pub mod Drawing
 pub mod Demand3
 pub mod Rows
 pub mod Theorems

@@ -1,5 +1,5 @@
 -- Demand 1 of a look: once its first read is accepted, so are the others.
-use mathlib.Core.Path.{_≡_, refl, sym, ap, ap₂, subst⁻¹}
+use mathlib.Core.Path.{_≡_, refl, sym, ap, ap₂, subst⁻¹, _∙_}
 use mathlib.Core.Bool.{Bool, true, false, not, _&&_}
 use mathlib.Core.List.{List, []}
 use mathlib.Core.Logic.{_⊎_, inl, inr}
@@ -22,13 +22,17 @@ use Rattle.machine.specs.Step.{accept}
 use Rattle.machine.proofs.StepLaws.{clear, store-clear, step-accepted, step-refused}
 use Rattle.machine.proofs.StoreLaws as store
 use Rattle.consistency.proofs.Refused.{none-refused}
+use Rattle.demands.specs.Demands.{Clear}
 use Rattle.demands.proofs.Answers.{no-cause, first-cause}
 use Rattle.demands.proofs.Kept.{tables-lent, left}
 use Rattle.position_hold.specs.Fix.{holdRefused}
-use Rattle.position_hold.specs.Look.{words, stopped, reads, firstReads, fixWords, fixReads}
+use Rattle.position_hold.specs.Look.{words, stopped, Reads, reads, firstReads, fixWords, fixReads}
 use Rattle.position_hold.specs.Refusals.{ByHold, ByFirstRead, Answered, LookRefusals}
 use Rattle.position_hold.proofs.FirstReads.{reads-next, reads-stopped}
 use Rattle.position_hold.proofs.Holds.{look-refused, look-accepted}
+
+words-stopped : {ws : List ℕ} {n : ℕ} → words ws ≡ stopped n → ⊥
+words-stopped e = let z : _≡_ {A = ℕ} 0 1 = cc in omega arith
 
 module _ (b : Board) (reg : Regular b) (space page : ℕ) where
   -- what a read of the page is lent where it is not refused, but by its offset
@@ -89,20 +93,31 @@ module _ (b : Board) (reg : Regular b) (space page : ℕ) where
         ready = next-ready (before .after) k (before .ready) e;
       }
 
+-- of any board, a refusal of the first read ends the reads, so where they find words no cause applies
+module _ (b : Board) (st : State) (space page : ℕ) where
+  stopped-first : (n : ℕ) → firstRefusal (causes b st (read space page 0)) ≡ suc n → reads (stopped (suc n)) st ≡ fixReads b st space page
+  unfolding fixReads firstReads
+  stopped-first n e =
+      reads-stopped b st space page 1 fixWords (omega arith)
+      (reads-next b st space page 0 {ws = []} {s = st} refl (step-refused b st (read space page 0) (suc n) (e, λ z. omega arith)))
+
+  pub found-clear : (ws : List ℕ) → fixReads b st space page .words ≡ words ws → Clear (causes b st (read space page 0))
+  unfolding callCauses
+  found-clear ws found = go (firstRefusal (causes b st (read space page 0))) refl
+    where
+      go : (n : ℕ) → firstRefusal (causes b st (read space page 0)) ≡ n → Clear (causes b st (read space page 0))
+      go zero e = no-cause b st (single (read space page 0)) e
+      go (suc n) e = absurd (words-stopped (sym (ap (λ (r : Reads). r .words) (stopped-first n e) ∙ found)))
+
 pub look-refusals : LookRefusals
 unfolding fixReads callCauses
 look-refusals b reg room st space page clock hold = go (holdRefused hold) (firstRefusal (causes b st (read space page 0))) refl refl
   where
-    stopped-first : (n : ℕ) → firstRefusal (causes b st (read space page 0)) ≡ suc n → reads (stopped (suc n)) st ≡ fixReads b st space page
-    stopped-first n e =
-        reads-stopped b st space page 1 fixWords (omega arith)
-        (reads-next b st space page 0 {ws = []} {s = st} refl (step-refused b st (read space page 0) (suc n) (e, λ z. omega arith)))
-
     go : (t : Bool) (n : ℕ) → holdRefused hold ≡ t → firstRefusal (causes b st (read space page 0)) ≡ n
         → ByHold b st space page clock hold ⊎ (((n : ℕ) × ByFirstRead b st space page clock hold n) ⊎ Answered b st space page clock hold)
     go true n et en = inl (et, sym (look-refused b st space page clock hold et))
     go false (suc n) et en =
-        inr (inl (suc n, (et, first-cause b st (single (read space page 0)) n en, sym (look-accepted b st space page clock hold et (stopped-first n en)))))
+        inr (inl (suc n, (et, first-cause b st (single (read space page 0)) n en, sym (look-accepted b st space page clock hold et (stopped-first b st space page n en)))))
     go false zero et en =
         let a = accepted b reg space page st (first-ready b reg space page st 0 en) fixWords room in
         inr (inr (

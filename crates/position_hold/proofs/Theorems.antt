@@ -1,6 +1,7 @@
--- The skipper's two theorems.
-use mathlib.Core.Path.{refl, sym, subst, _∙_}
+-- The skipper's theorems.
+use mathlib.Core.Path.{_≡_, refl, sym, ap, subst, _∙_}
 use mathlib.Core.List.{List, [], _∷_}
+use Prim.Native.Nat.{ℕ, zero, suc, _≤_}
 use native.Mathlib.Omega.{arith}
 use Rattle.board.specs.declared.Board.{Board}
 use Rattle.board.specs.Board.{Regular, board01}
@@ -11,11 +12,13 @@ use Rattle.consistency.specs.Cacheless.{Cacheless, start, fed}
 use Rattle.consistency.specs.Demand3.{startState}
 use Rattle.consistency.proofs.Start.{start-invariant}
 use Rattle.position_hold.specs.Demand3.{LookFinds, cachelessAfter}
+use Rattle.position_hold.specs.Fix.{blank}
 use Rattle.position_hold.specs.Look as position-hold
-use Rattle.position_hold.specs.Look.{fixReads}
-use Rattle.position_hold.specs.Theorems.{Act, call, look, stateAfter, acceptedIn, LastDelivered, Shorter, DrawnDelivered, SameOnlyShorter, EveryBoard, Board01}
+use Rattle.position_hold.specs.Look.{fixReads, Look}
+use Rattle.position_hold.specs.Theorems.{Act, call, look, stateAfter, shownAt, acceptedIn, LastDelivered, SameButBlank, Shorter, InRange, withHolds, WholeRuns, DrawnDelivered, SameOnlyShorter, EveryBoard, Board01}
 use Rattle.position_hold.proofs.Demand3.{look-finds, invariant-after}
-use Rattle.position_hold.proofs.Holds.{hold-accepted, look-accepted, drawn-same, look-drawn}
+use Rattle.position_hold.proofs.Drawing.{drawn, held-for}
+use Rattle.position_hold.proofs.Holds.{hold-accepted, look-accepted, same-as, drawn-same, look-drawn}
 use Rattle.position_hold.proofs.Reading.{word-behind}
 use Rattle.position_hold.proofs.Told.{Told, told-start, told-call}
 
@@ -40,23 +43,48 @@ module _ (b : Board) (reg : Regular b) where
       let finds = subst (LookFinds m space page) e (look-finds b reg st m inv space page) in
       sym (word-behind b st m inv space page k _ (finds k lk)) ∙ told .words-told _ k sent es
 
+  -- ---- two holds
+
+  two-holds : (st : State) (space page clock one other : ℕ) → InRange one → InRange other
+      → let at : ℕ → Look = position-hold.look b st space page clock in
+      (one ≤ other → SameButBlank (at one .display) (at other .display)) × (at one .after ≡ at other .after)
+  two-holds st space page clock one other r s =
+      let e₁ = look-accepted b st space page clock one (hold-accepted one (r .0) (r .1)) refl in
+      let e₂ = look-accepted b st space page clock other (hold-accepted other (s .0) (s .1)) refl in
+      rw (sym e₁, sym e₂) (drawn-same clock one other (fixReads b st space page .words), refl)
+
   shorter : Shorter b
   shorter st space page clock short long low h high =
-      let es = look-accepted b st space page clock short (hold-accepted short low (omega arith)) refl in
-      let el = look-accepted b st space page clock long (hold-accepted long (omega arith) high) refl in
-      rw (sym es, sym el) (drawn-same clock short long (fixReads b st space page .words) h, refl)
+      let t = two-holds st space page clock short long (low, omega arith) (omega arith, high) in (t .0 h, t .1)
+
+  whole-runs : WholeRuns b
+  whole-runs st [] one other r = (refl, λ n h. same-as blank)
+  whole-runs st (call c ∷ acts) one other r = whole-runs (perform b st c .after) acts one other r
+  whole-runs st (look space page clock hold ∷ acts) one other r =
+      let at : ℕ → Look = position-hold.look b st space page clock in
+      let rest-one : List Act = withHolds (λ n. one (suc n)) acts in
+      let rest-other : List Act = withHolds (λ n. other (suc n)) acts in
+      let t = two-holds st space page clock (one 0) (other 0) (r 0 .0) (r 0 .1) in
+      let rest = whole-runs (at (one 0) .after) acts (λ n. one (suc n)) (λ n. other (suc n)) (λ n. r (suc n)) in (
+        rest .0 ∙ ap (λ (left : State). stateAfter b left rest-other) (t .1),
+        λ n. elim n [
+          | zero ↦ t .0
+          | suc m ↦ λ h. subst (λ (left : State). SameButBlank (shownAt b (at (one 0) .after) rest-one m) (shownAt b left rest-other m)) (t .1) (rest .1 m h)
+        ],
+      )
 
   drawn-delivered : DrawnDelivered b
   drawn-delivered memory cache protections acts full wide long space page clock hold latitude longitude e =
       let st = stateAfter b (startState b memory cache protections) acts in
-      let d = look-drawn b st space page clock hold latitude longitude e in
+      let d = look-drawn b st space page clock hold latitude longitude e .1 in
       (d .0, d .1, d .2, d .3, last-delivered memory cache protections acts full wide long space page (d .0) (d .1))
 
   pub same-only-shorter : SameOnlyShorter b
-  same-only-shorter = (shorter, drawn-delivered)
+  same-only-shorter = (shorter, held-for b, whole-runs, drawn-delivered)
 
 pub every-board : EveryBoard
-every-board b reg = (last-delivered b reg, same-only-shorter b reg)
+every-board b reg =
+    record { drawn = drawn b; last-delivered = last-delivered b reg; same-only-shorter = same-only-shorter b reg }
 
 pub board-01 : Board01
 board-01 = every-board board01 board01-regular
