@@ -75,13 +75,12 @@ module _ (b : Board) (reg : Regular b) (m : Cacheless) (space page : ℕ) where
       go true = inv
       go false = first-reads st inv fixWords .invariant
 
--- the cacheless memory's word of a page is that of the frame behind the mapping
-module _ (b : Board) (st : State) (m : Cacheless) (inv : Invariant b st m) (space page o w : ℕ) where
-  behind : (x : Found) → pageWord m (frameIn (mappingFound (st .tables .list) x)) o ≡ some w → m .word (mappingAt (st .tables .list) (placeOf x) .frame) o ≡ w
+-- the frame that the cacheless memory has for a page is the lent list's
+module _ (b : Board) (st : State) (m : Cacheless) (inv : Invariant b st m) (space page f : ℕ) where
+  behind : (x : Found) → frameIn (mappingFound (st .tables .list) x) ≡ some f → mappingAt (st .tables .list) (placeOf x) .frame ≡ f
   behind (At i) e = cc
   behind Nothing e = absurd (no-word e)
 
-  pub word-behind : pageWord m (m .frame space page) o ≡ some w → m .word (pageFrame st space page) o ≡ w
+  pub frame-lent : m .frame space page ≡ some f → pageFrame st space page ≡ f
   unfolding mappingOf
-  word-behind e =
-      behind (lookup (st .tables .list) space page) (sym (ap (λ (x : Option ℕ). pageWord m x o) (inv .listed space page)) ∙ e)
+  frame-lent e = behind (lookup (st .tables .list) space page) (sym (inv .listed space page) ∙ e)

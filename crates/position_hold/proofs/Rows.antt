@@ -1,5 +1,6 @@
 -- Every row of the last sent words computes to its word.
 use mathlib.Core.Path.{refl}
+use mathlib.Core.Logic.{inl, inr}
 use Rattle.bits.specs.Mask as mask
 use Rattle.board.specs.Board as board
 use Rattle.page_model.specs.Record as frame-record
@@ -29,4 +30,4 @@ unfolding mask.bit mask.maskOf mask.countOf mask.all mask.any mask.firstOf mask.
 word-by-word = (refl, (refl, (refl, (refl, (refl, (refl, (refl, (refl, (refl, (refl, (refl, tt)))))))))))
 
 pub last-sent-rows : LastSentRows
-last-sent-rows = (in-one-step, word-by-word)
+last-sent-rows = (in-one-step, word-by-word, (inl refl, inr (refl, inr (refl, inl refl)), (refl, (refl, tt))))

@@ -1,7 +1,8 @@
 -- The cacheless memory beside the accepted calls: it has the word that was last sent, and the frame that was last mapped.
-use mathlib.Core.Path.{_≡_, refl, ap, subst⁻¹}
+use mathlib.Core.Path.{_≡_, refl, ap, subst⁻¹, _∙_}
 use mathlib.Core.Bool.{Bool, true, false, cond, _&&_}
-use mathlib.Core.List.{List, [], _∷_}
+use mathlib.Core.List.{List, [], _∷_, _++_}
+use mathlib.Core.Logic.{inl, inr}
 use mathlib.Core.Option.{Option, none, some}
 use Prim.Native.Nat.{ℕ, zero, suc, _+_}
 use native.Mathlib.Omega.{arith}
@@ -13,7 +14,7 @@ use Rattle.manager.specs.Batch.{itemAt}
 use Rattle.machine.specs.Call.{mapOf}
 use Rattle.machine.specs.State.{Single, map, unmap, read, write, deviceRead, deviceWrite, deviceWritePart, evict, beginRead, beginWrite, bringWord, takeWord, endTransfer, Call, single, mapAll, Answer}
 use Rattle.consistency.specs.Cacheless.{Cacheless, start, stored, afterAccepted, afterSingle, itemsTaken, isRefused, itemRefused, fed}
-use Rattle.position_hold.specs.Sent.{mappedFrame, isFrame, lastSent, itemsAnd, acceptedAnd}
+use Rattle.position_hold.specs.Sent.{mappedFrame, isFrame, Effect, sends, overwrites, leaves, sentAfter, lastSent, LeftBy, SentBy, itemsAnd, acceptedAnd}
 
 pub record Told (m : Cacheless) (calls : List Single) : Type 0 where
   pub words-told : (f o w : ℕ) → lastSent calls f o ≡ some w → m .word f o ≡ w
@@ -27,20 +28,35 @@ pub told-start : (b : Board) (memory : List ℕ) → Told (start b memory) []
 unfolding start
 told-start b memory = record { words-told = λ f o w e. absurd (no-word e); frames-told = λ space page. refl }
 
+-- ---- calls one after the other
+
+module _ (earlier : List Single) (f o : ℕ) where
+  after : (calls : List Single) {x y : Effect} → x ≡ y → sentAfter x (lastSent (calls ++ earlier) f o) ≡ sentAfter y (lastSent (calls ++ earlier) f o)
+  after calls e = ap (λ (x : Effect). sentAfter x (lastSent (calls ++ earlier) f o)) e
+
+  pub left-by : (later : List Single) → LeftBy later earlier f o → lastSent (later ++ earlier) f o ≡ lastSent earlier f o
+  left-by [] h = refl
+  left-by (c ∷ later) h = after later (h .0) ∙ left-by later (h .1)
+
+  pub sent-by : (calls : List Single) (w : ℕ) → SentBy calls earlier f o w → lastSent (calls ++ earlier) f o ≡ some w
+  sent-by [] w h = absurd h
+  sent-by (c ∷ calls) w (inl e) = after calls e
+  sent-by (c ∷ calls) w (inr h) = after calls (h .0) ∙ sent-by calls w (h .1)
+
 -- ---- an accepted call
 
 -- one word for another, where a test says so
-either : (t : Bool) (v word w : ℕ) (last : Option ℕ) → (last ≡ some w → word ≡ w) → cond t (some v) last ≡ some w → cond t v word ≡ w
+either : (t : Bool) (v word w : ℕ) (last : Option ℕ) → (last ≡ some w → word ≡ w) → sentAfter (cond t (sends v) leaves) last ≡ some w → cond t v word ≡ w
 either true v word w last h e = cc
 either false v word w last h e = h e
 
 -- a written word was not sent
-unsent : (t : Bool) (v word w : ℕ) (last : Option ℕ) → (last ≡ some w → word ≡ w) → cond t none last ≡ some w → cond t v word ≡ w
+unsent : (t : Bool) (v word w : ℕ) (last : Option ℕ) → (last ≡ some w → word ≡ w) → sentAfter (cond t overwrites leaves) last ≡ some w → cond t v word ≡ w
 unsent true v word w last h e = absurd (no-word e)
 unsent false v word w last h e = h e
 
 module _ (m : Cacheless) (calls : List Single) (told : Told m calls) where
-  stored-told : (frame : Option ℕ) (offset v f o w : ℕ) → cond (isFrame frame f && eqb offset o) none (lastSent calls f o) ≡ some w
+  stored-told : (frame : Option ℕ) (offset v f o w : ℕ) → sentAfter (cond (isFrame frame f && eqb offset o) overwrites leaves) (lastSent calls f o) ≡ some w
       → stored (m .word) frame offset v f o ≡ w
   stored-told none offset v f o w e = told .words-told f o w e
   stored-told (some g) offset v f o w e = unsent (eqb g f && eqb offset o) v (m .word f o) w (lastSent calls f o) (told .words-told f o w) e

@@ -9,7 +9,7 @@ use Rattle.mapping.specs.declared.Mapping.{Mapping}
 use Rattle.mapping.specs.Entry.{capacity}
 use Rattle.machine.specs.State.{State, Single, map, unmap, read, write, deviceRead, deviceWrite, deviceWritePart, evict, beginRead, beginWrite, bringWord, takeWord, endTransfer, single, mapAll}
 use Rattle.consistency.specs.Demand3.{startState}
-use Rattle.position_hold.specs.Sent.{lastSent}
+use Rattle.position_hold.specs.Sent.{lastSent, LeftBy, SentBy}
 use Rattle.position_hold.specs.Theorems.{Act, call, look, acceptedIn}
 
 pub record Row : Type 0 where
@@ -121,5 +121,12 @@ begunRows =
     ∷ row (chart ∷ four ∷ begins ∷ two ∷ []) 3 2 (some 5)
     ∷ []
 
+-- a word of a transfer's one call, one of a transfer that takes a while, and one that later calls leave
+abbrev pub SentRows : Type 0
+SentRows =
+    SentBy (deviceWritePart 3 0 4 (1 ∷ 1000 ∷ 5 ∷ 6 ∷ []) ∷ []) [] 3 2 5
+    × SentBy (endTransfer 3 ∷ bringWord 3 3 80 ∷ bringWord 3 2 70 ∷ beginWrite 3 ∷ []) [] 3 2 70
+    × LeftBy (write 0 0 3 100 ∷ read 0 0 2 ∷ []) (map 0 0 3 2 ∷ []) 3 2
+
 abbrev pub LastSentRows : Type 0
-LastSentRows = EveryRowHolds rows × EveryRowHolds begunRows
+LastSentRows = EveryRowHolds rows × EveryRowHolds begunRows × SentRows

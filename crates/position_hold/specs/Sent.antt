@@ -1,7 +1,9 @@
 -- What transfers last sent, by a list of calls alone: the accepted single calls, the latest first. Memory, cache and page states are not asked.
 use mathlib.Core.Bool.{Bool, false, cond, _&&_}
-use mathlib.Core.List.{List, [], _∷_}
+use mathlib.Core.List.{List, [], _∷_, _++_}
+use mathlib.Core.Logic.{_⊎_}
 use mathlib.Core.Option.{Option, none, some}
+use mathlib.Core.Path.{_≡_}
 use Prim.Native.Nat.{ℕ, zero, suc, _+_, _-_}
 use lib.Dec.{eqb, leb, ltb}
 use lib.ListN.{length, getD}
@@ -33,28 +35,53 @@ abbrev pub isFrame : Option ℕ → ℕ → Bool
 isFrame none f = false
 isFrame (some g) f = eqb g f
 
--- ---- the word that a transfer last sent to offset o of frame f, if one has and no program has written it since. Of a transfer that takes a
--- while (request N6) a word is sent as it is brought; its beginning and its end send none.
+-- ---- what an accepted call does to offset o of frame f, after those accepted earlier: a transfer sends it a word, a program's write puts another over
+-- it, or it is left. Of a transfer that takes a while (request N6) a word is sent as it is brought; its beginning and its end send none.
 
--- a buffer's word for it, if it is sent to this frame from an offset on and reaches this one; else what was sent earlier
-abbrev pub sentOr : ℕ → ℕ → List ℕ → ℕ → ℕ → Option ℕ → Option ℕ
-sentOr frame first buffer f o earlier = cond (eqb frame f && leb first o && ltb o (first + length buffer)) (some (getD buffer (o - first) 0)) earlier
+pub data Effect : Type 0 where
+  sends : ℕ → Effect
+  overwrites leaves : Effect
+
+-- a buffer's word for it, if it is sent to this frame from an offset on and reaches this one
+abbrev pub sentFrom : ℕ → ℕ → List ℕ → ℕ → ℕ → Effect
+sentFrom frame first buffer f o = cond (eqb frame f && leb first o && ltb o (first + length buffer)) (sends (getD buffer (o - first) 0)) leaves
+
+abbrev pub effectOn : List Single → Single → ℕ → ℕ → Effect
+effectOn earlier (map space page frame rights) f o = leaves
+effectOn earlier (unmap space page) f o = leaves
+effectOn earlier (read space page offset) f o = leaves
+effectOn earlier (write space page offset word) f o = cond (isFrame (mappedFrame earlier space page) f && eqb offset o) overwrites leaves
+effectOn earlier (deviceRead frame buffer) f o = leaves
+effectOn earlier (deviceWrite frame buffer) f o = sentFrom frame 0 buffer f o
+effectOn earlier (deviceWritePart frame first number buffer) f o = sentFrom frame first buffer f o
+effectOn earlier (evict line) f o = leaves
+effectOn earlier (beginRead frame) f o = leaves
+effectOn earlier (beginWrite frame) f o = leaves
+effectOn earlier (bringWord frame offset word) f o = cond (eqb frame f && eqb offset o) (sends word) leaves
+effectOn earlier (takeWord frame offset) f o = leaves
+effectOn earlier (endTransfer frame) f o = leaves
+
+-- ---- the word that a transfer last sent to it, if one has and no program has written it since
+
+abbrev pub sentAfter : Effect → Option ℕ → Option ℕ
+sentAfter (sends w) before = some w
+sentAfter overwrites before = none
+sentAfter leaves before = before
 
 abbrev pub lastSent : List Single → ℕ → ℕ → Option ℕ
 lastSent [] f o = none
-lastSent (map space page frame rights ∷ earlier) f o = lastSent earlier f o
-lastSent (unmap space page ∷ earlier) f o = lastSent earlier f o
-lastSent (read space page offset ∷ earlier) f o = lastSent earlier f o
-lastSent (write space page offset word ∷ earlier) f o = cond (isFrame (mappedFrame earlier space page) f && eqb offset o) none (lastSent earlier f o)
-lastSent (deviceRead frame buffer ∷ earlier) f o = lastSent earlier f o
-lastSent (deviceWrite frame buffer ∷ earlier) f o = sentOr frame 0 buffer f o (lastSent earlier f o)
-lastSent (deviceWritePart frame first number buffer ∷ earlier) f o = sentOr frame first buffer f o (lastSent earlier f o)
-lastSent (evict line ∷ earlier) f o = lastSent earlier f o
-lastSent (beginRead frame ∷ earlier) f o = lastSent earlier f o
-lastSent (beginWrite frame ∷ earlier) f o = lastSent earlier f o
-lastSent (bringWord frame offset word ∷ earlier) f o = cond (eqb frame f && eqb offset o) (some word) (lastSent earlier f o)
-lastSent (takeWord frame offset ∷ earlier) f o = lastSent earlier f o
-lastSent (endTransfer frame ∷ earlier) f o = lastSent earlier f o
+lastSent (c ∷ earlier) f o = sentAfter (effectOn earlier c f o) (lastSent earlier f o)
+
+-- none of the later calls sends to it or writes over it
+abbrev pub LeftBy : List Single → List Single → ℕ → ℕ → Type 0
+LeftBy [] earlier f o = Unit {0}
+LeftBy (c ∷ later) earlier f o = (effectOn (later ++ earlier) c f o ≡ leaves) × LeftBy later earlier f o
+
+-- of these calls one sends it this word, and those after it leave it
+abbrev pub SentBy : List Single → List Single → ℕ → ℕ → ℕ → Type 0
+SentBy [] earlier f o w = ⊥
+SentBy (c ∷ calls) earlier f o w =
+    (effectOn (calls ++ earlier) c f o ≡ sends w) ⊎ ((effectOn (calls ++ earlier) c f o ≡ leaves) × SentBy calls earlier f o w)
 
 -- ---- a call more, with its answer: it counts if it was accepted, and a list of mappings counts as its accepted items
 

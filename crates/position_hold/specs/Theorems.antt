@@ -1,7 +1,7 @@
 -- The skipper's question: is the position drawn the last one delivered, and does a short hold draw another than a long one? What is said of deliveries
 -- is over any list of calls from the start, what is said of two holds over any state; both are for any clock and any regular board. Evictions stand
 -- anywhere in the list, so neither depends on which lines were evicted between, at whatever zoom. What a look draws is in `Drawing`.
-use mathlib.Core.List.{List, [], _∷_}
+use mathlib.Core.List.{List, [], _∷_, _++_}
 use mathlib.Core.Logic.{_↔_, _⊎_}
 use mathlib.Core.Option.{some}
 use mathlib.Core.Path.{_≡_}
@@ -12,13 +12,12 @@ use Rattle.board.specs.Board.{Regular, board01, memoryWords, cacheWords}
 use Rattle.mapping.specs.Entry.{capacity}
 use Rattle.machine.specs.Call.{perform}
 use Rattle.machine.specs.State.{State, Single, Call}
-use Rattle.machine.specs.Step.{pageFrame}
 use Rattle.consistency.specs.Demand3.{startState}
 use Rattle.position_hold.specs.Drawing.{Valid, Drawn}
 use Rattle.position_hold.specs.Fix.{Display, blank, position, shortestHold, longestHold}
 use Rattle.position_hold.specs.Look as position-hold
 use Rattle.position_hold.specs.Look.{words, fixWords, fixReads, fixOf, Look}
-use Rattle.position_hold.specs.Sent.{acceptedAnd, lastSent}
+use Rattle.position_hold.specs.Sent.{mappedFrame, lastSent, LeftBy, SentBy, acceptedAnd}
 
 -- ---- any list of calls: of the machine, and looks at the position by space, page, clock and hold
 
@@ -55,16 +54,29 @@ FromStart b P =
     (memory cache protections : List ℕ) (acts : List Act) → length memory ≡ memoryWords b → length cache ≡ cacheWords b → length protections ≡ capacity
     → P (stateAfter b (startState b memory cache protections) acts) (acceptedIn b (startState b memory cache protections) acts [])
 
--- ---- each of the four words that a look reads is the one that a transfer last sent to that word of the frame behind the mapping, if one has
--- and no program has written it since
+-- ---- each of the four words that a look reads is the one that a transfer last sent to that word of the frame to which the page was last mapped, if
+-- one has and no program has written it since
 
 abbrev pub Delivered : List Single → ℕ → List ℕ → Type 0
 Delivered calls frame ws = (k sent : ℕ) → k < fixWords → lastSent calls frame k ≡ some sent → getD ws k 0 ≡ sent
 
+-- through a page that the accepted calls have mapped
+abbrev pub DeliveredThrough : List Single → ℕ → ℕ → List ℕ → Type 0
+DeliveredThrough calls space page ws = (frame : ℕ) × (mappedFrame calls space page ≡ some frame) × Delivered calls frame ws
+
 abbrev pub LastDelivered : Board → Type 0
 LastDelivered b =
+    FromStart b (λ st calls. (space page : ℕ) (ws : List ℕ) → fixReads b st space page .words ≡ words ws → DeliveredThrough calls space page ws)
+
+-- so the fix that is judged is that of one transfer, if its calls sent the four words, and none since has sent to them or written over them. Of a
+-- transfer these are its one call, or those from its beginning to its end.
+abbrev pub OneTransfer : Board → Type 0
+OneTransfer b =
     FromStart b
-    (λ st calls. (space page : ℕ) (ws : List ℕ) → fixReads b st space page .words ≡ words ws → Delivered calls (pageFrame st space page) ws)
+    (λ st calls. (space page frame : ℕ) (ws fix : List ℕ) (later transfer earlier : List Single) → fixReads b st space page .words ≡ words ws
+    → mappedFrame calls space page ≡ some frame → calls ≡ later ++ (transfer ++ earlier) → length fix ≡ fixWords
+    → ((k : ℕ) → k < fixWords → SentBy transfer earlier frame k (getD fix k 0) × LeftBy later (transfer ++ earlier) frame k)
+    → ws ≡ fix)
 
 -- ---- whenever a short hold draws a position, a longer one draws the same, and everything lent is left the same; what hold changes is only when
 -- it is blank
@@ -112,7 +124,7 @@ DrawnDelivered b =
     × (fixReads b st space page .words ≡ words ws)
     × (fixOf ws .latitude ≡ latitude)
     × (fixOf ws .longitude ≡ longitude)
-    × Delivered calls (pageFrame st space page) ws)
+    × DeliveredThrough calls space page ws)
 
 abbrev pub SameOnlyShorter : Board → Type 0
 SameOnlyShorter b = Shorter b × HeldFor b × WholeRuns b × DrawnDelivered b
@@ -122,6 +134,7 @@ SameOnlyShorter b = Shorter b × HeldFor b × WholeRuns b × DrawnDelivered b
 pub record Skipper (b : Board) : Type 0 where
   pub drawn : Drawn b
   pub last-delivered : LastDelivered b
+  pub one-transfer : OneTransfer b
   pub same-only-shorter : SameOnlyShorter b
 
 abbrev pub EveryBoard : Type 0
