@@ -7,4 +7,5 @@ pub mod Refusals
 pub mod Drawing
 pub mod Demand3
 pub mod Rows
+pub mod LookRows
 pub mod Theorems

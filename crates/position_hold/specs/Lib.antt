@@ -8,3 +8,4 @@ pub mod Drawing
 pub mod Theorems
 pub mod Demand3
 pub mod Rows
+pub mod LookRows

@@ -29,11 +29,11 @@ abbrev pub row : List Act → ℕ → ℕ → Option ℕ → Row
 row acts frame offset sent = record { acts = acts; frame = frame; offset = offset; sent = sent }
 
 -- a single call
-abbrev one : Single → Act
+abbrev pub one : Single → Act
 one c = call (single c)
 
 -- frame 3 behind two pages
-abbrev chart : Act
+abbrev pub chart : Act
 chart = one (map 0 0 3 2)
 
 abbrev alarm : Act
