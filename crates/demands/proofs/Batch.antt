@@ -1,24 +1,22 @@
 -- The manager's list of mappings agrees with the machine's, since each item does; and a kernel's own list is that list.
 use mathlib.Core.Path.{_≡_, refl, sym, ap, subst⁻¹, fun-ext, _∙_}
-use mathlib.Core.Bool.{Bool, not, _&&_, _||_, and-true, true≢false}
-use mathlib.Core.List.{List, [], _∷_}
-use Prim.Native.Nat.{ℕ, zero, suc, _≤_, _<_}
+use mathlib.Core.Bool.{Bool, _&&_, and-true}
+use mathlib.Core.List.{List}
+use Prim.Native.Nat.{ℕ, zero, suc, _≤_}
 use native.Mathlib.Decide.{decLe}
 use native.Mathlib.Omega.{arith}
-use borrow.Author.Tests.{lt-ltb}
-use lib.Dec.{eqb}
 use lib.ListN.{length}
 use Rattle.board.specs.declared.Board.{Board}
 use Rattle.mapping.specs.declared.Mapping.{Mapping}
 use Rattle.mapping.specs.Batch.{batchSize, batchOf, itemsOf}
-use Rattle.mapping.proofs.Laws.{batch-of-items, batch-of-length}
+use Rattle.mapping.proofs.Laws.{batch-of-items}
 use Rattle.manager.specs.Answers.{accepted, numberOf}
 use Rattle.manager.specs.Batch as manager
 use Rattle.manager.specs.Batch.{itemAt, mapItem, tablesAfter, BatchResult, batchResult, mapAllCauses, wholeResult, mapAllCall}
 use Rattle.manager.specs.Calls.{Result, result, noOps}
-use Rattle.manager.specs.Refusals.{Cause, _if_, firstRefusal, batchCause}
+use Rattle.manager.specs.Refusals.{firstRefusal}
 use Rattle.manager.specs.Tables.{Tables, lengthsRight, tabulate}
-use Rattle.manager.proofs.CauseLaws.{none-applies}
+use Rattle.manager.proofs.LentItems.{long-refused, lent-refusal, lent-items}
 use Rattle.cache.specs.Store.{WellFormed}
 use Rattle.machine.specs.Call.{mapOf, afterItems, answerAt, callCauses, perform}
 use Rattle.machine.specs.Refusals.{storeLengths}
@@ -81,34 +79,8 @@ manager-agrees b st (mapAll items answers) wf = batch-agrees b st wf items answe
 
 -- ---- a kernel's own list
 
--- whatever else is lent
-module _ (lengths : Bool) (items : List Mapping) (answers : List ℕ) where
-  abbrev wholeCauses : List Mapping → List Cause
-  wholeCauses xs = (1 if not lengths) ∷ batchCause (length xs) (length answers) ∷ []
-
-  -- one that is too long is refused
-  long-refused : batchSize < length items → firstRefusal (wholeCauses items) ≡ 0 → ⊥
-  long-refused h e =
-      let n = none-applies (wholeCauses items) refl e in
-      true≢false (sym (ap (λ (l : Bool). l || not (eqb (length answers) (length items))) (lt-ltb batchSize (length items) h)) ∙ n .1 .0)
-
-  lent-refusal : firstRefusal (wholeCauses (itemsOf (batchOf items))) ≡ firstRefusal (wholeCauses items)
-  lent-refusal = ap (λ (n : ℕ). firstRefusal ((1 if not lengths) ∷ batchCause n (length answers) ∷ [])) (batch-of-length items)
-
--- a refusal is the same whatever the list would have given
-refused-alike : (answers : List ℕ) (t : Tables) (n : ℕ) → (n ≡ 0 → ⊥) → (r r′ : BatchResult) → wholeResult n answers t r ≡ wholeResult n answers t r′
-refused-alike answers t zero h r r′ = absurd (h refl)
-refused-alike answers t (suc n) h r r′ = refl
-
 pub lent-list : LentList
-unfolding mapAllCall
-lent-list b t items answers = go (decLe (length items) batchSize)
-  where
-    go : Dec (length items ≤ batchSize) → mapAllCall b t (itemsOf (batchOf items)) answers ≡ mapAllCall b t items answers
-    go (yes fits) = ap (λ (xs : List Mapping). mapAllCall b t xs answers) (batch-of-items items fits)
-    go (no long) =
-        ap (λ (n : ℕ). wholeResult n answers t (made b t (itemsOf (batchOf items)))) (lent-refusal (lengthsRight b t) items answers)
-        ∙ refused-alike answers t (firstRefusal (mapAllCauses b t items answers)) (long-refused (lengthsRight b t) items answers (omega arith)) _ _
+lent-list = lent-items
 
 pub lent-list-performed : LentListPerformed
 unfolding callCauses

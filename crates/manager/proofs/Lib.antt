@@ -1,6 +1,7 @@
 -- The manager's laws and theorems.
 pub mod Laws
 pub mod BatchLaws
+pub mod LentItems
 pub mod Singly
 pub mod Parts
 pub mod CauseLaws

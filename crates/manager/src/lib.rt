@@ -1,5 +1,6 @@
 // The manager: keeps the page states of all frames and says which operations are due (document 01: orders). A call is a plan, which changes nothing, and a commit; a word and the end of a transfer order nothing, and have a refusal in the place of a plan; a list of mappings is its items in order.
 pub mod batch;
+pub mod lent;
 pub mod records;
 pub mod refusals;
 

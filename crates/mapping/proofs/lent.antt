@@ -1,3 +1,3 @@
 -- What the walks over lent records share.
-mod Slice
+pub mod Slice
 mod Read
