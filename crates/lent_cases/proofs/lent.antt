@@ -1,0 +1,2 @@
+-- What the walks of functions that lend records share.
+mod Lending
