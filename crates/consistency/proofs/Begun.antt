@@ -27,10 +27,10 @@ use Rattle.cache.specs.Store.{Store, tagAt, memoryWord}
 use Rattle.cache.specs.Tag.{dirtyTag}
 use Rattle.cache.proofs.Laws.Device.{bringWord-kept, bringWord-tags, bringWord-words}
 use Rattle.cache.proofs.Current.Word.{word-current-other, word-current-same}
-use Rattle.machine.specs.Refusals.{causes, ownCauses}
+use Rattle.machine.specs.Refusals.{causes}
 use Rattle.machine.specs.State.{State, state, beginRead, beginWrite, bringWord, takeWord, endTransfer}
-use Rattle.machine.specs.Step.{accept}
-use Rattle.machine.proofs.StepLaws.{clear, frame-ready, word-ready}
+use Rattle.machine.specs.Step.{operate, carryOut, accept}
+use Rattle.machine.proofs.StepLaws.{cleared, effect-tested}
 use Rattle.consistency.specs.Cacheless.{Cacheless, replaced, afterAccepted}
 use Rattle.consistency.proofs.Agrees.{Agrees, Untouched, emptied, untouched-tagged, untouched-agrees}
 use Rattle.consistency.proofs.Commit.{refill-invariant, record-invariant, commit-invariant}
@@ -106,14 +106,14 @@ module _ (b : Board) (reg : Regular b) (st : State) (m : Cacheless) (inv : Invar
         (subst (λ (x : ℕ → ℕ). Agrees b f (stateOf (recordAt (st .tables .records) f)) x brought) (own-words (m .word) f o v) own)
 
     brings : Taken b st m (bringWord f o v)
-    unfolding accept afterAccepted brought
+    unfolding accept carryOut operate afterAccepted brought
     brings =
         (tt, refill-invariant b st m inv brought (replaced (m .word) f o v) (bringWord-kept b reg f hf (st .store) (inv .kept) o v ho) (λ g hg. every g hg (ℕ-discrete g f)))
 
   -- ---- the end
 
   ends : Taken b st m (endTransfer f)
-  unfolding accept afterAccepted
+  unfolding accept carryOut operate afterAccepted
   ends =
       let r = recordAt (st .tables .records) f in
       let e = freed-record (b .colours) r (inv .sound .record-rules f hf) in
@@ -128,27 +128,29 @@ module _ (b : Board) (reg : Regular b) (st : State) (m : Cacheless) (inv : Invar
 
 module _ (b : Board) (reg : Regular b) (st : State) (m : Cacheless) (inv : Invariant b st m) (f : ℕ) where
   pub begin-read-taken : firstRefusal (causes b st (beginRead f)) ≡ 0 → Taken b st m (beginRead f)
-  unfolding causes accept afterAccepted ownCauses
-  begin-read-taken e = (tt, begun b reg st m inv f (frame-ready b st (beginRead f) table.beginRead f _ refl e .1) table.beginRead refl (clear b st (beginRead f) e .1 .1 .1 .0))
+  unfolding accept afterAccepted
+  begin-read-taken e = let tested = effect-tested b st (beginRead f) e in (tt, begun b reg st m inv f (tested .0) table.beginRead refl (tested .1))
 
   pub begin-write-taken : firstRefusal (causes b st (beginWrite f)) ≡ 0 → Taken b st m (beginWrite f)
-  unfolding causes accept afterAccepted ownCauses
-  begin-write-taken e = (tt, begun b reg st m inv f (frame-ready b st (beginWrite f) table.beginWrite f _ refl e .1) table.beginWrite refl (clear b st (beginWrite f) e .1 .1 .1 .0))
+  unfolding accept afterAccepted
+  begin-write-taken e = let tested = effect-tested b st (beginWrite f) e in (tt, begun b reg st m inv f (tested .0) table.beginWrite refl (tested .1))
 
   pub bring-word-taken : (o v : ℕ) → firstRefusal (causes b st (bringWord f o v)) ≡ 0 → Taken b st m (bringWord f o v)
-  unfolding causes ownCauses
+  unfolding causes
   bring-word-taken o v e =
-      let r = word-ready b st (bringWord f o v) f o _ refl e in
-      brings b reg st m inv f (r .1) o v (r .2) (eqb-true _ _ (not-false _ (clear b st (bringWord f o v) e .1 .1 .1 .1 .0)))
+      let call = bringWord f o v in
+      brings b reg st m inv f (leb-false (b .frames) f (cleared b st call 4 e)) o v (leb-false (b .page) o (cleared b st call 6 e))
+      (eqb-true _ _ (not-false _ (cleared b st call 16 e)))
 
   pub take-word-taken : (o : ℕ) → firstRefusal (causes b st (takeWord f o)) ≡ 0 → Taken b st m (takeWord f o)
-  unfolding causes accept afterAccepted ownCauses
+  unfolding causes accept carryOut operate afterAccepted
   take-word-taken o e =
-      let r = word-ready b st (takeWord f o) f o _ refl e in (
-        ap {B = Option ℕ} some (taken b reg st m inv f (r .1) o (r .2) (eqb-true _ _ (not-false _ (clear b st (takeWord f o) e .1 .1 .1 .1 .0)))),
+      let call = takeWord f o in (
+        ap {B = Option ℕ} some
+            (taken b reg st m inv f (leb-false (b .frames) f (cleared b st call 4 e)) o (leb-false (b .page) o (cleared b st call 6 e))
+            (eqb-true _ _ (not-false _ (cleared b st call 16 e)))),
         refill-invariant b st m inv (st .store) (m .word) (inv .kept) (λ g hg. inv .agrees g hg),
       )
 
   pub end-transfer-taken : firstRefusal (causes b st (endTransfer f)) ≡ 0 → Taken b st m (endTransfer f)
-  unfolding causes
-  end-transfer-taken e = ends b reg st m inv f (leb-false (b .frames) f (clear b st (endTransfer f) e .1 .1 .0))
+  end-transfer-taken e = ends b reg st m inv f (effect-tested b st (endTransfer f) e)

@@ -27,7 +27,7 @@ use Rattle.cache.proofs.Current.Device.{device-current-other, device-current-sa
 use Rattle.machine.specs.Refusals.{causes}
 use Rattle.machine.specs.State.{State, state, deviceRead, deviceWrite, deviceWritePart, Result}
 use Rattle.machine.specs.Step.{accept}
-use Rattle.machine.proofs.StepLaws.{clear, deviceRead-ready, deviceWritePart-ready}
+use Rattle.machine.proofs.StepLaws.{cleared, effect-tested, part-ready}
 use Rattle.machine.proofs.Parts.{whole-refusal, whole-accept}
 use Rattle.consistency.specs.Cacheless.{Cacheless, cacheless, sent, afterAccepted}
 use Rattle.consistency.proofs.Agrees.{Tagged, Agrees, Untouched, emptied, untouched-tagged, untouched-agrees}
@@ -167,15 +167,15 @@ module _ (b : Board) (reg : Regular b) (st : State) (m : Cacheless) (inv : Invar
 
 module _ (b : Board) (reg : Regular b) (st : State) (m : Cacheless) (inv : Invariant b st m) (f : ℕ) where
   pub device-read-taken : (buffer : List ℕ) → firstRefusal (causes b st (deviceRead f buffer)) ≡ 0 → Taken b st m (deviceRead f buffer)
-  unfolding causes
-  device-read-taken buffer e = read-taken b reg st m inv f (deviceRead-ready b st f buffer e .0 .1) buffer (clear b st (deviceRead f buffer) e .1 .1 .1 .0)
+  device-read-taken buffer e = let tested = effect-tested b st (deviceRead f buffer) e in read-taken b reg st m inv f (tested .0) buffer (tested .1)
 
   pub device-write-part-taken : (first number : ℕ) (buffer : List ℕ) → firstRefusal (causes b st (deviceWritePart f first number buffer)) ≡ 0
       → Taken b st m (deviceWritePart f first number buffer)
   unfolding causes
   device-write-part-taken first number buffer e =
-      let h = deviceWritePart-ready b st f first number buffer e in
-      part-taken b reg st m inv f (h .0 .1) first number buffer (h .1) (h .3) (clear b st (deviceWritePart f first number buffer) e .1 .1 .1 .1 .0)
+      let call = deviceWritePart f first number buffer in
+      let h = part-ready b st f first number buffer e in
+      part-taken b reg st m inv f (effect-tested b st call e .0) first number buffer (h .0) (h .2) (cleared b st call 15 e)
 
   -- a page is all its words
   pub device-write-taken : (buffer : List ℕ) → firstRefusal (causes b st (deviceWrite f buffer)) ≡ 0 → Taken b st m (deviceWrite f buffer)

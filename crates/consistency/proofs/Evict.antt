@@ -11,7 +11,7 @@ use Rattle.cache.proofs.Laws.Evict.{evict-kept, evict-words, evict-tag-from}
 use Rattle.cache.proofs.Current.Line.{evict-current}
 use Rattle.machine.specs.Refusals.{causes}
 use Rattle.machine.specs.State.{State, state, evict}
-use Rattle.machine.specs.Step.{accept}
+use Rattle.machine.specs.Step.{operate, carryOut, accept}
 use Rattle.machine.proofs.StepLaws.{evict-ready}
 use Rattle.consistency.specs.Cacheless.{Cacheless, afterAccepted}
 use Rattle.consistency.proofs.Agrees.{emptied, untouched-agrees}
@@ -29,5 +29,5 @@ module _ (b : Board) (reg : Regular b) (st : State) (m : Cacheless) (inv : Invar
       (m .word f) (evict-current b reg line h f (m .word f) (st .store) (inv .kept) (inv .agrees f hf .current)) (inv .agrees f hf))
 
   pub evict-taken : firstRefusal (causes b st (evict line)) ≡ 0 → Taken b st m (evict line)
-  unfolding accept afterAccepted
+  unfolding accept carryOut operate afterAccepted
   evict-taken e = (tt, evict-invariant (evict-ready b st line e .1))

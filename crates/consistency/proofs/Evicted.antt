@@ -1,6 +1,6 @@
 -- Every line evicted: none of the evictions is refused, and memory then holds the cacheless memory's words.
-use mathlib.Core.Path.{_≡_, refl, sym, ap, ap₂, _∙_, subst⁻¹}
-use mathlib.Core.Bool.{true, false, not, _&&_}
+use mathlib.Core.Path.{_≡_, refl, sym, ap, _∙_, subst⁻¹}
+use mathlib.Core.Bool.{true, false}
 use mathlib.Core.List.{List, [], _∷_}
 use mathlib.Core.Logic.{_⊎_, inl, inr}
 use Prim.Native.Nat.{ℕ, _<_}
@@ -21,14 +21,13 @@ use Rattle.cache.proofs.Laws.Evict.{evict-tag-same, evict-tag-other}
 use Rattle.machine.specs.Call.{callCauses, perform}
 use Rattle.machine.specs.Refusals.{storeLengths, causes}
 use Rattle.machine.specs.State.{State, evict, single, Result}
-use Rattle.machine.specs.Step.{accept}
+use Rattle.machine.specs.Step.{operate, carryOut, accept}
 use Rattle.machine.proofs.CallLaws.{perform-accepted}
 use Rattle.machine.proofs.StoreLaws as store
 use Rattle.consistency.specs.Cacheless.{Cacheless, isRefused}
 use Rattle.consistency.specs.Demand3.{stateAfter, evictions, Occurs, NoneRefused, MemoryIs}
 use Rattle.consistency.proofs.Evict.{evict-invariant}
 use Rattle.consistency.proofs.Invariant.{Sound, Invariant}
-use Rattle.consistency.proofs.Refused.{none-refused}
 
 -- ---- what the invariant says to the tests
 
@@ -48,12 +47,9 @@ store-lengths b s w = store.lengths-right b s (w .memory-length) (w .words-lengt
 module _ (b : Board) (reg : Regular b) (m : Cacheless) where
   module _ (st : State) (inv : Invariant b st m) (n : ℕ) (h : n < lines b) where
     evict-clear : firstRefusal (causes b st (evict n)) ≡ 0
-    unfolding causes
+    unfolding causes firstRefusal
     evict-clear =
-        none-refused (causes b st (evict n)) (
-          ap not (ap₂ _&&_ (ap₂ _&&_ (sound-lengths b (st .tables) (inv .sound)) (store-lengths b (st .store) (inv .kept))) refl),
-          (ap not (ap₂ _&&_ (sound-rules b (st .tables) (inv .sound)) (inv .kept .tags-rules)), (lt-leb (lines b) n h, tt)),
-        )
+        rw (sound-lengths b (st .tables) (inv .sound), store-lengths b (st .store) (inv .kept), sound-rules b (st .tables) (inv .sound), inv .kept .tags-rules, lt-leb (lines b) n h)
 
     evict-step : perform b st (single (evict n)) ≡ accept b st (evict n)
     unfolding callCauses
@@ -65,12 +61,12 @@ module _ (b : Board) (reg : Regular b) (m : Cacheless) where
     evict-not-refused = ap (λ (r : Result). isRefused (r .answer)) evict-step
 
     evict-after : Invariant b (perform b st (single (evict n)) .after) m
-    unfolding accept
+    unfolding accept carryOut operate
     evict-after = subst⁻¹ (λ (r : Result). Invariant b (r .after) m) evict-step (evict-invariant b reg st m inv n h)
 
     -- its line is empty, and an empty one stays empty
     evict-empties : (k : ℕ) → (k ≡ n) ⊎ (tagAt (st .store) k ≡ emptyTag) → tagAt (perform b st (single (evict n)) .after .store) k ≡ emptyTag
-    unfolding accept
+    unfolding accept carryOut operate
     evict-empties k e = ap (λ (r : Result). tagAt (r .after .store) k) evict-step ∙ go (ℕ-discrete k n) e
       where
         go : Dec (k ≡ n) → (k ≡ n) ⊎ (tagAt (st .store) k ≡ emptyTag) → tagAt (accept b st (evict n) .after .store) k ≡ emptyTag

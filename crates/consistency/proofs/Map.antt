@@ -1,6 +1,6 @@
 -- Accepted map and unmap: records and store stay, and the list changes as the cacheless memory's frames do.
 use mathlib.Core.Path.{_≡_, refl, sym, ap, ap₂, _∙_}
-use mathlib.Core.Bool.{Bool, true, false, not, cond, _&&_}
+use mathlib.Core.Bool.{Bool, true, false, cond, _&&_}
 use mathlib.Core.Option.{Option, none, some}
 use Prim.Native.Nat.{ℕ, _<_}
 use lib.Dec.{eqb}
@@ -22,14 +22,14 @@ use Rattle.manager.specs.Tables.{tables, lengthsRight, refill}
 use Rattle.manager.specs.Theorems.{WellFormed}
 use Rattle.manager.proofs.AcceptedLaws.{map-accepted}
 use Rattle.manager.proofs.CauseLaws.{mapped-found}
-use Rattle.machine.specs.Refusals.{storeLengths, causes}
+use Rattle.machine.specs.Refusals.{storeLengths, lentCauses, ownCauses, causes}
 use Rattle.machine.specs.State.{State, state, map, unmap}
-use Rattle.machine.specs.Step.{accept}
-use Rattle.machine.proofs.StepLaws.{clear, lengths-clear, tables-clear}
+use Rattle.machine.specs.Step.{operate, carryOut, accept}
+use Rattle.machine.proofs.StepLaws.{cleared, lengths-clear, tables-clear}
 use Rattle.consistency.specs.Cacheless.{Cacheless, cacheless, replaced, afterAccepted}
 use Rattle.consistency.proofs.Commit.{refill-sound}
 use Rattle.consistency.proofs.Invariant.{Sound, frameIn, Invariant, Taken}
-use Rattle.consistency.proofs.Refused.{none-refused}
+use Rattle.consistency.proofs.Refused.{rest-clear}
 
 -- a function with one value replaced, at that place and at another
 replaced-cases : (P : Option ℕ → Type 0) (g : ℕ → ℕ → Option ℕ) (i j : ℕ) (a : Option ℕ) (x y : ℕ) → (i ≡ x → j ≡ y → P a)
@@ -44,12 +44,11 @@ replaced-cases P g i j a x y same other = go (eqb i x) (eqb j y) refl refl
 -- what an accepted map tells of its mapping
 pub map-clear : (b : Board) (st : State) (m : Mapping) → firstRefusal (causes b st (map (m .space) (m .page) (m .frame) (m .rights))) ≡ 0
     → WellFormed b (st .tables) × InRange b m × (lookup (st .tables .list) (m .space) (m .page) ≡ Nothing) × (st .tables .list .count < capacity)
-unfolding causes mapCauses
+unfolding causes mapCauses firstRefusal
 map-clear b st m e =
     let call = map (m .space) (m .page) (m .frame) (m .rights) in
     let lengths = and-left (lengthsRight b (st .tables)) (storeLengths b (st .store)) (and-left _ true (lengths-clear b st call e)) in
-    map-accepted b (st .tables) m
-    (none-refused (mapCauses b (st .tables) (m .space) (m .page) (m .frame) (m .rights)) (ap not lengths, (ap not (tables-clear b st call e), clear b st call e .1 .1)))
+    map-accepted b (st .tables) m (rw (lengths, tables-clear b st call e) (rest-clear (lentCauses b st call) (ownCauses b st call) refl e))
 
 module _ (b : Board) (st : State) (m : Cacheless) (inv : Invariant b st m) where
   -- another list that has its length and keeps the rules
@@ -90,7 +89,7 @@ module _ (b : Board) (st : State) (m : Cacheless) (inv : Invariant b st m) where
     map-kept = relisted (insert (st .tables .list) mp) (replaced (m .frame) (mp .space) (mp .page) (some (mp .frame))) map-sound map-listed
 
   pub map-taken : (space page frame rights : ℕ) → firstRefusal (causes b st (map space page frame rights)) ≡ 0 → Taken b st m (map space page frame rights)
-  unfolding accept afterAccepted
+  unfolding accept carryOut operate afterAccepted
   map-taken space page frame rights e = let a = map-clear b st (record { space = space; page = page; frame = frame; rights = rights }) e in (tt, map-kept _ (a .1) (a .2) (a .3))
 
   -- ---- unmap
@@ -111,7 +110,7 @@ module _ (b : Board) (st : State) (m : Cacheless) (inv : Invariant b st m) where
     unmap-kept = relisted (remove (st .tables .list) i) (replaced (m .frame) space page none) unmap-sound unmap-listed
 
   pub unmap-taken : (space page : ℕ) → firstRefusal (causes b st (unmap space page)) ≡ 0 → Taken b st m (unmap space page)
-  unfolding causes accept afterAccepted
+  unfolding causes accept carryOut operate afterAccepted
   unmap-taken space page e =
-      let mapped = not-false _ (clear b st (unmap space page) e .1 .1 .1 .0) in
+      let mapped = not-false _ (cleared b st (unmap space page) 8 e) in
       (tt, unmap-kept space page (placeOf (lookup (st .tables .list) space page)) (mapped-found b (st .tables) (tables-clear b st (unmap space page) e) space page mapped))

@@ -9,8 +9,7 @@ use Rattle.mapping.specs.declared.Found.the-variants.{At, Nothing}
 use Rattle.mapping.specs.Entry.{mappingAt}
 use Rattle.mapping.specs.Lookup.{lookup, mappingOf, found, isMapped, placeOf}
 use Rattle.mapping.proofs.Laws.{mappingOf-at}
-use Rattle.machine.specs.State.{State}
-use Rattle.machine.specs.Step.{pageFrame}
+use Rattle.machine.specs.State.{State, pageFrame}
 use Rattle.consistency.specs.Cacheless.{Cacheless}
 use Rattle.consistency.proofs.Invariant.{frameIn, Invariant}
 

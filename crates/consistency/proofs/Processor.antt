@@ -4,7 +4,7 @@ use mathlib.Core.Bool.{false}
 use mathlib.Core.Logic.{_≢_}
 use mathlib.Core.Option.{Option, some}
 use Prim.Native.Nat.{ℕ, _<_}
-use borrow.Author.Tests.{not-false}
+use borrow.Author.Tests.{not-false, leb-false}
 use Rattle.board.specs.declared.Board.{Board}
 use Rattle.board.specs.Board.{Regular, colourOf}
 use Rattle.board.proofs.Geometry.{colourOf-lt}
@@ -21,9 +21,9 @@ use Rattle.cache.specs.Current.{written}
 use Rattle.cache.specs.Store.{Store, WellFormed}
 use Rattle.cache.proofs.Laws.Access.{access-kept, writeWord-kept}
 use Rattle.machine.specs.Refusals.{causes}
-use Rattle.machine.specs.State.{State, state, read, write}
-use Rattle.machine.specs.Step.{accept, pageFrame}
-use Rattle.machine.proofs.StepLaws.{clear, read-ready, write-ready}
+use Rattle.machine.specs.State.{State, pageFrame, state, read, write}
+use Rattle.machine.specs.Step.{accept}
+use Rattle.machine.proofs.StepLaws.{cleared, effect-tested}
 use Rattle.consistency.specs.Cacheless.{Cacheless, cacheless, replaced, stored, afterAccepted}
 use Rattle.consistency.specs.Demand3.{pageWord, HasFrame}
 use Rattle.consistency.proofs.Access.{access-words, access-own, access-other}
@@ -116,26 +116,28 @@ module _ (b : Board) (reg : Regular b) (st : State) (m : Cacheless) (inv : Invar
   pub read-taken : firstRefusal (causes b st (read space page offset)) ≡ 0 → Taken b st m (read space page offset)
   unfolding causes accept afterAccepted now
   read-taken e =
-      let mapped = not-false _ (clear b st (read space page offset) e .1 .1 .1 .1 .0) in
-      let ready = read-ready b st space page offset e in
-      let hf = ready .0 .1 in
-      let ho = ready .1 in
+      let call = read space page offset in
+      let mapped = not-false _ (cleared b st call 8 e) in
+      let tested = effect-tested b st call e in
+      let hf = tested .0 in
+      let ho = leb-false (b .page) offset (cleared b st call 6 e) in
       let hc = colourOf-lt b reg page in (
         ap {B = Option ℕ} some (read-word b reg st m inv (pageFrame st space page) (colourOf b page) offset hf hc ho)
             ∙ ap (λ (x : Option ℕ). pageWord m x offset) (sym (mapped-frame b st m inv space page mapped)),
-        read-kept b reg st m inv (pageFrame st space page) (colourOf b page) offset hf hc ho (clear b st (read space page offset) e .1 .1 .1 .1 .1 .0),
+        read-kept b reg st m inv (pageFrame st space page) (colourOf b page) offset hf hc ho (tested .1),
       )
 
   pub write-taken : (word : ℕ) → firstRefusal (causes b st (write space page offset word)) ≡ 0 → Taken b st m (write space page offset word)
   unfolding causes accept afterAccepted now put
   write-taken word e =
-      let mapped = not-false _ (clear b st (write space page offset word) e .1 .1 .1 .1 .0) in
-      let ready = write-ready b st space page offset word e in
-      let hf = ready .0 .1 in
-      let ho = ready .1 in
+      let call = write space page offset word in
+      let mapped = not-false _ (cleared b st call 8 e) in
+      let tested = effect-tested b st call e in
+      let hf = tested .0 in
+      let ho = leb-false (b .page) offset (cleared b st call 6 e) in
       let hc = colourOf-lt b reg page in (
         subst⁻¹ HasFrame (mapped-frame b st m inv space page mapped) tt,
         subst⁻¹ (λ (x : Option ℕ). Invariant b (accept b st (write space page offset word) .after) (cacheless (stored (m .word) x offset word) (m .frame)))
             (mapped-frame b st m inv space page mapped)
-            (write-kept b reg st m inv (pageFrame st space page) (colourOf b page) offset hf hc ho word (clear b st (write space page offset word) e .1 .1 .1 .1 .1 .1 .0)),
+            (write-kept b reg st m inv (pageFrame st space page) (colourOf b page) offset hf hc ho word (tested .1)),
       )

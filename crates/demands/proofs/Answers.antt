@@ -9,28 +9,16 @@ use Rattle.manager.specs.Refusals.{firstRefusal, placeIn, refusalPlace, inOrder
 use Rattle.manager.specs.Theorems.{First}
 use Rattle.manager.proofs.Theorems.{first-refusal}
 use Rattle.machine.specs.Call.{callCauses, perform}
-use Rattle.machine.specs.Refusals.{lentCauses, ownCauses, causes}
-use Rattle.machine.specs.State.{State, map, unmap, read, write, deviceRead, deviceWrite, deviceWritePart, evict, beginRead, beginWrite, bringWord, takeWord, endTransfer, Call, single, mapAll, Result}
+use Rattle.machine.specs.State.{State, Call, single, mapAll, Result}
+use Rattle.machine.proofs.StepLaws as machine-laws
 use Rattle.machine.proofs.CallLaws.{perform-cases, perform-accepted, perform-refused, accept-accepted}
 use Rattle.consistency.specs.Cacheless.{isRefused}
 use Rattle.demands.specs.Demands.{Clear, NoCause, FirstCause, Demand1}
 
 module _ (b : Board) (st : State) where
   causes-in-order : (call : Call) → inOrder 0 (callCauses b st call) ≡ true
-  unfolding callCauses causes lentCauses ownCauses inOrder refusalPlace placeIn
-  causes-in-order (single (map space page frame rights)) = refl
-  causes-in-order (single (unmap space page)) = refl
-  causes-in-order (single (read space page offset)) = refl
-  causes-in-order (single (write space page offset word)) = refl
-  causes-in-order (single (deviceRead frame buffer)) = refl
-  causes-in-order (single (deviceWrite frame buffer)) = refl
-  causes-in-order (single (deviceWritePart frame first number buffer)) = refl
-  causes-in-order (single (evict line)) = refl
-  causes-in-order (single (beginRead frame)) = refl
-  causes-in-order (single (beginWrite frame)) = refl
-  causes-in-order (single (bringWord frame offset word)) = refl
-  causes-in-order (single (takeWord frame offset)) = refl
-  causes-in-order (single (endTransfer frame)) = refl
+  unfolding callCauses inOrder refusalPlace placeIn
+  causes-in-order (single call) = machine-laws.causes-in-order b st call
   causes-in-order (mapAll items answers) = refl
 
   pub no-cause : (call : Call) → firstRefusal (callCauses b st call) ≡ 0 → Clear (callCauses b st call)

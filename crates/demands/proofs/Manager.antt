@@ -17,9 +17,9 @@ use Rattle.manager.specs.Tables.{refill}
 use Rattle.cache.specs.Store.{WellFormed}
 use Rattle.machine.specs.Plans.{storeCauses, earlier}
 use Rattle.machine.specs.Refusals.{bufferRight, ownCauses, causes}
-use Rattle.machine.specs.State.{State, Single, map, unmap, read, write, deviceRead, deviceWrite, deviceWritePart, evict, beginRead, beginWrite, bringWord, takeWord, endTransfer, single}
+use Rattle.machine.specs.State.{State, pageFrame, Single, map, unmap, read, write, deviceRead, deviceWrite, deviceWritePart, evict, beginRead, beginWrite, bringWord, takeWord, endTransfer, single}
 use Rattle.machine.specs.State as state-of
-use Rattle.machine.specs.Step.{pageFrame, accept}
+use Rattle.machine.specs.Step.{accept}
 use Rattle.machine.proofs.MergeLaws.{ownPlace, merge, causes-merged}
 use Rattle.machine.proofs.StepLaws.{step-refused, step-accepted}
 use Rattle.machine.proofs.StoreLaws.{lengths-right}

@@ -2,7 +2,7 @@
 use mathlib.Core.Bool.{true, false}
 use mathlib.Core.List.{List, [], List·Memᴰ}
 use mathlib.Core.Logic.{_↔_, _⊎_, _≢_}
-use mathlib.Core.Option.{Option, none, some}
+use mathlib.Core.Option.{none}
 use mathlib.Core.Path.{_≡_}
 use Prim.Native.Nat.{ℕ, suc, _≤_, _<_}
 use lib.ListN.{length, getD}
@@ -15,24 +15,20 @@ use Rattle.page_model.specs.Table as table
 use Rattle.page_model.specs.Table.{cellAt}
 use Rattle.page_model.specs.Theorems.{Idle}
 use Rattle.mapping.specs.declared.Mapping.{Mapping}
-use Rattle.mapping.specs.declared.MappingList.{MappingList}
-use Rattle.mapping.specs.Change.{insert, remove}
 use Rattle.mapping.specs.Entry.{capacity, readWrite, mappingAt}
-use Rattle.mapping.specs.Lookup.{lookup, placeOf}
 use Rattle.manager.specs.Answers.{Outcome, refused, accepted}
 use Rattle.manager.specs.Batch.{itemAt}
-use Rattle.manager.specs.Calls.{noOps, writeStep}
+use Rattle.manager.specs.Calls.{noOps}
 use Rattle.manager.specs.Refusals.{Cause, isRight}
 use Rattle.manager.specs.Tables.{Tables, tables, recordAt, protectionAt, tabulate}
 use Rattle.manager.specs.Theorems.{First, WellFormed}
 use Rattle.cache.specs.Cache as hardware
-use Rattle.cache.specs.Cache.{access, readWord, writeWord}
 use Rattle.cache.specs.Store as hardware-store
-use Rattle.cache.specs.Store.{Store, memoryWord}
 use Rattle.machine.specs.Call.{mapOf, callCauses, callBuffer, perform}
 use Rattle.machine.specs.Refusals.{causes}
-use Rattle.machine.specs.State.{State, state, Single, map, unmap, read, write, deviceRead, deviceWrite, deviceWritePart, evict, beginRead, beginWrite, bringWord, takeWord, endTransfer, Call, single, mapAll, Answer}
-use Rattle.machine.specs.Step.{answer, result, pageFrame, carryOut, step}
+use Rattle.machine.specs.State.{State, state, Single, Call, single, mapAll, Answer}
+use Rattle.machine.specs.Parts.{Effect, steps, ends, nothing, effectOf, listAfter, accessed, accessOf}
+use Rattle.machine.specs.Step.{answer, result, carryOut, step}
 use Rattle.consistency.specs.Cacheless.{isRefused}
 use Rattle.consistency.specs.Demand3.{Demand3}
 
@@ -59,27 +55,6 @@ Demand1 b = (st : State) (call : Call) → NoCause b st call ⊎ ((n : ℕ) × F
 -- ---- 2. Orders, page states and protections are those of the page model; list, memory, cache words and tags after each call are what the
 -- board's rules leave. An access passes without a stop exactly if its right allows it and the model would order nothing and alter nothing.
 
--- what a call makes of the record of a frame: a step of the page model, the end of a transfer, or nothing
-pub data Effect : Type 0 where
-  steps : ℕ → table.Step → Effect
-  ends : ℕ → Effect
-  nothing : Effect
-
-abbrev pub effectOf : Board → State → Single → Effect
-effectOf b st (map space page frame rights) = nothing
-effectOf b st (unmap space page) = nothing
-effectOf b st (read space page offset) = steps (pageFrame st space page) (table.read (colourOf b page))
-effectOf b st (write space page offset word) = steps (pageFrame st space page) (table.write (colourOf b page))
-effectOf b st (deviceRead frame buffer) = steps frame table.deviceRead
-effectOf b st (deviceWrite frame buffer) = steps frame table.deviceWrite
-effectOf b st (deviceWritePart frame first number buffer) = steps frame (writeStep b number)
-effectOf b st (evict line) = nothing
-effectOf b st (beginRead frame) = steps frame table.beginRead
-effectOf b st (beginWrite frame) = steps frame table.beginWrite
-effectOf b st (bringWord frame offset word) = nothing
-effectOf b st (takeWord frame offset) = nothing
-effectOf b st (endTransfer frame) = ends frame
-
 -- the orders are the table's, in order and on this frame; each of its colours is in the state of its cell, its mark is the step's, and other
 -- frames are as they were (its dirty colour is then the one that is dirty, since the tables keep their rules: `DirtyColour`)
 pub record ByTable (b : Board) (before after : Tables) (o : Outcome) (f : ℕ) (s : table.Step) : Type 0 where
@@ -100,47 +75,6 @@ abbrev pub Modelled : Board → Tables → Tables → Outcome → Effect → Typ
 Modelled b before after o (steps f s) = ByTable b before after o f s
 Modelled b before after o (ends f) = ByEnd before after o f
 Modelled b before after o nothing = (o ≡ accepted 0 noOps) × (after .records ≡ before .records)
-
--- the list after a single call
-abbrev pub listAfter : MappingList → Single → MappingList
-listAfter l (map space page frame rights) = insert l (record { space = space; page = page; frame = frame; rights = rights })
-listAfter l (unmap space page) = remove l (placeOf (lookup l space page))
-listAfter l (read space page offset) = l
-listAfter l (write space page offset word) = l
-listAfter l (deviceRead frame buffer) = l
-listAfter l (deviceWrite frame buffer) = l
-listAfter l (deviceWritePart frame first number buffer) = l
-listAfter l (evict line) = l
-listAfter l (beginRead frame) = l
-listAfter l (beginWrite frame) = l
-listAfter l (bringWord frame offset word) = l
-listAfter l (takeWord frame offset) = l
-listAfter l (endTransfer frame) = l
-
--- what a call answers besides its orders, and the memory and cache that it leaves, where its orders leave s
-pub record Access : Type 0 where
-  pub word : Option ℕ
-  pub buffer : List ℕ
-  pub store : Store
-
-abbrev pub accessed : Option ℕ → List ℕ → Store → Access
-accessed word buffer s = record { word = word; buffer = buffer; store = s }
-
-abbrev pub accessOf : Board → State → Single → Store → Access
-accessOf b st (map space page frame rights) s = accessed none [] s
-accessOf b st (unmap space page) s = accessed none [] s
-accessOf b st (read space page offset) s =
-    accessed (some (readWord b (pageFrame st space page) (colourOf b page) offset s)) [] (access b (pageFrame st space page) (colourOf b page) offset s)
-accessOf b st (write space page offset word) s = accessed none [] (writeWord b (pageFrame st space page) (colourOf b page) offset word s)
-accessOf b st (deviceRead frame buffer) s = accessed none (hardware.deviceRead b frame s) s
-accessOf b st (deviceWrite frame buffer) s = accessed none [] (hardware.deviceWrite b frame 0 buffer s)
-accessOf b st (deviceWritePart frame first number buffer) s = accessed none [] (hardware.deviceWrite b frame first buffer s)
-accessOf b st (evict line) s = accessed none [] (hardware.evict b line s)
-accessOf b st (beginRead frame) s = accessed none [] s
-accessOf b st (beginWrite frame) s = accessed none [] s
-accessOf b st (bringWord frame offset word) s = accessed none [] (hardware.bringWord b frame offset word s)
-accessOf b st (takeWord frame offset) s = accessed (some (memoryWord b s frame offset)) [] s
-accessOf b st (endTransfer frame) s = accessed none [] s
 
 -- what an accepted single call leaves, and answers
 pub record Left (b : Board) (st : State) (call : Single) (after : State) (a : Answer) : Type 0 where

@@ -14,8 +14,9 @@ use Rattle.manager.specs.Refusals.{firstRefusal}
 use Rattle.manager.specs.Tables.{tabulate}
 use Rattle.machine.specs.Call.{afterItems, answerAt, callCauses, callBuffer, perform}
 use Rattle.machine.specs.Refusals.{causes}
-use Rattle.machine.specs.State.{State, Single, map, unmap, read, write, deviceRead, deviceWrite, deviceWritePart, evict, beginRead, beginWrite, bringWord, takeWord, endTransfer, Call, single, mapAll, Result, lentBuffer}
-use Rattle.machine.specs.Step.{answer, result, accept, step}
+use Rattle.machine.specs.State.{State, Single, map, Call, single, mapAll, Result, lentBuffer}
+use Rattle.machine.specs.Parts.{Effect, steps, ends, nothing, effectOf, outcomeOf}
+use Rattle.machine.specs.Step.{operate, carryOut, answer, result, accept, step}
 
 -- what a call is where it is accepted
 abbrev pub acceptCall : Board → State → Call → Result
@@ -50,21 +51,14 @@ module _ (b : Board) (st : State) (call : Call) where
       (λ n s. ap (λ (m : ℕ). result (answer (refused m) none (callBuffer call)) st) (sym e ∙ s))
 
 -- an accepted call is no refusal
+effect-accepted : (b : Board) (records : List ℕ) (e : Effect) → isRefusal (outcomeOf b records e) ≡ false
+effect-accepted b records (steps f s) = refl
+effect-accepted b records (ends f) = refl
+effect-accepted b records nothing = refl
+
 pub accept-accepted : (b : Board) (st : State) (call : Call) → isRefusal (acceptCall b st call .answer .outcome) ≡ false
 unfolding accept
-accept-accepted b st (single (map space page frame rights)) = refl
-accept-accepted b st (single (unmap space page)) = refl
-accept-accepted b st (single (read space page offset)) = refl
-accept-accepted b st (single (write space page offset word)) = refl
-accept-accepted b st (single (deviceRead frame buffer)) = refl
-accept-accepted b st (single (deviceWrite frame buffer)) = refl
-accept-accepted b st (single (deviceWritePart frame first number buffer)) = refl
-accept-accepted b st (single (evict line)) = refl
-accept-accepted b st (single (beginRead frame)) = refl
-accept-accepted b st (single (beginWrite frame)) = refl
-accept-accepted b st (single (bringWord frame offset word)) = refl
-accept-accepted b st (single (takeWord frame offset)) = refl
-accept-accepted b st (single (endTransfer frame)) = refl
+accept-accepted b st (single call) = effect-accepted b (st .tables .records) (effectOf b st call)
 accept-accepted b st (mapAll items answers) = refl
 
 -- ---- a single call's number
@@ -83,5 +77,5 @@ refused-number b st call =
 
 -- a map leaves memory and cache as they were
 pub map-store : (b : Board) (st : State) (space page frame rights : ℕ) → step b st (map space page frame rights) .after .store ≡ st .store
-unfolding perform accept
+unfolding perform accept carryOut operate
 map-store b st space page frame rights = perform-cases b st (single (map space page frame rights)) (λ r. r .after .store ≡ st .store) (λ _. refl) (λ n _. refl)

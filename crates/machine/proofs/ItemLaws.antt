@@ -18,7 +18,7 @@ use Rattle.manager.specs.Calls.{noOps}
 use Rattle.manager.specs.Refusals.{_if_, firstRefusal, batchCause}
 use Rattle.manager.specs.Tables.{Tables, lengthsRight, rulesKept, tabulate}
 use Rattle.manager.specs.Theorems.{WellFormed}
-use Rattle.manager.proofs.CauseLaws.{none-applies}
+use Rattle.manager.proofs.CauseLaws.{cleared-in}
 use Rattle.manager.proofs.Singly.{refusalBy, takenBy, singly, lengths-refused, refusal-by}
 use Rattle.cache.specs.Store.{Store}
 use Rattle.cache.specs.Tag.{tagsKeepRules}
@@ -83,9 +83,9 @@ module _ (b : Board) (st : State) (items : List Mapping) where
   lent-parts : (t : Tables) → lentBy t ≡ 0 → WellFormed b t × (storeLengths b (st .store) ≡ true) × (tagsKeepRules b (st .store .tags) ≡ true)
   unfolding lentCauses
   lent-parts t e =
-      let n = none-applies (lentCauses b (state t (st .store)) (mapOf zeroMapping)) refl e in
-      let lengths = and-left (lengthsRight b t && storeLengths b (st .store)) true (not-false _ (n .0)) in
-      let rules = not-false (rulesKept b t && tagsKeepRules b (st .store .tags)) (n .1 .0) in (
+      let cs = lentCauses b (state t (st .store)) (mapOf zeroMapping) in
+      let lengths = and-left (lengthsRight b t && storeLengths b (st .store)) true (not-false _ (cleared-in cs 1 refl e)) in
+      let rules = not-false (rulesKept b t && tagsKeepRules b (st .store .tags)) (cleared-in cs 2 refl e) in (
         (and-left (lengthsRight b t) _ lengths, and-left (rulesKept b t) _ rules),
         and-right (lengthsRight b t) _ lengths,
         and-right (rulesKept b t) _ rules,

@@ -1,6 +1,7 @@
 -- The machine's laws.
 pub mod StoreLaws
 pub mod MergeLaws
+pub mod PlanLaws
 pub mod StepLaws
 pub mod CallLaws
 pub mod ItemLaws

@@ -12,8 +12,9 @@ use Rattle.manager.proofs.Parts.{whole-inside, whole-step}
 use Rattle.cache.specs.Cache as hardware
 use Rattle.machine.specs.Refusals.{lentCauses, ownCauses, causes}
 use Rattle.machine.specs.State.{State, deviceWrite, deviceWritePart, Result}
-use Rattle.machine.specs.Step.{answer, result, stepped, accept, step}
+use Rattle.machine.specs.Step.{answer, result, accept, step}
 use Rattle.machine.specs.Theorems.{WholePart}
+use Rattle.machine.proofs.StepLaws.{stepped}
 
 module _ (b : Board) (some : 0 < b .page) (st : State) (frame : ℕ) (buffer : List ℕ) where
   pub whole-refusal : firstRefusal (causes b st (deviceWritePart frame 0 (b .page) buffer)) ≡ firstRefusal (causes b st (deviceWrite frame buffer))

@@ -1,19 +1,19 @@
 -- What a plan tells of a call: where it is a refusal, the call's answer; where it is a change, what the call is ready for and what it leaves.
 -- Each law is over any call of its shape.
 use mathlib.Core.Path.{_≡_, refl, sym, ap, subst, subst⁻¹, _∙_}
-use mathlib.Core.Bool.{Bool, true, false, _&&_, _||_, true≢false}
-use mathlib.Core.List.{List, [], _∷_, _++_}
+use mathlib.Core.Bool.{Bool, true, false, cond, _&&_, _||_, true≢false}
+use mathlib.Core.List.{List, []}
 use mathlib.Core.Option.{Option, none}
 use Prim.Native.Nat.{ℕ, zero, suc, _+_, _≤_, _<_}
 use native.Mathlib.Omega.{arith}
 use borrow.Author.Tests.{not-false, leb-false, ltb-false, eqb-true, eqb-false}
-use lib.Dec.{eqb, ltb}
+use lib.Dec.{eqb, leb, ltb}
 use lib.ListN.{length}
 use Rattle.bits.proofs.Tautology.{and-left, and-right}
 use Rattle.board.specs.declared.Board.{Board}
 use Rattle.board.specs.Board.{Regular, lines, colourOf}
 use Rattle.board.proofs.Geometry.{colourOf-lt}
-use Rattle.page_model.specs.Step.{OpBelow}
+use Rattle.page_model.specs.Busy.{bars}
 use Rattle.page_model.specs.Table as table
 use Rattle.page_model.proofs.Theorems.{operations-below}
 use Rattle.mapping.specs.declared.MappingList.{MappingList}
@@ -24,15 +24,17 @@ use Rattle.manager.specs.declared.ListPlan.{ListPlan}
 use Rattle.manager.specs.declared.ListPlan.the-variants as list-plan
 use Rattle.manager.specs.Answers.{Outcome, refused, accepted}
 use Rattle.manager.specs.Calls.{noOps, planned, placed, changeOf, writeStep, commitChange}
-use Rattle.manager.specs.Refusals.{Cause, firstRefusal, outOfPage, spaceCause, frameCause, offsetCause, unmappedCause}
+use Rattle.manager.specs.Refusals.{firstRefusal, placeIn, refusalPlace, inOrder, outOfPage}
 use Rattle.manager.specs.Tables.{Tables, tables, lengthsRight, rulesKept, recordAt}
-use Rattle.manager.proofs.CauseLaws.{NoneApplies, numbered, none-applies, mapped-range}
+use Rattle.manager.proofs.CauseLaws.{appliesIn, cleared-in, mapped-range}
+use Rattle.manager.proofs.FirstRefusal.{in-order-numbered}
 use Rattle.cache.specs.Store.{Store, WellFormed}
 use Rattle.cache.specs.Tag.{tagsKeepRules}
 use Rattle.machine.specs.Ready.{OperationsReady, AccessReady, TransferReady, PartReady}
-use Rattle.machine.specs.Refusals.{storeLengths, bufferRight, lentCauses, ownCauses, causes}
+use Rattle.machine.specs.Refusals.{storeLengths, bufferRight, causes}
 use Rattle.machine.specs.State.{State, state, Single, map, unmap, read, write, deviceRead, deviceWrite, deviceWritePart, evict, beginRead, beginWrite, bringWord, takeWord, endTransfer, Result, lentBuffer}
-use Rattle.machine.specs.Step.{answer, result, carryOut, plain, listed, stepped, pageFrame, accept, step}
+use Rattle.machine.specs.Parts.{Effect, steps, ends, nothing, effectOf, outcomeOf, Access, accessed, accessOf}
+use Rattle.machine.specs.Step.{operate, carryOut, answer, result, tablesAfter, accept, step}
 use Rattle.machine.specs.Plans.{planStep, planPlace, refusalOf, placeRefusal}
 use Rattle.machine.proofs.StoreLaws.{well-formed}
 
@@ -73,11 +75,12 @@ module _ (b : Board) (st : State) (call : Single) where
   step-accepted e =
       ap (λ (n : ℕ). elim n as (λ m. Result) [ zero ↦ accept b st call | suc m ↦ result (answer (refused (suc m)) none (lentBuffer call)) st ]) (sym e)
 
-  numbered-own : numbered (ownCauses b st call) ≡ true
-  unfolding ownCauses
-  numbered-own = go call
+  -- the causes stand in the order of the refusals
+  pub causes-in-order : inOrder 0 (causes b st call) ≡ true
+  unfolding causes inOrder refusalPlace placeIn
+  causes-in-order = go call
     where
-      go : (call : Single) → numbered (ownCauses b st call) ≡ true
+      go : (call : Single) → inOrder 0 (causes b st call) ≡ true
       go (map space page frame rights) = refl
       go (unmap space page) = refl
       go (read space page offset) = refl
@@ -92,18 +95,17 @@ module _ (b : Board) (st : State) (call : Single) where
       go (takeWord frame offset) = refl
       go (endTransfer frame) = refl
 
-  -- no refusal: no cause applies
-  pub clear : firstRefusal (causes b st call) ≡ 0 → NoneApplies (lentCauses b st call ++ ownCauses b st call)
-  unfolding causes
-  clear e = none-applies (causes b st call) numbered-own e
+  -- no refusal: no cause applies, whatever its number
+  pub cleared : (n : ℕ) → firstRefusal (causes b st call) ≡ 0 → appliesIn n (causes b st call) ≡ false
+  cleared n e = cleared-in (causes b st call) n (in-order-numbered 0 (causes b st call) causes-in-order) e
 
   pub lengths-clear : firstRefusal (causes b st call) ≡ 0 → (lengthsRight b (st .tables) && storeLengths b (st .store) && bufferRight b call) ≡ true
   unfolding causes
-  lengths-clear e = not-false _ (clear e .0)
+  lengths-clear e = not-false _ (cleared 1 e)
 
   pub rules-clear : firstRefusal (causes b st call) ≡ 0 → (rulesKept b (st .tables) && tagsKeepRules b (st .store .tags)) ≡ true
   unfolding causes
-  rules-clear e = not-false _ (clear e .1 .0)
+  rules-clear e = not-false _ (cleared 2 e)
 
   pub store-clear : firstRefusal (causes b st call) ≡ 0 → WellFormed b (st .store)
   store-clear e =
@@ -114,87 +116,77 @@ module _ (b : Board) (st : State) (call : Single) where
   pub tables-clear : firstRefusal (causes b st call) ≡ 0 → rulesKept b (st .tables) ≡ true
   tables-clear e = and-left _ (tagsKeepRules b (st .store .tags)) (rules-clear e)
 
--- ---- what a step of a frame's record needs of its call
+  -- a device's buffer has the length that is tested
+  pub buffer-length : (buffer : List ℕ) (number : ℕ) → bufferRight b call ≡ eqb (length buffer) number → firstRefusal (causes b st call) ≡ 0 → length buffer ≡ number
+  buffer-length buffer number tested e =
+      eqb-true (length buffer) number (sym tested ∙ and-right (lengthsRight b (st .tables) && storeLengths b (st .store)) _ (lengths-clear e))
 
--- a change on a frame of the board, in a store of its lengths
-abbrev pub Ready : Board → State → Change → Type 0
-Ready b st change =
-    WellFormed b (st .store) × (change .frame < b .frames) × OpBelow (b .colours) (change .ops .first) × OpBelow (b .colours) (change .ops .second)
+-- ---- what an accepted call has tested of the frame whose record it changes
 
-ready : (b : Board) (st : State) (f : ℕ) (s : table.Step) → WellFormed b (st .store) → f < b .frames → Ready b st (changeOf b (st .tables) f s)
-ready b st f s wf hf =
-    let below = operations-below (b .colours) s (recordAt (st .tables .records) f) in
-    (wf, hf, below .1, below .2)
+-- the frame is one of the board's, and its mark does not bar a step
+abbrev pub Tested : Board → List ℕ → Effect → Type 0
+Tested b records (steps f s) = (f < b .frames) × (bars (recordAt records f .busy) s ≡ false)
+Tested b records (ends f) = f < b .frames
+Tested b records nothing = Unit {0}
 
--- an access to an offset of a page: any call whose own causes begin with those of the space, the offset and the mapping
-pub access-ready : (b : Board) (st : State) (call : Single) (s : table.Step) (space page offset : ℕ) (rest : List Cause)
-    → ownCauses b st call ≡ spaceCause space page ∷ offsetCause (b .page) offset ∷ unmappedCause (st .tables .list) space page ∷ rest
-    → firstRefusal (causes b st call) ≡ 0
-    → Ready b st (changeOf b (st .tables) (pageFrame st space page) s) × (offset < b .page)
-unfolding lentCauses
-access-ready b st call s space page offset rest own e =
-    let n = subst (λ (cs : List Cause). NoneApplies (lentCauses b st call ++ cs)) own (clear b st call e) in
-    let m = mapped-range b (st .tables) (tables-clear b st call e) space page (not-false _ (n .1 .1 .1 .1 .0)) in
-    (ready b st (pageFrame st space page) s (store-clear b st call e) (m .frame-lt), leb-false (b .page) offset (n .1 .1 .1 .0))
+-- a mark bars a write of a part and of a page alike
+part-barred : (mark : ℕ) (fewer : Bool) → bars mark table.deviceWritePart ≡ false → bars mark (cond fewer table.deviceWritePart table.deviceWrite) ≡ false
+part-barred mark true e = e
+part-barred mark false e = e
 
--- so the change that is told, and the page's colour, are what `load` and `put` require
-pub access-requires : (b : Board) (st : State) (call : Single) (s : table.Step) (space page offset : ℕ) (rest : List Cause) {change : Change} {colour : ℕ} → Regular b
-    → planStep b st call (changeOf b (st .tables) (pageFrame st space page) s) ≡ step-plan.Step change
-    → ownCauses b st call ≡ spaceCause space page ∷ offsetCause (b .page) offset ∷ unmappedCause (st .tables .list) space page ∷ rest
-    → colour ≡ colourOf b page
-    → AccessReady b (st .store) (change .frame) (change .ops) colour offset
-access-requires b st call s space page offset rest {change} reg p own e =
-    let q = planned-step _ _ change p in
-    let r = subst (λ (m : Change). Ready b st m × (offset < b .page)) (q .1) (access-ready b st call s space page offset rest own (q .0)) in
-    (r .0 .0, r .0 .1, r .0 .2, r .0 .3, subst⁻¹ (λ (k : ℕ). k < b .colours) e (colourOf-lt b reg page), r .1, reg)
+module _ (b : Board) (st : State) where
+  pub effect-tested : (call : Single) → firstRefusal (causes b st call) ≡ 0 → Tested b (st .tables .records) (effectOf b st call)
+  unfolding causes
+  effect-tested call e = go call (tables-clear b st call e) (λ n. cleared b st call n e)
+    where
+      go : (call : Single) → rulesKept b (st .tables) ≡ true → ((n : ℕ) → appliesIn n (causes b st call) ≡ false)
+          → Tested b (st .tables .records) (effectOf b st call)
+      go (map space page frame rights) kept clear = tt
+      go (unmap space page) kept clear = tt
+      go (read space page offset) kept clear = (mapped-range b (st .tables) kept space page (not-false _ (clear 8)) .frame-lt, clear 15)
+      go (write space page offset word) kept clear = (mapped-range b (st .tables) kept space page (not-false _ (clear 8)) .frame-lt, clear 15)
+      go (deviceRead frame buffer) kept clear = (leb-false (b .frames) frame (clear 4), clear 15)
+      go (deviceWrite frame buffer) kept clear = (leb-false (b .frames) frame (clear 4), clear 15)
+      go (deviceWritePart frame first number buffer) kept clear = (leb-false (b .frames) frame (clear 4), part-barred _ (ltb number (b .page)) (clear 15))
+      go (evict line) kept clear = tt
+      go (beginRead frame) kept clear = (leb-false (b .frames) frame (clear 4), clear 15)
+      go (beginWrite frame) kept clear = (leb-false (b .frames) frame (clear 4), clear 15)
+      go (bringWord frame offset word) kept clear = tt
+      go (takeWord frame offset) kept clear = tt
+      go (endTransfer frame) kept clear = leb-false (b .frames) frame (clear 4)
 
--- a step of a frame that the call names: any call whose own causes begin with the frame's
-pub frame-ready : (b : Board) (st : State) (call : Single) (s : table.Step) (frame : ℕ) (rest : List Cause) → ownCauses b st call ≡ frameCause b frame ∷ rest
-    → firstRefusal (causes b st call) ≡ 0 → Ready b st (changeOf b (st .tables) frame s)
-unfolding lentCauses
-frame-ready b st call s frame rest own e =
-    let n = subst (λ (cs : List Cause). NoneApplies (lentCauses b st call ++ cs)) own (clear b st call e) in
-    ready b st frame s (store-clear b st call e) (leb-false (b .frames) frame (n .1 .1 .0))
+-- ---- what the machine's functions require of a call that is a step of a frame's record
 
--- so the change that is told is what `carry_out` requires
-pub frame-requires : (b : Board) (st : State) (call : Single) (s : table.Step) (frame : ℕ) (rest : List Cause) {change : Change} → Regular b
-    → planStep b st call (changeOf b (st .tables) frame s) ≡ step-plan.Step change
-    → ownCauses b st call ≡ frameCause b frame ∷ rest
-    → OperationsReady b (st .store) (change .frame) (change .ops)
-frame-requires b st call s frame rest {change} reg p own =
-    let q = planned-step _ _ change p in
-    let r = subst (Ready b st) (q .1) (frame-ready b st call s frame rest own (q .0)) in
-    (r .0, r .1, r .2, r .3, reg)
+module _ (b : Board) (st : State) (call : Single) (f : ℕ) (s : table.Step) (is : effectOf b st call ≡ steps f s) where
+  -- the change that is told is what `carry_out` requires
+  pub step-requires : {change : Change} → Regular b → planStep b st call (changeOf b (st .tables) f s) ≡ step-plan.Step change
+      → OperationsReady b (st .store) (change .frame) (change .ops)
+  step-requires {change} reg p =
+      let q = planned-step _ _ change p in
+      let tested = subst (Tested b (st .tables .records)) is (effect-tested b st call (q .0)) in
+      let below = operations-below (b .colours) s (recordAt (st .tables .records) f) in
+      subst (λ (m : Change). OperationsReady b (st .store) (m .frame) (m .ops)) (q .1) (store-clear b st call (q .0), tested .0, below .1, below .2, reg)
 
--- a word at an offset of a frame: any call whose own causes begin with those of both
-pub word-ready : (b : Board) (st : State) (call : Single) (frame offset : ℕ) (rest : List Cause)
-    → ownCauses b st call ≡ frameCause b frame ∷ offsetCause (b .page) offset ∷ rest
-    → firstRefusal (causes b st call) ≡ 0 → WellFormed b (st .store) × (frame < b .frames) × (offset < b .page)
-unfolding lentCauses
-word-ready b st call frame offset rest own e =
-    let n = subst (λ (cs : List Cause). NoneApplies (lentCauses b st call ++ cs)) own (clear b st call e) in
-    (store-clear b st call e, leb-false (b .frames) frame (n .1 .1 .0), leb-false (b .page) offset (n .1 .1 .1 .0))
+  -- with an offset and the page's colour, what `load` and `put` require
+  pub access-requires : {change : Change} {colour : ℕ} (page offset : ℕ) → Regular b → planStep b st call (changeOf b (st .tables) f s) ≡ step-plan.Step change
+      → appliesIn 6 (causes b st call) ≡ leb (b .page) offset → colour ≡ colourOf b page
+      → AccessReady b (st .store) (change .frame) (change .ops) colour offset
+  access-requires {change} page offset reg p o e =
+      let r = step-requires {change = change} reg p in
+      let h = leb-false (b .page) offset (sym o ∙ cleared b st call 6 (planned-step _ _ change p .0)) in
+      (r .0, r .1, r .2, r .3, subst⁻¹ (λ (k : ℕ). k < b .colours) e (colourOf-lt b reg page), h, reg)
 
--- a transfer of a frame: one of which a buffer of so many words is tested
-pub transfer-ready : (b : Board) (st : State) (call : Single) (s : table.Step) (frame number : ℕ) (buffer : List ℕ) (rest : List Cause)
-    → ownCauses b st call ≡ frameCause b frame ∷ rest
-    → bufferRight b call ≡ eqb (length buffer) number
-    → firstRefusal (causes b st call) ≡ 0
-    → Ready b st (changeOf b (st .tables) frame s) × (length buffer ≡ number)
-transfer-ready b st call s frame number buffer rest own tested e =
-    let l = and-right (lengthsRight b (st .tables) && storeLengths b (st .store)) _ (lengths-clear b st call e) in
-    (frame-ready b st call s frame rest own e, eqb-true (length buffer) number (sym tested ∙ l))
+  -- with a buffer of a page's words, what `send` requires
+  pub transfer-requires : {change : Change} (buffer : List ℕ) → Regular b → planStep b st call (changeOf b (st .tables) f s) ≡ step-plan.Step change
+      → bufferRight b call ≡ eqb (length buffer) (b .page)
+      → TransferReady b (st .store) (change .frame) (change .ops) buffer
+  transfer-requires {change} buffer reg p tested =
+      let r = step-requires {change = change} reg p in
+      (r .0, r .1, r .2, r .3, buffer-length b st call buffer (b .page) tested (planned-step _ _ change p .0), reg)
 
--- so the change that is told is what `send` requires
-pub transfer-requires : (b : Board) (st : State) (call : Single) (s : table.Step) (frame : ℕ) (buffer : List ℕ) (rest : List Cause) {change : Change} → Regular b
-    → planStep b st call (changeOf b (st .tables) frame s) ≡ step-plan.Step change
-    → ownCauses b st call ≡ frameCause b frame ∷ rest
-    → bufferRight b call ≡ eqb (length buffer) (b .page)
-    → TransferReady b (st .store) (change .frame) (change .ops) buffer
-transfer-requires b st call s frame buffer rest {change} reg p own tested =
-    let q = planned-step _ _ change p in
-    let r = subst (λ (m : Change). Ready b st m × (length buffer ≡ b .page)) (q .1) (transfer-ready b st call s frame (b .page) buffer rest own tested (q .0)) in
-    (r .0 .0, r .0 .1, r .0 .2, r .0 .3, r .1, reg)
+pub evict-ready : (b : Board) (st : State) (line : ℕ) → firstRefusal (causes b st (evict line)) ≡ 0 → WellFormed b (st .store) × (line < lines b)
+unfolding causes
+evict-ready b st line e = (store-clear b st (evict line) e, leb-false (lines b) line (cleared b st (evict line) 6 e))
 
 -- words that are not out of the page
 inside-page : (b : Board) (first number : ℕ) → outOfPage b first number ≡ false → (0 < number) × (first + number ≤ b .page)
@@ -205,54 +197,33 @@ inside-page b first number e = go (eqb number 0) (ltb (b .page) (first + number)
     go false true en ep z = absurd (true≢false z)
     go false false en ep z = let some = eqb-false number 0 en in (omega arith, ltb-false (b .page) (first + number) ep)
 
--- each call's, for the theorems of consistency
-module _ (b : Board) (st : State) where
-  pub read-ready : (space page offset : ℕ) → firstRefusal (causes b st (read space page offset)) ≡ 0
-      → Ready b st (changeOf b (st .tables) (pageFrame st space page) (table.read (colourOf b page))) × (offset < b .page)
-  unfolding ownCauses
-  read-ready space page offset = access-ready b st (read space page offset) (table.read (colourOf b page)) space page offset _ refl
-
-  pub write-ready : (space page offset word : ℕ) → firstRefusal (causes b st (write space page offset word)) ≡ 0
-      → Ready b st (changeOf b (st .tables) (pageFrame st space page) (table.write (colourOf b page))) × (offset < b .page)
-  unfolding ownCauses
-  write-ready space page offset word = access-ready b st (write space page offset word) (table.write (colourOf b page)) space page offset _ refl
-
-  pub deviceRead-ready : (frame : ℕ) (buffer : List ℕ) → firstRefusal (causes b st (deviceRead frame buffer)) ≡ 0
-      → Ready b st (changeOf b (st .tables) frame table.deviceRead) × (length buffer ≡ b .page)
-  unfolding ownCauses
-  deviceRead-ready frame buffer = transfer-ready b st (deviceRead frame buffer) table.deviceRead frame (b .page) buffer _ refl refl
-
-  pub deviceWrite-ready : (frame : ℕ) (buffer : List ℕ) → firstRefusal (causes b st (deviceWrite frame buffer)) ≡ 0
-      → Ready b st (changeOf b (st .tables) frame table.deviceWrite) × (length buffer ≡ b .page)
-  unfolding ownCauses
-  deviceWrite-ready frame buffer = transfer-ready b st (deviceWrite frame buffer) table.deviceWrite frame (b .page) buffer _ refl refl
-
-  -- of a part there are words, and all are in the page
-  pub deviceWritePart-ready : (frame first number : ℕ) (buffer : List ℕ) → firstRefusal (causes b st (deviceWritePart frame first number buffer)) ≡ 0
-      → Ready b st (changeOf b (st .tables) frame (writeStep b number)) × (length buffer ≡ number) × (0 < number) × (first + number ≤ b .page)
-  unfolding ownCauses lentCauses
-  deviceWritePart-ready frame first number buffer e =
+module _ (b : Board) (st : State) (frame first number : ℕ) (buffer : List ℕ) where
+  -- of a part there are words, all are in the page, and the buffer has as many
+  pub part-ready : firstRefusal (causes b st (deviceWritePart frame first number buffer)) ≡ 0 → (length buffer ≡ number) × (0 < number) × (first + number ≤ b .page)
+  unfolding causes
+  part-ready e =
       let call = deviceWritePart frame first number buffer in
-      let r = transfer-ready b st call (writeStep b number) frame number buffer _ refl refl e in
-      let inside = inside-page b first number (clear b st call e .1 .1 .1 .0) in
-      (r .0, r .1, inside .0, inside .1)
+      let inside = inside-page b first number (cleared b st call 13 e) in
+      (buffer-length b st call buffer number refl e, inside .0, inside .1)
 
-  pub evict-ready : (line : ℕ) → firstRefusal (causes b st (evict line)) ≡ 0 → WellFormed b (st .store) × (line < lines b)
-  unfolding lentCauses ownCauses
-  evict-ready line e = (store-clear b st (evict line) e, leb-false (lines b) line (clear b st (evict line) e .1 .1 .0))
-
--- so the change that a part's plan told is what `receive` requires
-pub part-requires : (b : Board) (st : State) (frame first number : ℕ) (buffer : List ℕ) {change : Change} → Regular b
-    → planStep b st (deviceWritePart frame first number buffer) (changeOf b (st .tables) frame (writeStep b number)) ≡ step-plan.Step change
-    → PartReady b (st .store) (change .frame) (change .ops) first buffer
-part-requires b st frame first number buffer {change} reg p =
-    let q = planned-step _ _ change p in
-    let made = deviceWritePart-ready b st frame first number buffer (q .0) in
-    let r = subst (Ready b st) (q .1) (made .0) in
-    let long = made .1 in
-    (r .0, r .1, r .2, r .3, (omega arith), (omega arith), reg)
+  -- so the change that its plan told is what `receive` requires
+  pub part-requires : {change : Change} → Regular b
+      → planStep b st (deviceWritePart frame first number buffer) (changeOf b (st .tables) frame (writeStep b number)) ≡ step-plan.Step change
+      → PartReady b (st .store) (change .frame) (change .ops) first buffer
+  part-requires {change} reg p =
+      let made = part-ready (planned-step _ _ change p .0) in
+      let r = step-requires b st (deviceWritePart frame first number buffer) frame (writeStep b number) refl {change = change} reg p in
+      let long = made .0 in
+      (r .0, r .1, r .2, r .3, (omega arith), (omega arith), reg)
 
 -- ---- what a call answers and leaves, by the parts of its answer and of what is left
+
+-- a step of a frame's record: the tables are the manager's, and the access is made in the store after the orders
+abbrev pub stepped : Board → State → Change → (Store → Option ℕ) → (Store → List ℕ) → (Store → Store) → Result
+stepped b st change word buffer access =
+    let o : Outcome = accepted (change .frame) (change .ops) in
+    let s : Store = carryOut b o (st .store) in
+    result (answer o (word s) (buffer s)) (state (commitChange b (st .tables) (change .frame) (change .next)) (access s))
 
 made : {o o′ : Outcome} {w w′ : Option ℕ} {l l′ : List ℕ} {t t′ : Tables} {s s′ : Store} → o ≡ o′ → w ≡ w′ → l ≡ l′ → t ≡ t′ → s ≡ s′
     → result (answer o w l) (state t s) ≡ result (answer o′ w′ l′) (state t′ s′)
@@ -309,22 +280,30 @@ module _ (b : Board) (st : State) (call : Single) where
       made eo refl refl (ap (λ (l : MappingList). tables l (st .tables .records) (st .tables .protections)) el) refl
       ∙ step-refused b st call k (placed-refusal _ k place (sym p ∙ e ∙ ap list-plan.Refused (sym (ek ∙ ap placeRefusal e))))
 
-  -- an accepted call without orders
-  pub plain-made : firstRefusal (causes b st call) ≡ 0 → (word : Option ℕ) (t : Tables) (s : Store) → accept b st call ≡ plain word t s
-      → {o : Outcome} {w : Option ℕ} {t′ : Tables} {s′ : Store} → o ≡ accepted 0 noOps → w ≡ word → t′ ≡ t → s′ ≡ s
-      → result (answer o w []) (state t′ s′) ≡ step b st call
-  plain-made e word t s a eo ew et es = made eo ew refl et es ∙ sym a ∙ step-accepted b st call e
-
-  pub listed-made : firstRefusal (causes b st call) ≡ 0 → (t : Tables) (s : Store) → accept b st call ≡ listed t s
-      → {o : Outcome} {t′ : Tables} {s′ : Store} → o ≡ accepted 0 noOps → t′ ≡ t → s′ ≡ s → result (answer o none []) (state t′ s′) ≡ step b st call
-  listed-made e t s a eo et es = plain-made e none t s a eo refl et es
+  -- an accepted call without orders: its access is made in the store as it was
+  pub plain-made : firstRefusal (causes b st call) ≡ 0 → outcomeOf b (st .tables .records) (effectOf b st call) ≡ accepted 0 noOps
+      → {o : Outcome} {w : Option ℕ} {l : List ℕ} {t : Tables} {s : Store}
+      → o ≡ accepted 0 noOps
+      → w ≡ accessOf b st call (st .store) .word
+      → l ≡ accessOf b st call (st .store) .buffer
+      → t ≡ tablesAfter b st call
+      → s ≡ accessOf b st call (st .store) .store
+      → result (answer o w l) (state t s) ≡ step b st call
+  unfolding accept carryOut operate
+  plain-made e unordered eo ew el et es = made eo ew el et es ∙ ap taken (sym unordered) ∙ step-accepted b st call e
+    where
+      taken : Outcome → Result
+      taken o =
+          let a : Access = accessOf b st call (carryOut b o (st .store)) in
+          result (answer o (a .word) (a .buffer)) (state (tablesAfter b st call) (a .store))
 
   -- the plan of the list was a place, at which the tables change
   pub placed-made : (place : ℕ) {told : ℕ} → planPlace b st call place ≡ list-plan.Place told
-      → (commit : ℕ → Tables) → accept b st call ≡ listed (commit place) (st .store)
+      → (commit : ℕ → Tables) → commit place ≡ tablesAfter b st call
+      → outcomeOf b (st .tables .records) (effectOf b st call) ≡ accepted 0 noOps → accessOf b st call (st .store) ≡ accessed none [] (st .store)
       → {o : Outcome} {l l′ : MappingList} {records protections : List ℕ} → o ≡ accepted 0 noOps → l ≡ l′ → tables l′ records protections ≡ commit told
       → result (answer o none []) (state (tables l records protections) (st .store)) ≡ step b st call
-  placed-made place {told} p commit a {records = records} {protections = protections} eo el et =
+  placed-made place {told} p commit left unordered only {records = records} {protections = protections} eo el et =
       let q = placed-place _ place told p in
-      listed-made (q .0) (commit place) (st .store) a eo
-      (ap (λ (l : MappingList). tables l records protections) el ∙ et ∙ ap commit (sym (q .1))) refl
+      plain-made (q .0) unordered eo (ap (λ (a : Access). a .word) (sym only)) (ap (λ (a : Access). a .buffer) (sym only))
+      (ap (λ (l : MappingList). tables l records protections) el ∙ et ∙ ap commit (sym (q .1)) ∙ left) (ap (λ (a : Access). a .store) (sym only))

@@ -8,12 +8,11 @@ use Rattle.board.specs.declared.Board.{Board}
 use Rattle.board.specs.Board.{memoryWords, cacheWords, lines, colourOf}
 use Rattle.page_model.specs.Busy.{reading, writing}
 use Rattle.page_model.specs.Table as table
-use Rattle.mapping.specs.Lookup.{listedMapping}
 use Rattle.manager.specs.Refusals.{Cause, _if_, spaceCause, frameCause, offsetCause, partCause, unmappedCause, readOnlyCause, busyCause, wordCause, endCause, mappingCauses}
 use Rattle.manager.specs.Tables.{lengthsRight, rulesKept}
 use Rattle.cache.specs.Store.{Store}
 use Rattle.cache.specs.Tag.{tagsKeepRules}
-use Rattle.machine.specs.State.{State, Single, map, unmap, read, write, deviceRead, deviceWrite, deviceWritePart, evict, beginRead, beginWrite, bringWord, takeWord, endTransfer}
+use Rattle.machine.specs.State.{State, pageFrame, Single, map, unmap, read, write, deviceRead, deviceWrite, deviceWritePart, evict, beginRead, beginWrite, bringWord, takeWord, endTransfer}
 
 -- memory, cache words and tags have their lengths
 unfoldable pub storeLengths : Board → Store → Bool
@@ -45,7 +44,7 @@ lentCauses b st call =
 
 -- the mark of a page's frame bars this step
 abbrev pub pageBusy : State → ℕ → ℕ → table.Step → Cause
-pageBusy st space page s = busyCause (st .tables .records) (listedMapping (st .tables .list) space page .frame) s
+pageBusy st space page s = busyCause (st .tables .records) (pageFrame st space page) s
 
 -- and of its own numbers, and of the frame's mark
 unfoldable pub ownCauses : Board → State → Single → List Cause

@@ -5,6 +5,7 @@ use Prim.Native.Nat.{ℕ}
 use Rattle.manager.specs.Answers.{Outcome}
 use Rattle.mapping.specs.declared.Mapping.{Mapping}
 use Rattle.mapping.specs.declared.MappingList.{MappingList}
+use Rattle.mapping.specs.Lookup.{listedMapping}
 use Rattle.manager.specs.Tables.{Tables, tables}
 use Rattle.cache.specs.Store.{Store, store}
 
@@ -19,6 +20,10 @@ state t s = record { tables = t; store = s }
 -- what a call is lent, in its order: list, records, protections, memory, words, tags
 abbrev pub machineOf : MappingList → List ℕ → List ℕ → List ℕ → List ℕ → List ℕ → State
 machineOf list records protections memory words tags = state (tables list records protections) (store memory words tags)
+
+-- the frame of a page of a space
+abbrev pub pageFrame : State → ℕ → ℕ → ℕ
+pageFrame st space page = listedMapping (st .tables .list) space page .frame
 
 -- A single call with its numbers and words as they are passed, whatever they are. Document 01 calls evict turning out.
 pub data Single : Type 0 where

@@ -1,21 +1,17 @@
 -- What a single call answers and leaves: a refusal leaves all as it was; an accepted one asks the manager, carries out its orders, then makes
 -- the access. Document 01, "The board as modelled" and "Answers".
-use mathlib.Core.List.{List, []}
-use mathlib.Core.Option.{Option, none, some}
+use mathlib.Core.List.{List}
+use mathlib.Core.Option.{Option, none}
 use Prim.Native.Nat.{ℕ, zero, suc}
 use Rattle.board.specs.declared.Board.{Board}
-use Rattle.board.specs.Board.{colourOf}
-use Rattle.page_model.specs.Table as table
-use Rattle.mapping.specs.Lookup.{lookup, placeOf, listedMapping, placeFor}
-use Rattle.manager.specs.declared.Change.{Change}
 use Rattle.manager.specs.Answers as operation
-use Rattle.manager.specs.Answers.{Outcome, refused, accepted, FrameOperation, firstOperation, secondOperation}
-use Rattle.manager.specs.Calls.{noOps, changeOf, writeStep, commitChange, commitMap, commitUnmap, endedTables}
+use Rattle.manager.specs.Answers.{Outcome, refused, FrameOperation, firstOperation, secondOperation}
 use Rattle.manager.specs.Refusals.{firstRefusal}
-use Rattle.manager.specs.Tables.{Tables, refill}
+use Rattle.manager.specs.Tables.{Tables, tables, refill}
 use Rattle.cache.specs.Cache as hardware
-use Rattle.cache.specs.Store.{Store, memoryWord}
-use Rattle.machine.specs.State.{State, state, Single, map, unmap, read, write, deviceRead, deviceWrite, deviceWritePart, evict, beginRead, beginWrite, bringWord, takeWord, endTransfer, Answer, Result, lentBuffer}
+use Rattle.cache.specs.Store.{Store}
+use Rattle.machine.specs.Parts.{effectOf, outcomeOf, recordsAfter, listAfter, Access, accessOf}
+use Rattle.machine.specs.State.{State, state, Single, Answer, Result, lentBuffer}
 use Rattle.machine.specs.Refusals.{causes}
 
 -- ---- the orders
@@ -38,50 +34,17 @@ answer o word buffer = record { outcome = o; word = word; buffer = buffer }
 abbrev pub result : Answer → State → Result
 result a st = record { answer = a; after = st }
 
--- ---- accepted calls
+-- ---- an accepted call: its orders, the tables after it with their protections filled, and its access in the store that the orders leave
 
--- no order, and a word or none
-abbrev pub plain : Option ℕ → Tables → Store → Result
-plain word t s = result (answer (accepted 0 noOps) word []) (state t s)
-
-abbrev pub listed : Tables → Store → Result
-listed t s = plain none t s
-
--- a step of a frame's record: the tables are the manager's, and the access is made in the store after the orders
-abbrev pub stepped : Board → State → Change → (Store → Option ℕ) → (Store → List ℕ) → (Store → Store) → Result
-stepped b st change word buffer access =
-    let o : Outcome = accepted (change .frame) (change .ops) in
-    let s : Store = carryOut b o (st .store) in
-    result (answer o (word s) (buffer s)) (state (commitChange b (st .tables) (change .frame) (change .next)) (access s))
-
--- the frame of a page of a space
-abbrev pub pageFrame : State → ℕ → ℕ → ℕ
-pageFrame st space page = listedMapping (st .tables .list) space page .frame
+abbrev pub tablesAfter : Board → State → Single → Tables
+tablesAfter b st call =
+    refill b (tables (listAfter (st .tables .list) call) (recordsAfter b (st .tables .records) (effectOf b st call)) (st .tables .protections))
 
 unfoldable pub accept : Board → State → Single → Result
-accept b st (map space page frame rights) =
-    listed (commitMap b (st .tables) (placeFor (st .tables .list) space page) (record { space = space; page = page; frame = frame; rights = rights })) (st .store)
-accept b st (unmap space page) = listed (commitUnmap b (st .tables) (placeOf (lookup (st .tables .list) space page))) (st .store)
-accept b st (read space page offset) =
-    let f : ℕ = pageFrame st space page in
-    let c : ℕ = colourOf b page in
-    stepped b st (changeOf b (st .tables) f (table.read c)) (λ s. some (hardware.readWord b f c offset s)) (λ s. []) (hardware.access b f c offset)
-accept b st (write space page offset word) =
-    let f : ℕ = pageFrame st space page in
-    let c : ℕ = colourOf b page in
-    stepped b st (changeOf b (st .tables) f (table.write c)) (λ s. none) (λ s. []) (hardware.writeWord b f c offset word)
-accept b st (deviceRead frame buffer) =
-    stepped b st (changeOf b (st .tables) frame table.deviceRead) (λ s. none) (hardware.deviceRead b frame) (λ s. s)
-accept b st (deviceWrite frame buffer) =
-    stepped b st (changeOf b (st .tables) frame table.deviceWrite) (λ s. none) (λ s. []) (hardware.deviceWrite b frame 0 buffer)
-accept b st (deviceWritePart frame first number buffer) =
-    stepped b st (changeOf b (st .tables) frame (writeStep b number)) (λ s. none) (λ s. []) (hardware.deviceWrite b frame first buffer)
-accept b st (evict line) = listed (refill b (st .tables)) (hardware.evict b line (st .store))
-accept b st (beginRead frame) = stepped b st (changeOf b (st .tables) frame table.beginRead) (λ s. none) (λ s. []) (λ s. s)
-accept b st (beginWrite frame) = stepped b st (changeOf b (st .tables) frame table.beginWrite) (λ s. none) (λ s. []) (λ s. s)
-accept b st (bringWord frame offset word) = listed (refill b (st .tables)) (hardware.bringWord b frame offset word (st .store))
-accept b st (takeWord frame offset) = plain (some (memoryWord b (st .store) frame offset)) (refill b (st .tables)) (st .store)
-accept b st (endTransfer frame) = listed (endedTables b (st .tables) frame) (st .store)
+accept b st call =
+    let o : Outcome = outcomeOf b (st .tables .records) (effectOf b st call) in
+    let a : Access = accessOf b st call (carryOut b o (st .store)) in
+    result (answer o (a .word) (a .buffer)) (state (tablesAfter b st call) (a .store))
 
 -- ---- a single call
 

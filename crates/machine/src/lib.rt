@@ -49,7 +49,9 @@ pub fn map(
         (machineOf list (now (records .entry)) (now (protections .entry)) (now (memory .entry)) (now (words .entry)) (now (tags .entry)))
         (call.map (m .space) (m .page) (m .frame) (m .rights)) ⌝ }
 {
-    let plan = plans::plan_map(BOARD01, list, records, protections, memory, words, tags, m);
+    let own = plans::store_refusal(BOARD01, memory, words, tags);
+    let managers = manager::plan_map(BOARD01, list, records, protections, m);
+    let plan = plans::with_place(own, managers);
     let ListPlan::Place(place) = plan else {
         return manager::refused_as(list, place_refusal(plan));
     };
@@ -94,17 +96,9 @@ pub fn unmap(
         (machineOf list (now (records .entry)) (now (protections .entry)) (now (memory .entry)) (now (words .entry)) (now (tags .entry)))
         (call.unmap space page) ⌝ }
 {
-    let plan = plans::plan_unmap(
-        BOARD01,
-        list,
-        records,
-        protections,
-        memory,
-        words,
-        tags,
-        space,
-        page,
-    );
+    let own = plans::store_refusal(BOARD01, memory, words, tags);
+    let managers = manager::plan_unmap(BOARD01, list, records, protections, space, page);
+    let plan = plans::with_place(own, managers);
     let ListPlan::Place(place) = plan else {
         return manager::refused_as(list, place_refusal(plan));
     };
@@ -129,18 +123,9 @@ pub fn read(
         (machineOf list (now (records .entry)) (now (protections .entry)) (now (memory .entry)) (now (words .entry)) (now (tags .entry)))
         (call.read space page offset) ⌝ }
 {
-    let plan = plans::plan_read(
-        BOARD01,
-        list,
-        records,
-        protections,
-        memory,
-        words,
-        tags,
-        space,
-        page,
-        offset,
-    );
+    let own = plans::access_refusal(BOARD01, memory, words, tags, BOARD01.page, offset);
+    let managers = manager::plan_read(BOARD01, list, records, protections, space, page);
+    let plan = plans::with_step(own, managers);
     let Plan::Step(change) = plan else {
         return Loaded::Refused(refusal_of(plan));
     };
@@ -181,18 +166,9 @@ pub fn write(
         (machineOf list (now (records .entry)) (now (protections .entry)) (now (memory .entry)) (now (words .entry)) (now (tags .entry)))
         (call.write space page offset word) ⌝ }
 {
-    let plan = plans::plan_write(
-        BOARD01,
-        list,
-        records,
-        protections,
-        memory,
-        words,
-        tags,
-        space,
-        page,
-        offset,
-    );
+    let own = plans::access_refusal(BOARD01, memory, words, tags, BOARD01.page, offset);
+    let managers = manager::plan_write(BOARD01, list, records, protections, space, page);
+    let plan = plans::with_step(own, managers);
     let Plan::Step(change) = plan else {
         return Answer::Refused(refusal_of(plan));
     };
@@ -232,17 +208,9 @@ pub fn device_read(
         (machineOf list (now (records .entry)) (now (protections .entry)) (now (memory .entry)) (now (words .entry)) (now (tags .entry)))
         (call.deviceRead frame (now (buffer .entry))) ⌝ }
 {
-    let plan = plans::plan_device_read(
-        BOARD01,
-        list,
-        records,
-        protections,
-        memory,
-        words,
-        tags,
-        buffer,
-        frame,
-    );
+    let own = plans::transfer_refusal(BOARD01, memory, words, tags, buffer, BOARD01.page);
+    let managers = manager::plan_device_read(BOARD01, list, records, protections, frame);
+    let plan = plans::with_step(own, managers);
     let Plan::Step(change) = plan else {
         return Answer::Refused(refusal_of(plan));
     };
@@ -304,19 +272,17 @@ pub fn device_write_part(
         (machineOf list (now (records .entry)) (now (protections .entry)) (now (memory .entry)) (now (words .entry)) (now (tags .entry)))
         (call.deviceWritePart frame first number (now (buffer .entry))) ⌝ }
 {
-    let plan = plans::plan_device_write_part(
+    let own = plans::transfer_refusal(BOARD01, memory, words, tags, buffer, number);
+    let managers = manager::plan_device_write_part(
         BOARD01,
         list,
         records,
         protections,
-        memory,
-        words,
-        tags,
-        buffer,
         frame,
         first,
         number,
     );
+    let plan = plans::with_step(own, managers);
     let Plan::Step(change) = plan else {
         return Answer::Refused(refusal_of(plan));
     };
@@ -544,17 +510,9 @@ fn begin(
         (machineOf list (now (records .entry)) (now (protections .entry)) (now (memory .entry)) (now (words .entry)) (now (tags .entry)))
         (begins writes frame) ⌝ }
 {
-    let plan = plans::plan_begin(
-        BOARD01,
-        list,
-        records,
-        protections,
-        memory,
-        words,
-        tags,
-        frame,
-        writes,
-    );
+    let own = plans::store_refusal(BOARD01, memory, words, tags);
+    let managers = manager::plan_begin(BOARD01, list, records, protections, frame, writes);
+    let plan = plans::with_step(own, managers);
     let Plan::Step(change) = plan else {
         return Answer::Refused(refusal_of(plan));
     };

@@ -1,195 +1,23 @@
-// What a call would do, told before anything changes: the machine's own refusal beside the manager's plan.
+// The machine's own refusals, told before anything changes, and the manager's plan or refusal beside them.
 ghost use mathlib.Core.Path.{_≡_};
 ghost use mathlib.Core.Bool.{true};
 ghost use lib.Dec.{eqb};
 ghost use lib.ListN.{length};
-ghost use Rattle.board.specs.Board.{Regular, colourOf};
-ghost use Rattle.page_model.specs.Table as step;
-ghost use Rattle.mapping.specs.Lookup.{lookup, placeOf, listedMapping, placeFor};
-ghost use Rattle.manager.specs.Calls.{changeOf, writeStep, beginStep};
+ghost use Rattle.board.specs.Board.{Regular};
 ghost use Rattle.manager.specs.Tables.{tables};
 ghost use Rattle.manager.specs.Refusals.{firstRefusal, tableCauses};
 ghost use Rattle.cache.specs.Store.{store};
 ghost use Rattle.machine.specs.Refusals.{causes};
 ghost use Rattle.machine.specs.State as call;
 ghost use Rattle.machine.specs.State.{machineOf};
-ghost use Rattle.machine.specs.Plans.{planStep, planPlace, storeCauses, accessCauses, earlier, withStep, withPlace, begins, MovesWord};
+ghost use Rattle.machine.specs.Plans.{storeCauses, accessCauses, earlier, withStep, withPlace, MovesWord};
 use board::Board;
 use manager::ListPlan;
 use manager::Plan;
+use manager::refusals::first;
+use manager::refusals::or_else;
 use manager::refusals::place;
-use mapping::Mapping;
 use mapping::MappingList;
-
-// What `map` would do.
-pub fn plan_map(
-    board: Board,
-    list: MappingList,
-    records: &[u32],
-    protections: &[u8],
-    memory: &[u32],
-    words: &[u32],
-    tags: &[u8],
-    m: Mapping,
-) -> ListPlan
-    requires { ⌜ Regular board ⌝ }
-    ensures { λ r. ⌜ r ≡ planPlace board
-        (machineOf list (now (records .entry)) (now (protections .entry)) (now (memory .entry)) (now (words .entry)) (now (tags .entry)))
-        (call.map (m .space) (m .page) (m .frame) (m .rights)) (placeFor list (m .space) (m .page)) ⌝ }
-{
-    let own = store_refusal(board, memory, words, tags);
-    let plan = manager::plan_map(board, list, records, protections, m);
-    with_place(own, plan)
-}
-
-// What `unmap` would do.
-pub fn plan_unmap(
-    board: Board,
-    list: MappingList,
-    records: &[u32],
-    protections: &[u8],
-    memory: &[u32],
-    words: &[u32],
-    tags: &[u8],
-    space: u8,
-    page: u16,
-) -> ListPlan
-    requires { ⌜ Regular board ⌝ }
-    ensures { λ r. ⌜ r ≡ planPlace board
-        (machineOf list (now (records .entry)) (now (protections .entry)) (now (memory .entry)) (now (words .entry)) (now (tags .entry)))
-        (call.unmap space page) (placeOf (lookup list space page)) ⌝ }
-{
-    let own = store_refusal(board, memory, words, tags);
-    let plan = manager::plan_unmap(board, list, records, protections, space, page);
-    with_place(own, plan)
-}
-
-// What `read` would do.
-pub fn plan_read(
-    board: Board,
-    list: MappingList,
-    records: &[u32],
-    protections: &[u8],
-    memory: &[u32],
-    words: &[u32],
-    tags: &[u8],
-    space: u8,
-    page: u16,
-    offset: usize,
-) -> Plan
-    requires { ⌜ Regular board ⌝ }
-    ensures { λ r. ⌜ r ≡ planStep board
-        (machineOf list (now (records .entry)) (now (protections .entry)) (now (memory .entry)) (now (words .entry)) (now (tags .entry)))
-        (call.read space page offset)
-        (changeOf board (tables list (now (records .entry)) (now (protections .entry))) (listedMapping list space page .frame) (step.read (colourOf board page))) ⌝ }
-{
-    let own = access_refusal(board, memory, words, tags, board.page, offset);
-    let plan = manager::plan_read(board, list, records, protections, space, page);
-    with_step(own, plan)
-}
-
-// What `write` would do, whatever the word.
-pub fn plan_write(
-    board: Board,
-    list: MappingList,
-    records: &[u32],
-    protections: &[u8],
-    memory: &[u32],
-    words: &[u32],
-    tags: &[u8],
-    space: u8,
-    page: u16,
-    offset: usize,
-) -> Plan
-    requires { ⌜ Regular board ⌝ }
-    ensures { λ r. ⌜ r ≡ planStep board
-        (machineOf list (now (records .entry)) (now (protections .entry)) (now (memory .entry)) (now (words .entry)) (now (tags .entry)))
-        (call.write space page offset 0)
-        (changeOf board (tables list (now (records .entry)) (now (protections .entry))) (listedMapping list space page .frame) (step.write (colourOf board page))) ⌝ }
-{
-    let own = access_refusal(board, memory, words, tags, board.page, offset);
-    let plan = manager::plan_write(board, list, records, protections, space, page);
-    with_step(own, plan)
-}
-
-// What `device_read` would do.
-pub fn plan_device_read(
-    board: Board,
-    list: MappingList,
-    records: &[u32],
-    protections: &[u8],
-    memory: &[u32],
-    words: &[u32],
-    tags: &[u8],
-    buffer: &[u32],
-    frame: u8,
-) -> Plan
-    requires { ⌜ Regular board ⌝ }
-    ensures { λ r. ⌜ r ≡ planStep board
-        (machineOf list (now (records .entry)) (now (protections .entry)) (now (memory .entry)) (now (words .entry)) (now (tags .entry)))
-        (call.deviceRead frame (now (buffer .entry)))
-        (changeOf board (tables list (now (records .entry)) (now (protections .entry))) frame step.deviceRead) ⌝ }
-{
-    let own = transfer_refusal(board, memory, words, tags, buffer, board.page);
-    let plan = manager::plan_device_read(board, list, records, protections, frame);
-    with_step(own, plan)
-}
-
-// What `device_write_part` would do.
-pub fn plan_device_write_part(
-    board: Board,
-    list: MappingList,
-    records: &[u32],
-    protections: &[u8],
-    memory: &[u32],
-    words: &[u32],
-    tags: &[u8],
-    buffer: &[u32],
-    frame: u8,
-    first: usize,
-    number: usize,
-) -> Plan
-    requires { ⌜ Regular board ⌝ }
-    ensures { λ r. ⌜ r ≡ planStep board
-        (machineOf list (now (records .entry)) (now (protections .entry)) (now (memory .entry)) (now (words .entry)) (now (tags .entry)))
-        (call.deviceWritePart frame first number (now (buffer .entry)))
-        (changeOf board (tables list (now (records .entry)) (now (protections .entry))) frame (writeStep board number)) ⌝ }
-{
-    let own = transfer_refusal(board, memory, words, tags, buffer, number);
-    let plan = manager::plan_device_write_part(
-        board,
-        list,
-        records,
-        protections,
-        frame,
-        first,
-        number,
-    );
-    with_step(own, plan)
-}
-
-// What `begin_write` or `begin_read` would do.
-pub fn plan_begin(
-    board: Board,
-    list: MappingList,
-    records: &[u32],
-    protections: &[u8],
-    memory: &[u32],
-    words: &[u32],
-    tags: &[u8],
-    frame: u8,
-    writes: bool,
-) -> Plan
-    requires { ⌜ Regular board ⌝ }
-    ensures { λ r. ⌜ r ≡ planStep board
-        (machineOf list (now (records .entry)) (now (protections .entry)) (now (memory .entry)) (now (words .entry)) (now (tags .entry)))
-        (begins writes frame)
-        (changeOf board (tables list (now (records .entry)) (now (protections .entry))) frame (beginStep writes)) ⌝ }
-{
-    let own = store_refusal(board, memory, words, tags);
-    let plan = manager::plan_begin(board, list, records, protections, frame, writes);
-    with_step(own, plan)
-}
 
 // The refusal of a word at an offset of a transfer that has this mark, or 0.
 pub fn word_refusal(
@@ -289,7 +117,7 @@ pub fn lent_refusal(
 }
 
 // The refusal in memory, cache words and tags, or 0.
-fn store_refusal(board: Board, memory: &[u32], words: &[u32], tags: &[u8]) -> u8
+pub fn store_refusal(board: Board, memory: &[u32], words: &[u32], tags: &[u8]) -> u8
     requires { ⌜ Regular board ⌝ }
     ensures { λ r. ⌜ r ≡ firstRefusal (storeCauses board (store (now (memory .entry)) (now (words .entry)) (now (tags .entry))) true) ⌝ }
 {
@@ -309,7 +137,7 @@ fn store_refusal(board: Board, memory: &[u32], words: &[u32], tags: &[u8]) -> u8
 }
 
 // The same with a device's buffer of so many words.
-fn transfer_refusal(
+pub fn transfer_refusal(
     board: Board,
     memory: &[u32],
     words: &[u32],
@@ -327,7 +155,7 @@ fn transfer_refusal(
 }
 
 // The same with an offset, or a line, and its limit.
-fn access_refusal(
+pub fn access_refusal(
     board: Board,
     memory: &[u32],
     words: &[u32],
@@ -338,18 +166,14 @@ fn access_refusal(
     requires { ⌜ Regular board ⌝ }
     ensures { λ r. ⌜ r ≡ firstRefusal (accessCauses board (store (now (memory .entry)) (now (words .entry)) (now (tags .entry))) limit offset) ⌝ }
 {
-    let refusal = store_refusal(board, memory, words, tags);
-    if refusal != 0 {
-        return refusal;
-    }
-    if offset >= limit {
-        return 6;
-    }
-    0
+    or_else(
+        store_refusal(board, memory, words, tags),
+        first(offset >= limit, 6, 0),
+    )
 }
 
 // The manager's refusal is handed on, unless the machine's own stands earlier.
-fn with_step(own: u8, plan: Plan) -> Plan
+pub fn with_step(own: u8, plan: Plan) -> Plan
     ensures { λ r. ⌜ r ≡ withStep own plan ⌝ }
 {
     let Plan::Refused(number) = plan else {
@@ -362,7 +186,7 @@ fn with_step(own: u8, plan: Plan) -> Plan
 }
 
 // The same for a plan of the list.
-fn with_place(own: u8, plan: ListPlan) -> ListPlan
+pub fn with_place(own: u8, plan: ListPlan) -> ListPlan
     ensures { λ r. ⌜ r ≡ withPlace own plan ⌝ }
 {
     let ListPlan::Refused(number) = plan else {

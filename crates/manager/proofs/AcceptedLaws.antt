@@ -23,7 +23,7 @@ use Rattle.manager.specs.Refusals.{firstRefusal, tableCauses, mapCauses,
 use Rattle.manager.specs.Inserted.{mappingRefusal}
 use Rattle.manager.specs.Tables.{Tables, recordWords, recordsKeepRules, lengthsRight, rulesKept}
 use Rattle.manager.specs.Theorems.{WellFormed}
-use Rattle.manager.proofs.CauseLaws.{list-rules, none-applies, refusal-rest}
+use Rattle.manager.proofs.CauseLaws.{list-rules, cleared-in, refusal-rest}
 
 -- ---- the tables' lengths and rules, part by part
 
@@ -57,25 +57,25 @@ pub mapping-accepted : (b : Board) (l : MappingList) (m : Mapping) → mappingRe
     → InRange b m × (lookup l (m .space) (m .page) ≡ Nothing) × (l .count ≢ capacity)
 unfolding mappingRefusal
 mapping-accepted b l m e =
-    let n = none-applies (mappingCauses b l (m .space) (m .page) (m .frame) (m .rights)) refl e in
-    let within = or-neither (leb spaces (m .space)) (leb pages (m .page)) (n .0) in (
+    let cs = mappingCauses b l (m .space) (m .page) (m .frame) (m .rights) in
+    let within = or-neither (leb spaces (m .space)) (leb pages (m .page)) (cleared-in cs 3 refl e) in (
       record {
         space-lt = leb-false _ _ (within .0);
         page-lt = leb-false _ _ (within .1);
-        frame-lt = leb-false _ _ (n .1 .0);
-        rights-of = ⊎-elim (λ r. inl (eqb-true _ _ r)) (λ r. inr (eqb-true _ _ r)) (or-either _ _ (not-false _ (n .1 .1 .0)));
+        frame-lt = leb-false _ _ (cleared-in cs 4 refl e);
+        rights-of = ⊎-elim (λ r. inl (eqb-true _ _ r)) (λ r. inr (eqb-true _ _ r)) (or-either _ _ (not-false _ (cleared-in cs 5 refl e)));
       },
-      not-found _ (n .1 .1 .1 .0),
-      eqb-false (l .count) capacity (n .1 .1 .1 .1 .0),
+      not-found _ (cleared-in cs 7 refl e),
+      eqb-false (l .count) capacity (cleared-in cs 9 refl e),
     )
 
 pub map-accepted : (b : Board) (t : Tables) (m : Mapping) → firstRefusal (mapCauses b t (m .space) (m .page) (m .frame) (m .rights)) ≡ 0
     → WellFormed b t × InRange b m × (lookup (t .list) (m .space) (m .page) ≡ Nothing) × (t .list .count < capacity)
 unfolding firstRefusal mapCauses mappingRefusal tableCauses
 map-accepted b t m e =
-    let n = none-applies (mapCauses b t (m .space) (m .page) (m .frame) (m .rights)) refl e in
-    let kept : rulesKept b t ≡ true = not-false _ (n .1 .0) in
-    let lengths : lengthsRight b t ≡ true = not-false _ (n .0) in
+    let cs = mapCauses b t (m .space) (m .page) (m .frame) (m .rights) in
+    let kept : rulesKept b t ≡ true = not-false _ (cleared-in cs 2 refl e) in
+    let lengths : lengthsRight b t ≡ true = not-false _ (cleared-in cs 1 refl e) in
     let some = list-rules b t kept .count-le in
     let own = mapping-accepted b (t .list) m (refusal-rest (tableCauses b t) (mappingCauses b (t .list) (m .space) (m .page) (m .frame) (m .rights)) refl (rw (lengths, kept)) ∙ e) in
     let room = own .2 in

@@ -19,7 +19,7 @@ use Rattle.manager.specs.Calls.{noOps}
 use Rattle.manager.specs.Refusals.{_if_, batchCause}
 use Rattle.manager.specs.Tables.{Tables, tables, protectionAt, tabulate, refill}
 use Rattle.manager.proofs.AcceptedLaws.{or-neither}
-use Rattle.manager.proofs.CauseLaws.{none-applies}
+use Rattle.manager.proofs.CauseLaws.{cleared-in}
 
 -- ---- one more item
 
@@ -51,9 +51,9 @@ module _ (b : Board) (l : MappingList) (items : List Mapping) (k : ℕ) {before 
 pub whole-clear : (lent items answers : ℕ) → wholeRefusal lent items answers ≡ 0 → (eqb lent 1 ≡ false) × (items ≤ batchSize) × (answers ≡ items)
 unfolding wholeRefusal
 whole-clear lent items answers e =
-    let n = none-applies ((1 if eqb lent 1) ∷ batchCause items answers ∷ []) refl e in
-    let fits = or-neither (ltb batchSize items) (not (eqb answers items)) (n .1 .0) in
-    (n .0, ltb-false _ _ (fits .0), eqb-true _ _ (not-false _ (fits .1)))
+    let cs = (1 if eqb lent 1) ∷ batchCause items answers ∷ [] in
+    let fits = or-neither (ltb batchSize items) (not (eqb answers items)) (cleared-in cs 12 refl e) in
+    (cleared-in cs 1 refl e, ltb-false _ _ (fits .0), eqb-true _ _ (not-false _ (fits .1)))
 
 -- the tables with another list, whose mappings are as many, or more
 pub relisted-same : (b : Board) (t : Tables) (l : MappingList) → l .count ≡ t .list .count → tables l (t .records) (t .protections) ≡ relisted b t l

@@ -3,9 +3,10 @@ use mathlib.Core.Path.{_≡_, refl, sym, ap, ap₂, _∙_}
 use mathlib.Core.Bool.{Bool, true, false, not, cond, _&&_, false≢true}
 use mathlib.Core.List.{List, [], _∷_, _++_}
 use Prim.Native.Nat.{ℕ, zero, suc, _*_, _<_}
+use native.Mathlib.Decide.{ℕ-discrete}
 use native.Mathlib.Omega.{arith}
-use borrow.Author.Tests.{eq-eqb, ltb-true, leb-false, not-false}
-use lib.Dec.{eqb, leb, ltb}
+use borrow.Author.Tests.{eq-eqb, ne-eqb, ltb-true, leb-false, not-false}
+use lib.Dec.{eqb, ltb}
 use lib.ListN.{length}
 use Rattle.bits.proofs.Mask.{all-at}
 use Rattle.bits.proofs.Tautology.{and-left, and-right}
@@ -21,7 +22,7 @@ use Rattle.mapping.specs.Look.{find, look}
 use Rattle.mapping.specs.Lookup.{lookup, found, isMapped, placeOf, listedMapping, placeFor}
 use Rattle.mapping.specs.Rules as list-of
 use Rattle.mapping.proofs.Laws.{keepsRules-true, lookup-at, found-place, look-kept, look-broken}
-use Rattle.manager.specs.Refusals.{Cause, firstRefusal, tableCauses, pageCauses, frameCause, toldTables, toldMapping, toldPage, outOfSpace, isRight}
+use Rattle.manager.specs.Refusals.{Cause, firstRefusal, orElse, tableCauses, pageCauses, frameCause, toldTables}
 use Rattle.manager.specs.Tables.{Tables, tables, recordWords, recordAt, recordsKeepRules, lengthsRight, rulesKept}
 
 -- ---- the lent tables
@@ -50,19 +51,6 @@ module _ (b : Board) (t : Tables) where
       go true false h = absurd (omega arith)
       go false r h = absurd (omega arith)
 
--- ---- a refusal by what was told is what is known of its conditions, in their order
-
-pub mapping-refusal-is : (b : Board) (space page frame rights : ℕ) (seen : Seen) {o f r t n : Bool} → outOfSpace space page ≡ o → leb (b .frames) frame ≡ f
-    → isRight rights ≡ r → seen .mapped ≡ t → eqb (seen .count) capacity ≡ n
-    → cond o 3 (cond f 4 (cond (not r) 5 (cond t 7 (cond n 9 0)))) ≡ firstRefusal (toldMapping b space page frame rights seen)
-unfolding firstRefusal
-mapping-refusal-is b space page frame rights seen eo ef er et en = rw (eo, ef, er, et, en)
-
-pub page-refusal-is : (space page : ℕ) (seen : Seen) {o m : Bool} → outOfSpace space page ≡ o → seen .mapped ≡ m
-    → cond o 3 (cond (not m) 8 0) ≡ firstRefusal (toldPage space page seen)
-unfolding firstRefusal
-page-refusal-is space page seen eo em = rw (eo, em)
-
 -- ---- no refusal: no cause applies
 
 abbrev pub NoneApplies : List Cause → Type 0
@@ -82,6 +70,22 @@ none-applies (c ∷ cs) n e = go (c .applies) refl (none-applies cs (and-right (
     go : (a : Bool) → c .applies ≡ a → (firstRefusal cs ≡ 0 → NoneApplies cs) → (c .applies ≡ false) × NoneApplies cs
     go true z rest = absurd (let p = ltb-true 0 (c .number) (and-left _ (numbered cs) n) in let q : c .number ≡ 0 = ap (λ (t : Bool). cond t (c .number) (firstRefusal cs)) (sym z) ∙ e in omega arith)
     go false z rest = (z, rest (ap (λ (t : Bool). cond t (c .number) (firstRefusal cs)) (sym z) ∙ e))
+
+-- so none of a number does: whether the first cause of this number applies, and that it does not where none does
+abbrev pub appliesIn : ℕ → List Cause → Bool
+appliesIn n [] = false
+appliesIn n (c ∷ cs) = cond (eqb (c .number) n) (c .applies) (appliesIn n cs)
+
+by-number : (n : ℕ) (cs : List Cause) → NoneApplies cs → appliesIn n cs ≡ false
+by-number n [] h = refl
+by-number n (c ∷ cs) h = go (eqb (c .number) n) (by-number n cs (h .1))
+  where
+    go : (t : Bool) → appliesIn n cs ≡ false → cond t (c .applies) (appliesIn n cs) ≡ false
+    go true rest = h .0
+    go false rest = rest
+
+pub cleared-in : (cs : List Cause) (n : ℕ) → numbered cs ≡ true → firstRefusal cs ≡ 0 → appliesIn n cs ≡ false
+cleared-in cs n z e = by-number n cs (none-applies cs z e)
 
 -- the causes before others give the refusal, if they give one
 pub refusal-prefix : (cs ds : List Cause) → (firstRefusal cs ≡ 0 → ⊥) → firstRefusal cs ≡ firstRefusal (cs ++ ds)
@@ -103,14 +107,13 @@ refusal-rest (c ∷ cs) ds n e =
     refusal-rest cs ds (and-right (ltb 0 (c .number)) _ n) (ap (λ (t : Bool). cond t (c .number) (firstRefusal cs)) (sym (none .0)) ∙ e)
     ∙ ap (λ (t : Bool). cond t (c .number) (firstRefusal (cs ++ ds))) (sym (none .0))
 
--- the causes behind those of the tables
-module _ (b : Board) (kept : Bool) (rs ps : List ℕ) (own : List Cause) where
-  pub told-first : (firstRefusal (toldTables b kept rs ps) ≡ 0 → ⊥) → firstRefusal (toldTables b kept rs ps) ≡ firstRefusal (toldTables b kept rs ps ++ own)
-  told-first = refusal-prefix (toldTables b kept rs ps) own
-
-  pub told-past : firstRefusal (toldTables b kept rs ps) ≡ 0 → firstRefusal own ≡ firstRefusal (toldTables b kept rs ps ++ own)
-  unfolding toldTables
-  told-past = refusal-rest (toldTables b kept rs ps) own refl
+-- so the refusal of both is that of the one, else of the other
+pub or-else-is : (cs ds : List Cause) → numbered cs ≡ true → orElse (firstRefusal cs) (firstRefusal ds) ≡ firstRefusal (cs ++ ds)
+or-else-is cs ds n = go (ℕ-discrete (firstRefusal cs) 0)
+  where
+    go : Dec (firstRefusal cs ≡ 0) → orElse (firstRefusal cs) (firstRefusal ds) ≡ firstRefusal (cs ++ ds)
+    go (yes h) = rw (eq-eqb _ _ h) (refusal-rest cs ds n h)
+    go (no h) = rw (ne-eqb _ _ h) (refusal-prefix cs ds h)
 
 -- ---- what the tables' rules tell of a frame
 
@@ -196,27 +199,26 @@ module _ (b : Board) (t : Tables) (space page : ℕ) where
       → record-of.keepsRules (b .colours) (recordAt (t .records) (listedMapping (t .list) space page .frame)) ≡ true
   unfolding pageCauses
   page-rules rest z e =
-      let n = none-applies (pageCauses b t space page ++ rest) z e in
-      mapped-rules b t (not-false _ (n .1 .0)) space page (not-false _ (n .1 .1 .1 .0))
+      let cs = pageCauses b t space page ++ rest in
+      mapped-rules b t (not-false _ (cleared-in cs 2 z e)) space page (not-false _ (cleared-in cs 8 z e))
 
 pub transfer-rules : (b : Board) (t : Tables) (f : ℕ) (rest : List Cause) → numbered rest ≡ true → firstRefusal (tableCauses b t ++ frameCause b f ∷ rest) ≡ 0
     → record-of.keepsRules (b .colours) (recordAt (t .records) f) ≡ true
 unfolding tableCauses
 transfer-rules b t f rest z e =
-    let n = none-applies (tableCauses b t ++ frameCause b f ∷ rest) z e in
-    record-rules b t (not-false _ (n .1 .0)) f (leb-false (b .frames) f (n .1 .1 .0))
+    let cs = tableCauses b t ++ frameCause b f ∷ rest in
+    record-rules b t (not-false _ (cleared-in cs 2 z e)) f (leb-false (b .frames) f (cleared-in cs 4 z e))
 
 -- ---- a call that is not refused: the list keeps its rules
 
 pub call-list-keeps : (b : Board) (t : Tables) (own : List Cause) → numbered own ≡ true → firstRefusal (tableCauses b t ++ own) ≡ 0 → list-of.keepsRules b (t .list) ≡ true
 unfolding tableCauses
-call-list-keeps b t own n e = list-keeps b t (not-false _ (none-applies (tableCauses b t ++ own) n e .1 .0))
+call-list-keeps b t own n e = list-keeps b t (not-false _ (cleared-in (tableCauses b t ++ own) 2 n e))
 
 -- the place of a page that is mapped is where a mapping of it would go
 pub page-place : (b : Board) (t : Tables) (space page : ℕ) → firstRefusal (pageCauses b t space page) ≡ 0
     → placeFor (t .list) space page ≡ placeOf (lookup (t .list) space page)
 unfolding pageCauses
 page-place b t space page e =
-    let n = none-applies (pageCauses b t space page) refl e in
-    let kept = not-false _ (n .1 .0) in
-    found-place b (t .list) (list-rules b t kept) space page _ (mapped-found b t kept space page (not-false _ (n .1 .1 .1 .0)))
+    let kept = not-false _ (cleared-in (pageCauses b t space page) 2 refl e) in
+    found-place b (t .list) (list-rules b t kept) space page _ (mapped-found b t kept space page (not-false _ (cleared-in (pageCauses b t space page) 8 refl e)))

@@ -1,15 +1,16 @@
 -- Of causes that stand in the order of the refusals, the refusal is the first that applies.
-use mathlib.Core.Path.{_≡_, refl, sym, ap, _∙_}
-use mathlib.Core.Bool.{Bool, true, false, cond, false≢true}
+use mathlib.Core.Path.{_≡_, refl, sym, ap, ap₂, _∙_}
+use mathlib.Core.Bool.{Bool, true, false, cond, _&&_, false≢true}
 use mathlib.Core.List.{List, [], _∷_, List·Memᴰ, List·Memᴰ·head, List·Memᴰ·tail, List·Memᴰ·cases-cons, List·Memᴰ·not-nil}
 use mathlib.Core.Logic.{⊎-elim}
 use Prim.Native.Nat.{ℕ, zero, suc, _≤_, _<_}
 use native.Mathlib.Omega.{arith}
-use borrow.Author.Tests.{leb-true, ltb-true, eq-eqb, ne-eqb}
+use borrow.Author.Tests.{leb-true, ltb-true, lt-ltb, eq-eqb, ne-eqb}
 use lib.ListN.{length, getD}
 use Rattle.bits.proofs.Tautology.{and-left, and-right}
 use Rattle.manager.specs.Refusals.{Cause, _if_, firstRefusal, refusalOrder, placeIn, refusalPlace, inOrder}
 use Rattle.manager.specs.Theorems.{First, FirstRefusal}
+use Rattle.manager.proofs.CauseLaws.{numbered}
 
 -- ---- the place of a number in a list
 
@@ -44,6 +45,13 @@ module _ (n : ℕ) (d : Cause) (ds : List Cause) (o : inOrder n (d ∷ ds) ≡ t
   pub is-numbered : d .number ≡ 0 → ⊥
   unfolding refusalPlace
   is-numbered e = let z = ap refusalPlace e in omega (arith, listed)
+
+-- so no number is 0
+pub in-order-numbered : (n : ℕ) (cs : List Cause) → inOrder n cs ≡ true → numbered cs ≡ true
+in-order-numbered n [] o = refl
+in-order-numbered n (c ∷ cs) o =
+    let z = is-numbered n c cs o in
+    ap₂ _&&_ (lt-ltb 0 (c .number) (omega arith)) (in-order-numbered _ cs (rest-in-order n c cs o))
 
 -- each stands no earlier than the place that they start from
 from-place : (n : ℕ) (cs : List Cause) → inOrder n cs ≡ true → (c : Cause) → List·Memᴰ c cs → n ≤ refusalPlace (c .number)

@@ -15,12 +15,12 @@ use Rattle.mapping.specs.declared.Mapping.{Mapping}
 use Rattle.mapping.specs.Change.{insert, remove}
 use Rattle.mapping.specs.Entry.{capacity}
 use Rattle.mapping.specs.Facts.{InRange, Rules}
-use Rattle.mapping.specs.Lookup.{lookup, isMapped, placeOf, listedMapping, placeFor}
+use Rattle.mapping.specs.Lookup.{lookup, isMapped, placeOf, placeFor}
 use Rattle.mapping.proofs.Laws.{rules-keepsRules, inserted-length, inserted-rules, remove-length, remove-rules}
 use Rattle.manager.specs.Calls.{commitMap, commitUnmap, commitChange, endedTables}
 use Rattle.manager.specs.Tables.{Tables, tables, recordWords, recordAt, putRecord, recordsKeepRules, refill}
 use Rattle.manager.specs.Theorems.{WellFormed}
-use Rattle.manager.proofs.CauseLaws.{lengths-right, rules-kept, list-rules, record-rules, mapped-found, mapped-range}
+use Rattle.manager.proofs.CauseLaws.{lengths-right, rules-kept, list-rules, record-rules, mapped-found}
 use Rattle.manager.proofs.Laws.{length-tabulate}
 use Rattle.manager.proofs.RecordLaws.{length-putRecord, putRecord-rules}
 use Rattle.manager.proofs.AcceptedLaws.{lengths-known, records-rules}
@@ -46,12 +46,6 @@ module _ (b : Board) (t : Tables) (w : WellFormed b t) where
   pub step-keeps : (f : ℕ) (s : step.Step) → f < b .frames → bars (recordAt (t .records) f .busy) s ≡ false
       → WellFormed b (commitChange b t f (stepped (b .colours) s (recordAt (t .records) f) .next))
   step-keeps f s h free = commit-keeps f _ h (step-keeps-rules (b .colours) s _ (record-rules b t (w .1) f h) free)
-
-  -- a step through a page that is mapped
-  pub page-keeps : (space page : ℕ) (s : step.Step) → isMapped (t .list) space page ≡ true
-      → bars (recordAt (t .records) (listedMapping (t .list) space page .frame) .busy) s ≡ false
-      → WellFormed b (commitChange b t (listedMapping (t .list) space page .frame) (stepped (b .colours) s (recordAt (t .records) (listedMapping (t .list) space page .frame)) .next))
-  page-keeps space page s m = step-keeps _ s (mapped-range b t (w .1) space page m .frame-lt)
 
   -- the end of a transfer
   pub end-keeps : (f : ℕ) → f < b .frames → WellFormed b (endedTables b t f)

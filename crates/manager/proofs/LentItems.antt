@@ -17,7 +17,7 @@ use Rattle.manager.specs.Batch.{answerAt, tablesAfter, BatchResult, batc
 use Rattle.manager.specs.Calls.{noOps}
 use Rattle.manager.specs.Refusals.{Cause, _if_, firstRefusal, batchCause}
 use Rattle.manager.specs.Tables.{Tables, lengthsRight, tabulate}
-use Rattle.manager.proofs.CauseLaws.{none-applies}
+use Rattle.manager.proofs.CauseLaws.{cleared-in}
 
 -- ---- what refuses the whole, whatever else is lent
 
@@ -28,8 +28,7 @@ module _ (lengths : Bool) (items : List Mapping) (answers : List ℕ) where
   -- one that is too long is refused
   pub long-refused : batchSize < length items → firstRefusal (wholeCauses items) ≡ 0 → ⊥
   long-refused h e =
-      let n = none-applies (wholeCauses items) refl e in
-      true≢false (sym (ap (λ (l : Bool). l || not (eqb (length answers) (length items))) (lt-ltb batchSize (length items) h)) ∙ n .1 .0)
+      true≢false (sym (ap (λ (l : Bool). l || not (eqb (length answers) (length items))) (lt-ltb batchSize (length items) h)) ∙ cleared-in (wholeCauses items) 12 refl e)
 
   pub lent-refusal : firstRefusal (wholeCauses (itemsOf (batchOf items))) ≡ firstRefusal (wholeCauses items)
   lent-refusal = ap (λ (n : ℕ). firstRefusal ((1 if not lengths) ∷ batchCause n (length answers) ∷ [])) (batch-of-length items)

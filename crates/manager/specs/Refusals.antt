@@ -29,6 +29,10 @@ unfoldable pub firstRefusal : List Cause → ℕ
 firstRefusal [] = 0
 firstRefusal (c ∷ rest) = cond (c .applies) (c .number) (firstRefusal rest)
 
+-- a refusal, 0 for none, else another
+abbrev pub orElse : ℕ → ℕ → ℕ
+orElse n later = cond (not (eqb n 0)) n later
+
 -- ---- the order of the refusals
 
 -- the numbers in the order in which document 01, with the requests, has them tested

@@ -1,8 +1,9 @@
 // The causes of refusal of each call: the first that applies, or 0.
+ghost use mathlib.Core.Bool.{cond};
 ghost use mathlib.Core.List.{[], _∷_, _++_};
 ghost use mathlib.Core.Path.{_≡_};
 ghost use Rattle.board.specs.Board.{Regular};
-ghost use Rattle.manager.specs.Refusals.{firstRefusal, refusalPlace, toldTables, toldMapping, toldPage, toldWrite, frameCause, partCause, offsetCause, wordCause, endCause, outOfSpace, outOfPage, isRight};
+ghost use Rattle.manager.specs.Refusals.{firstRefusal, orElse, refusalPlace, toldTables, toldMapping, toldPage, toldWrite, frameCause, partCause, offsetCause, wordCause, endCause, outOfSpace, outOfPage, isRight};
 use super::records::RECORD_WORDS;
 use super::records::record_at;
 use super::records::records_keep_rules;
@@ -55,33 +56,21 @@ pub fn map_refusal(board: Board, seen: Seen, records: &[u32], protections: &[u8]
     requires { ⌜ Regular board ⌝ }
     ensures { λ r. ⌜ r ≡ firstRefusal (toldTables board (seen .kept) (now (records .entry)) (now (protections .entry)) ++ toldMapping board (m .space) (m .page) (m .frame) (m .rights) seen) ⌝ }
 {
-    let refusal = tables_refusal(board, seen.kept, records, protections);
-    if refusal != 0 {
-        return refusal;
-    }
-    mapping_refusal(board, seen, m)
+    or_else(
+        tables_refusal(board, seen.kept, records, protections),
+        mapping_refusal(board, seen, m),
+    )
 }
 
 // Of a mapping, in its numbers and what a look at the list told of its page.
 pub fn mapping_refusal(board: Board, seen: Seen, m: Mapping) -> u8
     ensures { λ r. ⌜ r ≡ firstRefusal (toldMapping board (m .space) (m .page) (m .frame) (m .rights) seen) ⌝ }
 {
-    if out_of_space(m.space, m.page) {
-        return 3;
-    }
-    if m.frame as usize >= board.frames {
-        return 4;
-    }
-    if !is_right(m.rights) {
-        return 5;
-    }
-    if seen.mapped {
-        return 7;
-    }
-    if seen.count == mapping::CAPACITY {
-        return 9;
-    }
-    0
+    let full = first(seen.count == mapping::CAPACITY, 9, 0);
+    let mapped = first(seen.mapped, 7, full);
+    let rights = first(!is_right(m.rights), 5, mapped);
+    let frame = first(m.frame as usize >= board.frames, 4, rights);
+    first(out_of_space(m.space, m.page), 3, frame)
 }
 
 // Of `unmap`, and of `read` but for the busy mark, where seen is what a look at the list told of the page.
@@ -96,17 +85,11 @@ pub fn page_refusal(
     requires { ⌜ Regular board ⌝ }
     ensures { λ r. ⌜ r ≡ firstRefusal (toldTables board (seen .kept) (now (records .entry)) (now (protections .entry)) ++ toldPage space page seen) ⌝ }
 {
-    let refusal = tables_refusal(board, seen.kept, records, protections);
-    if refusal != 0 {
-        return refusal;
-    }
-    if out_of_space(space, page) {
-        return 3;
-    }
-    if !seen.mapped {
-        return 8;
-    }
-    0
+    let unmapped = first(!seen.mapped, 8, 0);
+    or_else(
+        tables_refusal(board, seen.kept, records, protections),
+        first(out_of_space(space, page), 3, unmapped),
+    )
 }
 
 // Of `write`, likewise.
@@ -121,14 +104,10 @@ pub fn write_refusal(
     requires { ⌜ Regular board ⌝ }
     ensures { λ r. ⌜ r ≡ firstRefusal (toldTables board (seen .kept) (now (records .entry)) (now (protections .entry)) ++ toldWrite space page seen) ⌝ }
 {
-    let refusal = page_refusal(board, seen, records, protections, space, page);
-    if refusal != 0 {
-        return refusal;
-    }
-    if seen.mapping.rights == mapping::READ_ONLY {
-        return 10;
-    }
-    0
+    or_else(
+        page_refusal(board, seen, records, protections, space, page),
+        first(seen.mapping.rights == mapping::READ_ONLY, 10, 0),
+    )
 }
 
 // Of a transfer but for the busy mark, where kept says whether the list keeps its rules.
@@ -142,14 +121,10 @@ pub fn transfer_refusal(
     requires { ⌜ Regular board ⌝ }
     ensures { λ r. ⌜ r ≡ firstRefusal (toldTables board kept (now (records .entry)) (now (protections .entry)) ++ frameCause board frame ∷ []) ⌝ }
 {
-    let refusal = tables_refusal(board, kept, records, protections);
-    if refusal != 0 {
-        return refusal;
-    }
-    if frame as usize >= board.frames {
-        return 4;
-    }
-    0
+    or_else(
+        tables_refusal(board, kept, records, protections),
+        first(frame as usize >= board.frames, 4, 0),
+    )
 }
 
 // Of a transfer of so many words from an offset on, likewise.
@@ -165,14 +140,10 @@ pub fn part_refusal(
     requires { ⌜ Regular board ⌝ }
     ensures { λ r. ⌜ r ≡ firstRefusal (toldTables board kept (now (records .entry)) (now (protections .entry)) ++ frameCause board frame ∷ partCause board first number ∷ []) ⌝ }
 {
-    let refusal = transfer_refusal(board, kept, records, protections, frame);
-    if refusal != 0 {
-        return refusal;
-    }
-    if out_of_page(board, first, number) {
-        return 13;
-    }
-    0
+    or_else(
+        transfer_refusal(board, kept, records, protections, frame),
+        self::first(out_of_page(board, first, number), 13, 0),
+    )
 }
 
 // Of a word at an offset, of a transfer that has this mark.
@@ -192,13 +163,8 @@ pub fn word_refusal(
     if refusal != 0 {
         return refusal;
     }
-    if offset >= board.page {
-        return 6;
-    }
-    if record_at(records, frame).busy != mark {
-        return 16;
-    }
-    0
+    let word = first(record_at(records, frame).busy != mark, 16, 0);
+    first(offset >= board.page, 6, word)
 }
 
 // Of the end of a transfer.
@@ -210,10 +176,21 @@ pub fn end_refusal(board: Board, kept: bool, records: &[u32], protections: &[u8]
     if refusal != 0 {
         return refusal;
     }
-    if record_at(records, frame).busy == busy::FREE {
-        return 16;
-    }
-    0
+    first(record_at(records, frame).busy == busy::FREE, 16, 0)
+}
+
+// The number of a cause that applies, else what later causes give.
+pub fn first(applies: bool, number: u8, later: u8) -> u8
+    ensures { λ r. ⌜ r ≡ cond applies number later ⌝ }
+{
+    if applies { number } else { later }
+}
+
+// A refusal, else what later causes give.
+pub fn or_else(refusal: u8, later: u8) -> u8
+    ensures { λ r. ⌜ r ≡ orElse refusal later ⌝ }
+{
+    first(refusal != 0, refusal, later)
 }
 
 // Whether rights are to read, or to read and write.

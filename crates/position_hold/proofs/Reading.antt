@@ -15,8 +15,8 @@ use Rattle.mapping.specs.declared.Found.the-variants.{At, Nothing}
 use Rattle.mapping.specs.Entry.{mappingAt}
 use Rattle.mapping.specs.Lookup.{lookup, mappingFound, mappingOf, placeOf}
 use Rattle.machine.specs.Call.{callCauses, perform}
-use Rattle.machine.specs.State.{State, read, single}
-use Rattle.machine.specs.Step.{accept, pageFrame}
+use Rattle.machine.specs.State.{State, pageFrame, read, single}
+use Rattle.machine.specs.Step.{accept}
 use Rattle.machine.proofs.CallLaws.{perform-cases}
 use Rattle.consistency.specs.Cacheless.{Cacheless, afterAccepted}
 use Rattle.consistency.specs.Demand3.{pageWord}

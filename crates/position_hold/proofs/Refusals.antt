@@ -16,12 +16,11 @@ use Rattle.manager.specs.Refusals.{firstRefusal, spaceCause, unmappedCause, bus
 use Rattle.manager.specs.Theorems.{WellFormed}
 use Rattle.cache.specs.Store as hardware
 use Rattle.machine.specs.Call.{callCauses}
-use Rattle.machine.specs.Refusals.{lentCauses, pageBusy, ownCauses, causes}
+use Rattle.machine.specs.Refusals.{pageBusy, causes}
 use Rattle.machine.specs.State.{State, read, single}
 use Rattle.machine.specs.Step.{accept}
-use Rattle.machine.proofs.StepLaws.{clear, store-clear, step-accepted, step-refused}
+use Rattle.machine.proofs.StepLaws.{cleared, store-clear, step-accepted, step-refused}
 use Rattle.machine.proofs.StoreLaws as store
-use Rattle.consistency.proofs.Refused.{none-refused}
 use Rattle.demands.specs.Demands.{Clear}
 use Rattle.demands.proofs.Answers.{no-cause, first-cause}
 use Rattle.demands.proofs.Kept.{tables-lent, left}
@@ -44,19 +43,16 @@ module _ (b : Board) (reg : Regular b) (space page : ℕ) where
     pub unbarred : pageBusy st space page (table.read (colourOf b page)) .applies ≡ false
 
   read-clear : (st : State) (k : ℕ) → Ready st → k < b .page → firstRefusal (causes b st (read space page k)) ≡ 0
-  unfolding causes lentCauses ownCauses
+  unfolding causes firstRefusal
   read-clear st k r h =
       let w = r .store-kept in
-      none-refused (causes b st (read space page k)) (
-        ap not (ap₂ _&&_ (ap₂ _&&_ (r .tables-kept .0) (store.lengths-right b (st .store) (w .memory-length) (w .words-length) (w .tags-length))) refl),
-        (ap not (ap₂ _&&_ (r .tables-kept .1) (w .tags-rules)), (r .in-space, (lt-leb (b .page) k h, (r .mapped, (r .unbarred, tt))))),
-      )
+      rw (r .tables-kept .0, store.lengths-right b (st .store) (w .memory-length) (w .words-length) (w .tags-length), r .tables-kept .1, w .tags-rules, r .in-space, lt-leb (b .page) k h, r .mapped, r .unbarred)
 
   first-ready : (st : State) (k : ℕ) → firstRefusal (causes b st (read space page k)) ≡ 0 → Ready st
-  unfolding causes lentCauses ownCauses
+  unfolding causes
   first-ready st k e =
-      let n = clear b st (read space page k) e in
-      record { tables-kept = tables-lent b st (read space page k) e; store-kept = store-clear b st (read space page k) e; in-space = n .1 .1 .0; mapped = n .1 .1 .1 .1 .0; unbarred = n .1 .1 .1 .1 .1 .0 }
+      let call = read space page k in
+      record { tables-kept = tables-lent b st call e; store-kept = store-clear b st call e; in-space = cleared b st call 3 e; mapped = cleared b st call 8 e; unbarred = cleared b st call 15 e }
 
   -- an accepted read leaves the next one ready
   next-ready : (st : State) (k : ℕ) → Ready st → firstRefusal (causes b st (read space page k)) ≡ 0 → Ready (accept b st (read space page k) .after)

@@ -11,8 +11,7 @@ use Rattle.board.specs.Board.{Regular, board01, memoryWords, cacheWords}
 use Rattle.board.proofs.Geometry.{board01-regular}
 use Rattle.mapping.specs.Entry.{capacity}
 use Rattle.machine.specs.Call.{perform}
-use Rattle.machine.specs.State.{State, Single}
-use Rattle.machine.specs.Step.{pageFrame}
+use Rattle.machine.specs.State.{State, pageFrame, Single}
 use Rattle.consistency.specs.Cacheless.{Cacheless, start, fed}
 use Rattle.consistency.specs.Demand3.{startState, pageWord}
 use Rattle.consistency.proofs.Invariant.{Invariant}

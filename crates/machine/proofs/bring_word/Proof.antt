@@ -1,14 +1,14 @@
 -- `machine::bring_word` meets its contract.
 use mathlib.Core.Path.{_≡_, refl, sym, ap, _∙_}
 use borrow.Author.Needs.{needs}
+use borrow.Author.Tests.{leb-false}
 use Rattle.board.specs.Board.{board01}
 use Rattle.board.proofs.Geometry.{board01-regular}
 use Rattle.manager.specs.Refusals.{firstRefusal}
 use Rattle.manager.specs.Tables.{tables, refill}
 use Rattle.machine.specs.Refusals.{ownCauses, causes}
 use Rattle.machine.specs.State.{State, machineOf, bringWord}
-use Rattle.machine.specs.Step.{accept}
-use Rattle.machine.proofs.StepLaws.{step-refused, word-ready, listed-made}
+use Rattle.machine.proofs.StepLaws.{step-refused, cleared, store-clear, plain-made}
 use Rattle.machine.proofs.bring_word.Statement.{statement}
 use Rattle.machine.proofs.bring_word.Tie as tie
 
@@ -32,21 +32,26 @@ returns c =
     step-refused _ _ _ _ (sym e, λ z. c .if1 .taken (e ∙ z))
 
 bring-word-requires : tie.Need-bring-word-requires
-unfolding ownCauses
+unfolding causes
 bring-word-requires c κs =
     let past = c .before .before .before .before .before in
     let s = start-of (past .before) in
-    let r = word-ready board01 (lent s) (bringWord (s .args .frame) (s .args .offset) (s .args .word)) (s .args .frame) (s .args .offset) _ refl (sym (told (past .before)) ∙ past .if1 .left) in
-    (r .0 .memory-length, r .1, r .2, board01-regular)
+    let call = bringWord (s .args .frame) (s .args .offset) (s .args .word) in
+    let e = sym (told (past .before)) ∙ past .if1 .left in (
+      store-clear board01 (lent s) call e .memory-length,
+      leb-false _ (s .args .frame) (cleared board01 (lent s) call 4 e),
+      leb-false _ (s .args .offset) (cleared board01 (lent s) call 6 e),
+      board01-regular,
+    )
 
 returns-2 : tie.Need-returns-2
-unfolding accept refill
+unfolding refill
 returns-2 c =
     let brought = c .before .before .before in
     let refilled = brought .before .before .before .before in
     let past = refilled .before .before in
     let a = start-of (past .before) .args in
-    listed-made _ _ _ (sym (told (past .before)) ∙ past .if1 .left) _ _ refl (c .no-operations .ensures)
+    plain-made _ _ _ (sym (told (past .before)) ∙ past .if1 .left) refl (c .no-operations .ensures) refl refl
     (ap (tables (a .list) (a .records .now)) (refilled .refill .ensures board01 refl)) (brought .bring-word .ensures _ _)
 
 pub bring-word-spec : {M : Type 1} → statement M

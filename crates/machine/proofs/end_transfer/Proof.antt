@@ -6,8 +6,7 @@ use Rattle.board.proofs.Geometry.{board01-regular}
 use Rattle.page_model.specs.Record.{freed}
 use Rattle.manager.specs.Calls.{commitChange}
 use Rattle.manager.specs.Tables.{tables}
-use Rattle.machine.specs.Step.{accept}
-use Rattle.machine.proofs.StepLaws.{step-refused, listed-made}
+use Rattle.machine.proofs.StepLaws.{step-refused, plain-made}
 use Rattle.machine.proofs.end_transfer.Statement.{statement}
 use Rattle.machine.proofs.end_transfer.Tie as tie
 
@@ -17,7 +16,6 @@ returns c =
     step-refused _ _ _ _ (sym e, λ z. c .if1 .taken (e ∙ z))
 
 returns-2 : tie.Need-returns-2
-unfolding accept
 returns-2 c =
     let committed = c .before .before .before .before .before in
     let ending = committed .before .before .before in
@@ -25,7 +23,7 @@ returns-2 c =
     let past = at-record .before .before in
     let a = past .before .before .before .before .before .before .before .before .before .args in
     let t = tables (a .list) (a .records .now) (a .protections .now) in
-    listed-made _ _ _ (sym (past .before .end-refusal .ensures) ∙ past .if1 .left) _ _ refl (c .no-operations .ensures)
+    plain-made _ _ _ (sym (past .before .end-refusal .ensures) ∙ past .if1 .left) refl (c .no-operations .ensures) refl refl
     (committed .commit-change .ensures board01 refl ∙ ap (commitChange board01 t (a .frame)) (ending .end .ensures ∙ ap freed (at-record .record-at .ensures))) refl
 
 pub end-transfer-spec : {M : Type 1} → statement M

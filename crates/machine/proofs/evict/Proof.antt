@@ -4,8 +4,7 @@ use borrow.Author.Needs.{needs}
 use Rattle.board.specs.Board.{board01}
 use Rattle.board.proofs.Geometry.{board01-regular}
 use Rattle.manager.specs.Tables.{tables, refill}
-use Rattle.machine.specs.Step.{accept}
-use Rattle.machine.proofs.StepLaws.{step-refused, evict-ready, listed-made}
+use Rattle.machine.proofs.StepLaws.{step-refused, evict-ready, plain-made}
 use Rattle.machine.proofs.evict.Statement.{statement}
 use Rattle.machine.proofs.evict.Tie as tie
 
@@ -26,13 +25,13 @@ evict-requires c κs =
     (r .0, r .1, board01-regular)
 
 returns-2 : tie.Need-returns-2
-unfolding accept refill
+unfolding refill
 returns-2 c =
     let evicted = c .before .before .before .before .before in
     let refilled = evicted .before .before .before .before .before in
     let at = refilled .before .before in
     let a = start-of (at .before) .args in
-    listed-made _ _ _ (sym (at .before .evict-refusal .ensures) ∙ at .if1 .left) _ _ refl (c .no-operations .ensures)
+    plain-made _ _ _ (sym (at .before .evict-refusal .ensures) ∙ at .if1 .left) refl (c .no-operations .ensures) refl refl
     (ap (tables (a .list) (a .records .now)) (refilled .refill .ensures board01 refl)) (evicted .evict .ensures)
 
 pub evict-spec : {M : Type 1} → statement M

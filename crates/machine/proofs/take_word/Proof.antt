@@ -3,6 +3,7 @@ use mathlib.Core.Path.{_≡_, refl, sym, ap, _∙_}
 use mathlib.Core.Option.{Option, some}
 use Prim.Native.Nat.{ℕ}
 use borrow.Author.Needs.{needs}
+use borrow.Author.Tests.{leb-false}
 use Rattle.board.specs.Board.{board01}
 use Rattle.board.proofs.Geometry.{board01-regular}
 use Rattle.manager.specs.declared.FrameOps.{FrameOps}
@@ -11,8 +12,7 @@ use Rattle.manager.specs.Refusals.{firstRefusal}
 use Rattle.manager.specs.Tables.{tables, refill}
 use Rattle.machine.specs.Refusals.{ownCauses, causes}
 use Rattle.machine.specs.State.{State, machineOf, takeWord}
-use Rattle.machine.specs.Step.{accept}
-use Rattle.machine.proofs.StepLaws.{step-refused, word-ready, plain-made}
+use Rattle.machine.proofs.StepLaws.{step-refused, cleared, store-clear, plain-made}
 use Rattle.machine.proofs.take_word.Statement.{statement}
 use Rattle.machine.proofs.take_word.Tie as tie
 
@@ -36,22 +36,27 @@ returns c =
     step-refused _ _ _ _ (sym e, λ z. c .if1 .taken (e ∙ z))
 
 take-word-requires : tie.Need-take-word-requires
-unfolding ownCauses
+unfolding causes
 take-word-requires c κs =
     let past = c .before .before .before .before in
     let s = start-of (past .before) in
-    let r = word-ready board01 (lent s) (takeWord (s .args .frame) (s .args .offset)) (s .args .frame) (s .args .offset) _ refl (sym (told (past .before)) ∙ past .if1 .left) in
-    (r .0 .memory-length, r .1, r .2, board01-regular)
+    let call = takeWord (s .args .frame) (s .args .offset) in
+    let e = sym (told (past .before)) ∙ past .if1 .left in (
+      store-clear board01 (lent s) call e .memory-length,
+      leb-false _ (s .args .frame) (cleared board01 (lent s) call 4 e),
+      leb-false _ (s .args .offset) (cleared board01 (lent s) call 6 e),
+      board01-regular,
+    )
 
 returns-2 : tie.Need-returns-2
-unfolding accept refill
+unfolding refill
 returns-2 c =
     let taken = c .before in
     let refilled = taken .before .before .before in
     let past = refilled .before .before in
     let a = start-of (past .before) .args in
-    plain-made _ _ _ (sym (told (past .before)) ∙ past .if1 .left) _ _ _ refl (ap (λ (o : FrameOps). accepted (o .frame) (o .ops)) (c .nothing .ensures))
-    (ap {B = Option ℕ} some (taken .take-word .ensures (a .words .now) (a .tags .now)))
+    plain-made _ _ _ (sym (told (past .before)) ∙ past .if1 .left) refl (ap (λ (o : FrameOps). accepted (o .frame) (o .ops)) (c .nothing .ensures))
+    (ap {B = Option ℕ} some (taken .take-word .ensures (a .words .now) (a .tags .now))) refl
     (ap (tables (a .list) (a .records .now)) (refilled .refill .ensures board01 refl)) refl
 
 pub take-word-spec : {M : Type 1} → statement M

@@ -1,12 +1,7 @@
--- `manager::end_refusal` meets its contract.
-use mathlib.Core.Path.{_≡_, refl, sym, ap, _∙_}
-use mathlib.Core.Bool.{Bool, cond}
+-- `manager::refusals::end_refusal` meets its contract.
+use mathlib.Core.Path.{refl, sym, _∙_}
 use mathlib.Core.List.{List, [], _∷_, _++_}
 use borrow.Author.Needs.{needs}
-use borrow.Author.Tests.{eq-eqb, ne-eqb}
-use lib.Dec.{eqb}
-use Rattle.page_model.specs.declared.FrameRecord.{FrameRecord}
-use Rattle.page_model.specs.Busy.{free}
 use Rattle.manager.specs.Refusals.{Cause, firstRefusal, toldTables, frameCause, endCause}
 use Rattle.manager.proofs.CauseLaws.{refusal-prefix, refusal-rest}
 use Rattle.manager.proofs.refusals.end_refusal.Statement.{statement}
@@ -29,23 +24,13 @@ returns c =
     let refusal = c .before .transfer-refusal .ensures in
     refusal ∙ refusal-prefix (transfer s) (own s) (λ z. c .if1 .taken (refusal ∙ z))
 
--- past the causes of a transfer its own decides
-decided : (c : tie.After-record-at) (t : Bool) → eqb (c .record-at .result .busy) free ≡ t
-    → let s = start-of (c .before .before) in cond t 16 0 ≡ firstRefusal (transfer s ++ own s)
-unfolding firstRefusal toldTables
-decided c t e =
-    let past = c .before in
-    let s = start-of (past .before) in
-    ap (λ (x : Bool). cond x 16 0) (sym e ∙ ap (λ (r : FrameRecord). eqb (r .busy) free) (c .record-at .ensures))
-    ∙ refusal-rest (transfer s) (own s) refl (sym (past .before .transfer-refusal .ensures) ∙ past .if1 .left)
-
+-- past the causes of a transfer its own decide
 returns-2 : tie.Need-returns-2
-unfolding toldTables
-returns-2 c = decided (c .before .before) _ (eq-eqb _ _ (c .if2 .taken))
-
-returns-3 : tie.Need-returns-3
-unfolding toldTables
-returns-3 c = decided (c .before .before) _ (ne-eqb _ _ (c .if2 .left))
+unfolding firstRefusal toldTables
+returns-2 c =
+    let past = c .before .before .before in
+    let s = start-of (past .before) in
+    cc (refusal-rest (transfer s) (own s) refl (sym (past .before .transfer-refusal .ensures) ∙ past .if1 .left))
 
 pub end-refusal-spec : {M : Type 1} → statement M
-end-refusal-spec = tie.close (tie.spec (λ c κs. search needs) returns (λ c κs. search needs) returns-2 returns-3)
+end-refusal-spec = tie.close (tie.spec (λ c κs. search needs) returns (λ c κs. search needs) (λ c κs. search needs) returns-2)
