@@ -16,7 +16,7 @@ use Rattle.mapping.specs.declared.MappingList.{MappingList}
 use Rattle.manager.specs.Answers.{Outcome, numberOf}
 use Rattle.machine.specs.State.{State, Single, Answer}
 use Rattle.machine.specs.Step.{step}
-use Rattle.run_sheet.specs.Did.{Did}
+use Rattle.run_step.specs.Did.{Did}
 use Rattle.sheet_codec.specs.Format.{mostMappings, mostSteps, mappingCount, stepCount, isBroken}
 use Rattle.sheet_codec.specs.Put.{Put}
 use Rattle.run_sheet.specs.Ran.{Ran}

@@ -1,11 +1,7 @@
 // The run sheet: bytes of a sheet in, bytes of text out.
 mod run;
-mod steps;
-mod transfers;
 
-use manager::Answer;
 use mapping::MappingList;
-use sheet_codec::Shown;
 use sheet_codec::format;
 use sheet_codec::text;
 ghost use mathlib.Core.List.{[], _∷_};
@@ -46,12 +42,6 @@ pub fn run_sheet(sheet: &[u8], text: &mut [u8]) -> usize
         return text::refused_line(text, 0);
     }
     run::run_unbroken(sheet, text)
-}
-
-// What a step tells: its answer, and the word that it shows.
-pub struct Told {
-    pub answer: Answer,
-    pub shown: Shown,
 }
 
 // How far a run has come: the list, the place after the text, and the flushes and purges of the answers.

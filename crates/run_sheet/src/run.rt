@@ -1,10 +1,10 @@
 // The run of a sheet: its calls in their order, each with its line of text.
 use crate::Progress;
-use crate::Told;
-use crate::steps;
 use board::BOARD01;
 use manager::records::RECORD_WORDS;
 use mapping::MappingList;
+use run_step::Told;
+use run_step::steps;
 use sheet_codec::Shown;
 use sheet_codec::answers;
 use sheet_codec::format;

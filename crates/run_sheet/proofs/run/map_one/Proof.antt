@@ -1,6 +1,6 @@
 -- `run_sheet::map_one` meets its contract.
 use mathlib.Core.Path.{refl}
-use Rattle.run_sheet.proofs.Making.{did, did-as}
+use Rattle.run_step.proofs.Making.{did, did-as}
 use Rattle.run_sheet.proofs.Running.{ran-mapping}
 use borrow.Author.Needs.{needs}
 use Rattle.run_sheet.proofs.run.map_one.Statement.{statement}

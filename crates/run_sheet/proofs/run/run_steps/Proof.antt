@@ -10,10 +10,10 @@ use Rattle.machine.specs.State.{machineOf}
 use Rattle.sheet_codec.specs.Format.{stepCall}
 use Rattle.sheet_codec.specs.Text.{stepLineOf, shownWord}
 use Rattle.sheet_codec.proofs.Sheet.{call-at}
-use Rattle.run_sheet.specs.Did.{Did}
+use Rattle.run_step.specs.Did.{Did}
 use Rattle.run_sheet.specs.Ran.{Ran}
 use Rattle.run_sheet.specs.Run.{runFrom, afterSteps}
-use Rattle.run_sheet.proofs.Making.{did, did-as, did-kind, did-named, unmap-is}
+use Rattle.run_step.proofs.Making.{did, did-as, did-kind, did-named, unmap-is}
 use Rattle.run_sheet.proofs.Running.{ran-none, ran-next, ran-step, ran-counted}
 use borrow.Author.Needs.{needs}
 use Rattle.run_sheet.proofs.run.run_steps.Statement.{statement}

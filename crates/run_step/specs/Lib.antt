@@ -1,0 +1,3 @@
+-- What the code holds after a step.
+pub mod Did
+pub mod Kinds
