@@ -7,7 +7,6 @@ use Prim.Native.Nat.{ℕ, _+_, _-_, _^_, _≤_, _<_}
 use native.Mathlib.Omega.{arith}
 use borrow.Author.Tests.{ltb-true, ltb-false, le-ltb, lt-ltb, eqb-false, ne-eqb}
 use lib.Dec.{ltb}
-use lib.ListN.{getD}
 use Rattle.board.specs.declared.Board.{Board}
 use Rattle.machine.specs.State.{State}
 use Rattle.mapping.proofs.Tests.{lt-or-le}
@@ -90,6 +89,18 @@ module _ (clock hold : ℕ) (fix : Fix) where
 
 -- ---- the look
 
+module _ (b : Board) (st : State) (space page : ℕ) where
+  -- the words that a position is drawn from
+  found-valid : (ws : List ℕ) {latitude longitude : ℕ} → fixReads b st space page .words ≡ words ws → fixOf ws .latitude ≡ latitude
+      → fixOf ws .longitude ≡ longitude → Fixed (fixOf ws) → Valid b st space page (fixOf ws .number) (fixOf ws .second) latitude longitude
+  found-valid ws found la lo f =
+      rw (sym la, sym lo) record {
+        found = found ∙ ap {B = Words} words (sym (all-four ws (fix-long b st space page ws found)));
+        numbered = f .numbered;
+        latitude-within = f .latitude-within;
+        longitude-within = f .longitude-within;
+      }
+
 module _ (b : Board) (st : State) (space page clock hold : ℕ) where
   -- the words found, judged
   display-judged : (ws : List ℕ) → holdRefused hold ≡ false → fixReads b st space page .words ≡ words ws
@@ -114,17 +125,6 @@ module _ (b : Board) (st : State) (space page clock hold : ℕ) where
     else-blank (inl h) = displayed-is (blank-before clock hold fix valid-fixed h)
     else-blank (inr h) = displayed-is (blank-after clock hold fix valid-fixed h)
 
-  -- the words that a position is drawn from
-  found-valid : (ws : List ℕ) {latitude longitude : ℕ} → fixReads b st space page .words ≡ words ws → fixOf ws .latitude ≡ latitude
-      → fixOf ws .longitude ≡ longitude → Fixed (fixOf ws) → Valid b st space page (fixOf ws .number) (fixOf ws .second) latitude longitude
-  found-valid ws found la lo f =
-      rw (sym la, sym lo) record {
-        found = found ∙ ap {B = Words} words (sym (all-four ws (fix-long b st space page ws found)));
-        numbered = f .numbered;
-        latitude-within = f .latitude-within;
-        longitude-within = f .longitude-within;
-      }
-
 pub drawn : (b : Board) → Drawn b
 drawn b st space page clock hold latitude longitude = (from-look, to-look)
   where
@@ -135,7 +135,7 @@ drawn b st space page clock hold latitude longitude = (from-look, to-look)
         let found = d .1 .1 in
         let range = hold-range hold (d .0) in
         let kept = not-blank clock hold (fixOf ws) (d .1 .4) in
-        let valid = found-valid b st space page clock hold ws found (d .1 .2) (d .1 .3) (kept .0) in
+        let valid = found-valid b st space page ws found (d .1 .2) (d .1 .3) (kept .0) in
         (range .0, range .1, found-clear b st space page ws found, (fixOf ws .number, fixOf ws .second, valid, kept .1, kept .2))
 
     to-look : Draws b st space page clock hold latitude longitude → look b st space page clock hold .display ≡ position latitude longitude
