@@ -91,6 +91,8 @@ impl FrameRecord {
         }
     }
 
+    // The steps. Of a record that keeps the rules each gives the next record and the operations; of one that breaks them what it gives is free.
+
     // The processor reads through a colour.
     pub fn read(self, colours: usize, colour: usize) -> Stepped
         requires { ⌜ (colours ≤ width) × (colour < colours) ⌝ }
