@@ -1,0 +1,44 @@
+-- `calls::buffers::changed_words` meets its contract.
+use borrow.Author.Needs.{needs}
+use Prim.Native.Nat.{_-_}
+use mathlib.Core.Path.{_≡_}
+use lib.ListN.{length}
+use Rattle.calls.proofs.buffers.changed_words.Statement.{statement}
+use Rattle.calls.proofs.buffers.changed_words.Tie as tie
+
+abbrev Inv-loop : tie.InvT-loop
+Inv-loop s₀ half letter i₀ s i = length s ≡ length s₀
+
+abbrev μ-loop : tie.MeasureT-loop
+μ-loop s₀ half letter i₀ s i = half - i
+
+loop-holds : tie.Need-loop-holds Inv-loop μ-loop
+loop-holds c = search needs
+
+next-word-requires : tie.Need-next-word-requires Inv-loop μ-loop
+next-word-requires c κs = search needs
+
+loop-less : tie.Need-loop-less Inv-loop μ-loop
+loop-less c = search needs
+
+loop-again : tie.Need-loop-again Inv-loop μ-loop
+loop-again c = search needs
+
+same-length : tie.Need-same-length Inv-loop μ-loop
+same-length c = search needs
+
+returns : tie.Need-returns Inv-loop μ-loop
+returns c = search needs
+
+pub changed-words-spec : {M : Type 1} → statement M
+changed-words-spec =
+    tie.close
+    (tie.spec
+    Inv-loop
+    μ-loop
+    loop-holds
+    next-word-requires
+    loop-less
+    loop-again
+    same-length
+    returns)
