@@ -1,30 +1,27 @@
-// Runs scripts of calls of the machine and of the manager: each line of a script is a setting or a call, and each call has a line of text with its answer
-// and with all that it changed in what was lent. README of the scripts: data/README.
-// What is lent goes by letters: r records, p protections, m memory, w the cache's words, t its tags, b the device's buffer, a answers.
-mod buffers;
-mod held;
+// Runs scripts of calls of the manager, of the machine and of the position hold. Each line of a script is a setting or a call, and each call has a line of
+// text with its answer and with all that it changed in what was lent. README.md says what a script is.
+mod lent;
 mod on_machine;
 mod on_manager;
+mod state;
 mod tell;
 mod words;
 
-use held::Held;
 use libc::STDOUT_FILENO;
-use mapping::MappingList;
-use words::ARGS;
+use state::State;
 use words::Command;
 ghost use Prim.Native.Nat.{_≤_};
 ghost use lib.ListN.{length};
 ghost use Rattle.io.specs.Counts.{Counts};
 
-// The most bytes of a script.
+// A script has fewer bytes.
 const MOST_BYTES: usize = 65536;
 
 fn main() {
     scripts(os::arg_count());
 }
 
-// The scripts in the files that the arguments below a number name.
+// Runs the scripts that the arguments name, each from the start.
 fn scripts(count: usize) {
     let mut i = 1;
     while i < count {
@@ -38,138 +35,50 @@ fn named(i: usize) {
     let n = os::arg(i, &mut name);
     io::write_all(STDOUT_FILENO, &name[..n]);
     tell::end();
-    file(&name[..n]);
+    script(&name[..n]);
 }
 
-// Runs the script in a file.
-fn file(name: &[u8]) {
-    let fd = os::open_read(name);
-    if fd < 0 {
-        os::fail(name);
+fn script(name: &[u8]) {
+    let mut text = io::large_buffer();
+    let n = read(name, &mut text);
+    if n == 0 {
+        slip(name, 0, words::NO_SCRIPT);
         return;
     }
-    let mut text = io::large_buffer();
-    let n = io::read_full(fd, &mut text);
-    libc::close(fd);
-    script(&text[..n]);
+    lines(name, &text[..n], state::start());
 }
 
-// Runs a script on buffers of its own.
-fn script(text: &[u8]) {
-    let mut r = [0u32; 642];
-    let mut p = [0u8; 514];
-    let mut m = [0u32; 8194];
-    let mut w = [0u32; 1026];
-    let mut t = [0u8; 130];
-    let mut b = [0u32; 130];
-    let mut a = [0u8; 130];
-    lines(
-        text,
-        held::start(),
-        &mut r,
-        &mut p,
-        &mut m,
-        &mut w,
-        &mut t,
-        &mut b,
-        &mut a,
-    );
-}
-
-fn lines(
-    text: &[u8],
-    h: Held,
-    r: &mut [u32; 642],
-    p: &mut [u8; 514],
-    m: &mut [u32; 8194],
-    w: &mut [u32; 1026],
-    t: &mut [u8; 130],
-    b: &mut [u32; 130],
-    a: &mut [u8; 130],
-) {
-    let mut now = h;
-    let mut at = 0;
-    while at < text.len() {
-        let end = line_end(text, at);
-        now = outer(&text[at..end], now, r, p, m, w, t, b, a);
-        if end > MOST_BYTES {
-            return;
-        }
-        at = end + 1;
-    }
-}
-
-// Carries out a line that may call a script by `do NAME NUMBER..`. The line is written, and its numbers stand for `$1` and so on in that script.
-fn outer(
-    text: &[u8],
-    h: Held,
-    r: &mut [u32; 642],
-    p: &mut [u8; 514],
-    m: &mut [u32; 8194],
-    w: &mut [u32; 1026],
-    t: &mut [u8; 130],
-    b: &mut [u32; 130],
-    a: &mut [u8; 130],
-) -> Held {
-    if !words::is_do(text) {
-        return line(text, h, r, p, m, w, t, b, a);
-    }
-    io::write_all(STDOUT_FILENO, text);
-    tell::end();
-    let mut file = io::large_buffer();
-    let n = called(text, &mut file);
-    let next = held::called(h, words::after_name(text));
-    within(&file[..n], next, r, p, m, w, t, b, a)
-}
-
-// Reads the script that a line calls.
-fn called(text: &[u8], file: &mut [u8]) -> usize
-    ensures { λ r. ⌜ Counts r (now (file .exit)) ⌝ }
+// Reads a script; 0 where there is none.
+fn read(name: &[u8], text: &mut [u8]) -> usize
+    ensures { λ r. ⌜ Counts r (now (text .exit)) ⌝ }
 {
-    let fd = opened(text);
-    let n = io::read_full(fd, file);
+    let fd = os::open_read(name);
+    let n = io::read_full(fd, text);
     libc::close(fd);
     n
 }
 
-// Opens the file that the second word of a line names.
-fn opened(text: &[u8]) -> i32 {
-    let from = words::word_end(text, 0);
-    if from >= text.len() {
-        return 0;
-    }
-    let end = words::word_end(text, from + 1);
-    if from + 1 > end {
-        return 0;
-    }
-    if end > text.len() {
-        return 0;
-    }
-    os::open_read(&text[from + 1..end])
-}
+// ---- lines
 
-fn within(
-    text: &[u8],
-    h: Held,
-    r: &mut [u32; 642],
-    p: &mut [u8; 514],
-    m: &mut [u32; 8194],
-    w: &mut [u32; 1026],
-    t: &mut [u8; 130],
-    b: &mut [u32; 130],
-    a: &mut [u8; 130],
-) -> Held {
-    let mut now = h;
+// Carries out the lines of a script up to its end, or to one that is no command.
+fn lines(name: &[u8], text: &[u8], s: State) {
+    let mut now = s;
+    let mut number: u64 = 1;
     let mut at = 0;
     while at < text.len() {
         let end = line_end(text, at);
-        now = line(&text[at..end], now, r, p, m, w, t, b, a);
-        if end > MOST_BYTES {
-            return now;
+        now = outer(&text[at..end], now);
+        if now.slip != 0 {
+            slip(name, number, now.slip);
+            return;
+        }
+        if end >= MOST_BYTES {
+            slip(name, number, words::TOO_LONG);
+            return;
         }
         at = end + 1;
+        number = std::num::wrapping_add_u64(number, 1);
     }
-    now
 }
 
 // Where the line that starts at a place ends.
@@ -187,148 +96,133 @@ fn line_end(text: &[u8], at: usize) -> usize
     i
 }
 
+// Carries out a line that may call a script by `do NAME NUMBER..`. The line is written, and its numbers stand for `$1` and so on in that script.
+fn outer(text: &[u8], s: State) -> State {
+    if !words::is_do(text) {
+        return line(text, s);
+    }
+    io::write_all(STDOUT_FILENO, text);
+    tell::end();
+    if text.len() < 3 {
+        return s;
+    }
+    let end = words::word_end(text, 3);
+    if end > text.len() {
+        return s;
+    }
+    if end < 3 {
+        return s;
+    }
+    called(
+        &text[3..end],
+        state::within(s, words::after_name(text, end)),
+    )
+}
+
+// Runs a script that another one calls.
+fn called(name: &[u8], s: State) -> State {
+    if s.slip != 0 {
+        return s;
+    }
+    let mut text = io::large_buffer();
+    let n = read(name, &mut text);
+    if n == 0 {
+        return state::with_slip(s, words::NO_SCRIPT);
+    }
+    inner(name, &text[..n], s)
+}
+
+// The same as `lines` for a script that is called, which calls none.
+fn inner(name: &[u8], text: &[u8], s: State) -> State {
+    let mut now = s;
+    let mut number: u64 = 1;
+    let mut at = 0;
+    while at < text.len() {
+        let end = line_end(text, at);
+        now = line(&text[at..end], now);
+        if now.slip != 0 {
+            slip(name, number, now.slip);
+            return now;
+        }
+        if end >= MOST_BYTES {
+            return state::with_slip(now, words::TOO_LONG);
+        }
+        at = end + 1;
+        number = std::num::wrapping_add_u64(number, 1);
+    }
+    now
+}
+
 // Carries out a line. One that starts with `#` is for the reader, and one with a quote is written as it stands.
-fn line(
-    text: &[u8],
-    h: Held,
-    r: &mut [u32; 642],
-    p: &mut [u8; 514],
-    m: &mut [u32; 8194],
-    w: &mut [u32; 1026],
-    t: &mut [u8; 130],
-    b: &mut [u32; 130],
-    a: &mut [u8; 130],
-) -> Held {
+fn line(text: &[u8], s: State) -> State {
     if text.len() == 0 {
-        return h;
+        return s;
     }
     if text[0] == b'#' {
-        return h;
+        return s;
     }
     if text[0] == b'"' {
         io::write_all(STDOUT_FILENO, text);
         tell::end();
-        return h;
+        return s;
     }
-    let called = h.called;
-    let c = words::parsed(text, called);
-    if c.name < words::FIRST_CALL {
-        settings(c, r, p, m, w, t, b, a);
-        return held::set(h, c);
-    }
-    words_of(text, c);
-    let list = call(h, c, r, p, m, w, t, b, a);
-    changes(r, p, m, w, t, b, a);
-    held::with_list(h, list)
+    let numbers = s.called;
+    carried_out(text, s, words::parsed(text, s.manager, numbers))
 }
 
-// The word and the numbers of a call.
-fn words_of(text: &[u8], c: Command) {
+fn carried_out(text: &[u8], s: State, c: Command) -> State {
+    let numbers = c.numbers;
+    if numbers.slip != 0 {
+        return state::with_slip(s, numbers.slip);
+    }
+    if c.name < words::MAP {
+        return state::set(s, c);
+    }
     let end = words::word_end(text, 0);
     if end <= text.len() {
         io::write_all(STDOUT_FILENO, &text[0..end]);
     }
-    let args = c.args;
-    tell::numbers(args, c.count);
+    tell::numbers(numbers);
+    made(s, c)
 }
 
-// fill LETTER VALUE, count LETTER FIRST, put LETTER PLACE VALUE.., start
-fn settings(
-    c: Command,
-    r: &mut [u32; 642],
-    p: &mut [u8; 514],
-    m: &mut [u32; 8194],
-    w: &mut [u32; 1026],
-    t: &mut [u8; 130],
-    b: &mut [u32; 130],
-    a: &mut [u8; 130],
-) {
-    let args = c.args;
-    let letter = buffers::byte(args[0]);
-    match letter {
-        b'r' => of_words(c, r, 321),
-        b'm' => of_words(c, m, 4097),
-        b'w' => of_words(c, w, 513),
-        b'b' => of_words(c, b, 65),
-        b'p' => of_bytes(c, p, 257),
-        b't' => of_bytes(c, t, 65),
-        b'a' => of_bytes(c, a, 65),
-        _ => {}
+// Makes a call, and tells its answer and what it changed.
+fn made(s: State, c: Command) -> State {
+    let next = if s.manager {
+        on_manager::call(s, c)
+    } else {
+        on_machine::call(s, c)
+    };
+    let list = s.list;
+    let next_list = next.list;
+    tell::list_changes(list, next_list);
+    let lent = s.lent;
+    let next_lent = next.lent;
+    tell::changes(lent, next_lent);
+    tell::end();
+    next
+}
+
+// ---- slips
+
+// Says what is wrong with a line of a script.
+fn slip(name: &[u8], number: u64, slip: u8) {
+    io::write_all(STDOUT_FILENO, name);
+    io::write_all(STDOUT_FILENO, b":");
+    io::print_decimal(STDOUT_FILENO, number);
+    io::write_all(STDOUT_FILENO, b": ");
+    match slip {
+        words::UNKNOWN => message(b"no such command"),
+        words::MISSING => message(b"a number is missing"),
+        words::EXTRA => message(b"a number too many"),
+        words::MISFIT => message(b"a number does not fit"),
+        words::NO_NUMBER => message(b"not a number"),
+        words::NO_SCRIPT => message(b"no such script"),
+        _ => message(b"the script is too long"),
     }
 }
 
-fn of_words(c: Command, s: &mut [u32], half: usize) {
-    let args = c.args;
-    let name = c.name;
-    match name {
-        1 => buffers::fill_words(s, half, args[1], 0),
-        2 => buffers::fill_words(s, half, args[1], 1),
-        3 => buffers::put_words(s, half, c.count, args),
-        4 => started(s, half),
-        _ => {}
-    }
-}
-
-// Records as they are at the start.
-fn started(s: &mut [u32], half: usize) {
-    manager::start(s);
-    buffers::keep_words(s, half, 0, half);
-}
-
-fn of_bytes(c: Command, s: &mut [u8], half: usize) {
-    let args = c.args;
-    let name = c.name;
-    match name {
-        1 => buffers::fill_bytes(s, half, args[1]),
-        3 => buffers::put_bytes(s, half, c.count, args),
-        _ => {}
-    }
-}
-
-// Makes a call on as many records, protections and answers as the script says.
-fn call(
-    h: Held,
-    c: Command,
-    r: &mut [u32],
-    p: &mut [u8],
-    m: &mut [u32],
-    w: &mut [u32],
-    t: &mut [u8],
-    b: &mut [u32],
-    a: &mut [u8],
-) -> MappingList {
-    let args = c.args;
-    let n = h.lengths;
-    let list = h.list;
-    let batch = h.batch;
-    let nr = buffers::lent_words(r, n[0]);
-    let np = buffers::lent_bytes(p, n[1]);
-    let na = buffers::lent_bytes(a, n[6]);
-    let r = &mut r[0..nr];
-    let p = &mut p[0..np];
-    let a = &mut a[0..na];
-    if h.manager {
-        return on_manager::call(c.name, args, list, batch, r, p, a);
-    }
-    on_machine::call(c.name, args, n, list, batch, r, p, m, w, t, b, a)
-}
-
-// Tells all that changed, and ends the line.
-fn changes(
-    r: &mut [u32; 642],
-    p: &mut [u8; 514],
-    m: &mut [u32; 8194],
-    w: &mut [u32; 1026],
-    t: &mut [u8; 130],
-    b: &mut [u32; 130],
-    a: &mut [u8; 130],
-) {
-    buffers::changed_words(r, 321, b'r');
-    buffers::changed_bytes(p, 257, b'p');
-    buffers::changed_words(m, 4097, b'm');
-    buffers::changed_words(w, 513, b'w');
-    buffers::changed_bytes(t, 65, b't');
-    buffers::changed_words(b, 65, b'b');
-    buffers::changed_bytes(a, 65, b'a');
+fn message(text: &[u8]) {
+    io::write_all(STDOUT_FILENO, text);
     tell::end();
 }

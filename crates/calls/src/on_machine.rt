@@ -1,49 +1,68 @@
-// A call of the machine on what is lent to it. A function has few calls: its proof takes time by the square of what it hands on.
-use crate::buffers::byte;
-use crate::buffers::lent_bytes;
-use crate::buffers::lent_words;
-use crate::buffers::word;
-use crate::held::entry;
-use crate::held::short;
+// A call of the machine, or a look at the position, on as much of each buffer as the script says. A function has few calls here: its proof takes time by
+// the square of the slices that it hands on.
+use crate::lent;
+use crate::lent::at_most;
+use crate::lent::byte;
+use crate::lent::word;
+use crate::state::State;
+use crate::state::entry;
+use crate::state::half;
+use crate::tell::drawn;
 use crate::tell::found;
 use crate::tell::listed;
 use crate::tell::told;
+use crate::words;
 use crate::words::ARGS;
+use crate::words::Command;
 use mapping::Batch;
 use mapping::MappingList;
 
-// A call on as many words of memory and the cache, tags and words of the buffer as the script says. Hands back the list.
-pub fn call(
-    name: usize,
-    args: [u64; ARGS],
-    n: [u64; ARGS],
-    list: MappingList,
-    batch: Batch,
-    r: &mut [u32],
-    p: &mut [u8],
-    m: &mut [u32],
-    w: &mut [u32],
-    t: &mut [u8],
-    b: &mut [u32],
-    a: &mut [u8],
-) -> MappingList {
-    let nm = lent_words(m, n[2]);
-    let nw = lent_words(w, n[3]);
-    let nt = lent_bytes(t, n[4]);
-    let nb = lent_words(b, n[5]);
-    chosen(
-        name,
+// Makes a call, tells its answer, and hands back what it leaves.
+pub fn call(s: State, c: Command) -> State {
+    let mut l = s.lent;
+    let mut r = lent::records(l);
+    let mut p = lent::protections(l);
+    let mut m = lent::memory(l);
+    let mut w = lent::words(l);
+    let mut t = lent::tags(l);
+    let mut b = lent::buffer(l);
+    let mut a = lent::answers(l);
+    let n = s.lengths;
+    let nr = at_most(n[0], lent::RECORDS);
+    let np = at_most(n[1], lent::PROTECTIONS);
+    let nm = at_most(n[2], lent::MEMORY);
+    let nw = at_most(n[3], lent::WORDS);
+    let nt = at_most(n[4], lent::TAGS);
+    let nb = at_most(n[5], lent::BUFFER);
+    let na = at_most(n[6], lent::ANSWERS);
+    let numbers = c.numbers;
+    let args = numbers.args;
+    let list = s.list;
+    let batch = s.batch;
+    let next = chosen(
+        c.name,
         args,
         list,
         batch,
-        r,
-        p,
+        &mut r[0..nr],
+        &mut p[0..np],
         &mut m[0..nm],
         &mut w[0..nw],
         &mut t[0..nt],
         &mut b[0..nb],
-        a,
-    )
+        &mut a[0..na],
+    );
+    l.r = r;
+    l.p = p;
+    l.m = m;
+    l.w = w;
+    l.t = t;
+    l.b = b;
+    l.a = a;
+    let mut left = s;
+    left.lent = l;
+    left.list = next;
+    left
 }
 
 fn chosen(
@@ -59,17 +78,37 @@ fn chosen(
     b: &mut [u32],
     a: &mut [u8],
 ) -> MappingList {
-    if name < 19 {
+    if name <= words::MAP_ALL {
         return listing(name, args, list, batch, r, p, m, w, t, a);
     }
     match name {
-        19..=21 => accesses(name, args, list, r, p, m, w, t),
-        22..=24 => transfers(name, args, list, r, p, m, w, t, b),
+        words::READ..=words::WRITE | words::EVICT..=words::LOOK => accesses(
+            name,
+            args,
+            list,
+            r,
+            p,
+            m,
+            w,
+            t,
+        ),
+        words::DEVICE_READ..=words::DEVICE_WRITE_PART => transfers(
+            name,
+            args,
+            list,
+            r,
+            p,
+            m,
+            w,
+            t,
+            b,
+        ),
         _ => slow(name, args, list, r, p, m, w, t),
     }
     list
 }
 
+// Calls that change the list.
 fn listing(
     name: usize,
     args: [u64; ARGS],
@@ -83,7 +122,7 @@ fn listing(
     a: &mut [u8],
 ) -> MappingList {
     match name {
-        16 => listed(machine::map(
+        words::MAP => listed(machine::map(
             list,
             r,
             p,
@@ -92,11 +131,12 @@ fn listing(
             t,
             entry(args[0], args[1], args[2], args[3]),
         )),
-        17 => listed(machine::unmap(list, r, p, m, w, t, byte(args[0]), short(args[1]))),
+        words::UNMAP => listed(machine::unmap(list, r, p, m, w, t, byte(args[0]), half(args[1]))),
         _ => listed(machine::map_all(list, r, p, m, w, t, batch, a)),
     }
 }
 
+// Accesses, evictions and looks.
 fn accesses(
     name: usize,
     args: [u64; ARGS],
@@ -108,15 +148,18 @@ fn accesses(
     t: &mut [u8],
 ) {
     let space = byte(args[0]);
-    let page = short(args[1]);
+    let page = half(args[1]);
     let offset = args[2] as usize;
+    let last = word(args[3]);
     match name {
-        19 => found(machine::read(list, r, p, m, w, t, space, page, offset)),
-        20 => told(machine::write(list, r, p, m, w, t, space, page, offset, word(args[3]))),
-        _ => told(machine::evict(list, r, p, m, w, t, args[0] as usize)),
+        words::READ => found(machine::read(list, r, p, m, w, t, space, page, offset)),
+        words::WRITE => told(machine::write(list, r, p, m, w, t, space, page, offset, last)),
+        words::EVICT => told(machine::evict(list, r, p, m, w, t, args[0] as usize)),
+        _ => drawn(position_hold::look(list, r, p, m, w, t, space, page, word(args[2]), last)),
     }
 }
 
+// Transfers in one step.
 fn transfers(
     name: usize,
     args: [u64; ARGS],
@@ -132,12 +175,13 @@ fn transfers(
     let first = args[1] as usize;
     let number = args[2] as usize;
     match name {
-        22 => told(machine::device_read(list, r, p, m, w, t, b, frame)),
-        23 => told(machine::device_write(list, r, p, m, w, t, b, frame)),
+        words::DEVICE_READ => told(machine::device_read(list, r, p, m, w, t, b, frame)),
+        words::DEVICE_WRITE => told(machine::device_write(list, r, p, m, w, t, b, frame)),
         _ => told(machine::device_write_part(list, r, p, m, w, t, b, frame, first, number)),
     }
 }
 
+// Transfers that take a while.
 fn slow(
     name: usize,
     args: [u64; ARGS],
@@ -151,10 +195,20 @@ fn slow(
     let frame = byte(args[0]);
     let offset = args[1] as usize;
     match name {
-        25 => told(machine::begin_read(list, r, p, m, w, t, frame)),
-        26 => told(machine::begin_write(list, r, p, m, w, t, frame)),
-        27 => told(machine::bring_word(list, r, p, m, w, t, frame, offset, word(args[2]))),
-        28 => found(machine::take_word(list, r, p, m, w, t, frame, offset)),
+        words::BEGIN_READ => told(machine::begin_read(list, r, p, m, w, t, frame)),
+        words::BEGIN_WRITE => told(machine::begin_write(list, r, p, m, w, t, frame)),
+        words::BRING_WORD => told(machine::bring_word(
+            list,
+            r,
+            p,
+            m,
+            w,
+            t,
+            frame,
+            offset,
+            word(args[2]),
+        )),
+        words::TAKE_WORD => found(machine::take_word(list, r, p, m, w, t, frame, offset)),
         _ => told(machine::end_transfer(list, r, p, m, w, t, frame)),
     }
 }

@@ -6,10 +6,10 @@ use Rattle.calls.proofs.lines.Statement.{statement}
 use Rattle.calls.proofs.lines.Tie as tie
 
 abbrev Inv-loop : tie.InvT-loop
-Inv-loop text r₀ p₀ m₀ w₀ t₀ b₀ a₀ now₀ at₀ r p m w t b a now at = Unit {0}
+Inv-loop name text now₀ number₀ at₀ now number at = Unit {0}
 
 abbrev μ-loop : tie.MeasureT-loop
-μ-loop text r₀ p₀ m₀ w₀ t₀ b₀ a₀ now₀ at₀ r p m w t b a now at = length text - at
+μ-loop name text now₀ number₀ at₀ now number at = length text - at
 
 loop-holds : tie.Need-loop-holds Inv-loop μ-loop
 loop-holds c = search needs
@@ -29,11 +29,23 @@ part-outer-end c = search needs
 outer-requires : tie.Need-outer-requires Inv-loop μ-loop
 outer-requires c κs = search needs
 
+slip-requires : tie.Need-slip-requires Inv-loop μ-loop
+slip-requires c κs = search needs
+
 returns : tie.Need-returns Inv-loop μ-loop
 returns c = search needs
 
+slip-requires-2 : tie.Need-slip-requires-2 Inv-loop μ-loop
+slip-requires-2 c κs = search needs
+
+returns-2 : tie.Need-returns-2 Inv-loop μ-loop
+returns-2 c = search needs
+
 add-at : tie.Need-add-at Inv-loop μ-loop
 add-at c = search needs
+
+wrapping-add-u64-requires : tie.Need-wrapping-add-u64-requires Inv-loop μ-loop
+wrapping-add-u64-requires c κs = search needs
 
 loop-less : tie.Need-loop-less Inv-loop μ-loop
 loop-less c = search needs
@@ -41,8 +53,8 @@ loop-less c = search needs
 loop-again : tie.Need-loop-again Inv-loop μ-loop
 loop-again c = search needs
 
-returns-2 : tie.Need-returns-2 Inv-loop μ-loop
-returns-2 c = search needs
+returns-3 : tie.Need-returns-3 Inv-loop μ-loop
+returns-3 c = search needs
 
 pub lines-spec : {M : Type 1} → statement M
 lines-spec =
@@ -56,8 +68,12 @@ lines-spec =
     part-outer-start
     part-outer-end
     outer-requires
+    slip-requires
     returns
+    slip-requires-2
+    returns-2
     add-at
+    wrapping-add-u64-requires
     loop-less
     loop-again
-    returns-2)
+    returns-3)

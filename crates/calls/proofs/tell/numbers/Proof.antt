@@ -5,10 +5,10 @@ use Rattle.calls.proofs.tell.numbers.Statement.{statement}
 use Rattle.calls.proofs.tell.numbers.Tie as tie
 
 abbrev Inv-loop : tie.InvT-loop
-Inv-loop count args i₀ t5 i = Unit {0}
+Inv-loop n args i₀ t4 i = Unit {0}
 
 abbrev μ-loop : tie.MeasureT-loop
-μ-loop count args i₀ t5 i = 12 - i
+μ-loop n args i₀ t4 i = 12 - i
 
 loop-holds : tie.Need-loop-holds Inv-loop μ-loop
 loop-holds c = search needs
