@@ -1,10 +1,10 @@
 // What is lent to the calls, by letters: r records, p protections, m memory, w the cache's words, t its tags, b the device's buffer, a answers; and the
 // settings of it. Each has one place more than a call takes, so that a script can lend too many as well as too few.
-use crate::words::ARGS;
-use crate::words::COUNT;
-use crate::words::Command;
-use crate::words::FILL;
-use crate::words::PUT;
+use crate::commands::COUNT;
+use crate::commands::Command;
+use crate::commands::FILL;
+use crate::commands::PUT;
+use crate::numbers::ARGS;
 ghost use mathlib.Core.Path.{_≡_};
 ghost use Prim.Native.Nat.{_≤_};
 ghost use lib.ListN.{length};

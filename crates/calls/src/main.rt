@@ -1,15 +1,17 @@
 // Runs scripts of calls of the manager, of the machine and of the position hold. Each line of a script is a setting or a call, and each call has a line of
 // text with its answer and with all that it changed in what was lent. README.md says what a script is.
+mod commands;
 mod lent;
+mod numbers;
 mod on_machine;
 mod on_manager;
+mod slips;
 mod state;
 mod tell;
-mod words;
 
+use commands::Command;
 use libc::STDOUT_FILENO;
 use state::State;
-use words::Command;
 ghost use Prim.Native.Nat.{_≤_};
 ghost use lib.ListN.{length};
 ghost use Rattle.io.specs.Counts.{Counts};
@@ -42,7 +44,7 @@ fn script(name: &[u8]) {
     let mut text = io::large_buffer();
     let n = read(name, &mut text);
     if n == 0 {
-        slip(name, 0, words::NO_SCRIPT);
+        slips::told(name, 0, slips::NO_SCRIPT);
         return;
     }
     lines(name, &text[..n], state::start());
@@ -69,11 +71,11 @@ fn lines(name: &[u8], text: &[u8], s: State) {
         let end = line_end(text, at);
         now = outer(&text[at..end], now);
         if now.slip != 0 {
-            slip(name, number, now.slip);
+            slips::told(name, number, now.slip);
             return;
         }
         if end >= MOST_BYTES {
-            slip(name, number, words::TOO_LONG);
+            slips::told(name, number, slips::TOO_LONG);
             return;
         }
         at = end + 1;
@@ -98,7 +100,7 @@ fn line_end(text: &[u8], at: usize) -> usize
 
 // Carries out a line that may call a script by `do NAME NUMBER..`. The line is written, and its numbers stand for `$1` and so on in that script.
 fn outer(text: &[u8], s: State) -> State {
-    if !words::is_do(text) {
+    if !commands::is_do(text) {
         return line(text, s);
     }
     io::write_all(STDOUT_FILENO, text);
@@ -106,7 +108,7 @@ fn outer(text: &[u8], s: State) -> State {
     if text.len() < 3 {
         return s;
     }
-    let end = words::word_end(text, 3);
+    let end = commands::word_end(text, 3);
     if end > text.len() {
         return s;
     }
@@ -115,7 +117,7 @@ fn outer(text: &[u8], s: State) -> State {
     }
     called(
         &text[3..end],
-        state::within(s, words::after_name(text, end)),
+        state::within(s, commands::of_call(text, end)),
     )
 }
 
@@ -127,7 +129,7 @@ fn called(name: &[u8], s: State) -> State {
     let mut text = io::large_buffer();
     let n = read(name, &mut text);
     if n == 0 {
-        return state::with_slip(s, words::NO_SCRIPT);
+        return state::with_slip(s, slips::NO_SCRIPT);
     }
     inner(name, &text[..n], s)
 }
@@ -141,11 +143,11 @@ fn inner(name: &[u8], text: &[u8], s: State) -> State {
         let end = line_end(text, at);
         now = line(&text[at..end], now);
         if now.slip != 0 {
-            slip(name, number, now.slip);
+            slips::told(name, number, now.slip);
             return now;
         }
         if end >= MOST_BYTES {
-            return state::with_slip(now, words::TOO_LONG);
+            return state::with_slip(now, slips::TOO_LONG);
         }
         at = end + 1;
         number = std::num::wrapping_add_u64(number, 1);
@@ -167,7 +169,7 @@ fn line(text: &[u8], s: State) -> State {
         return s;
     }
     let numbers = s.called;
-    carried_out(text, s, words::parsed(text, s.manager, numbers))
+    carried_out(text, s, commands::parsed(text, s.manager, numbers))
 }
 
 fn carried_out(text: &[u8], s: State, c: Command) -> State {
@@ -175,10 +177,10 @@ fn carried_out(text: &[u8], s: State, c: Command) -> State {
     if numbers.slip != 0 {
         return state::with_slip(s, numbers.slip);
     }
-    if c.name < words::MAP {
+    if c.name < commands::MAP {
         return state::set(s, c);
     }
-    let end = words::word_end(text, 0);
+    let end = commands::word_end(text, 0);
     if end <= text.len() {
         io::write_all(STDOUT_FILENO, &text[0..end]);
     }
@@ -201,28 +203,4 @@ fn made(s: State, c: Command) -> State {
     tell::changes(lent, next_lent);
     tell::end();
     next
-}
-
-// ---- slips
-
-// Says what is wrong with a line of a script.
-fn slip(name: &[u8], number: u64, slip: u8) {
-    io::write_all(STDOUT_FILENO, name);
-    io::write_all(STDOUT_FILENO, b":");
-    io::print_decimal(STDOUT_FILENO, number);
-    io::write_all(STDOUT_FILENO, b": ");
-    match slip {
-        words::UNKNOWN => message(b"no such command"),
-        words::MISSING => message(b"a number is missing"),
-        words::EXTRA => message(b"a number too many"),
-        words::MISFIT => message(b"a number does not fit"),
-        words::NO_NUMBER => message(b"not a number"),
-        words::NO_SCRIPT => message(b"no such script"),
-        _ => message(b"the script is too long"),
-    }
-}
-
-fn message(text: &[u8]) {
-    io::write_all(STDOUT_FILENO, text);
-    tell::end();
 }

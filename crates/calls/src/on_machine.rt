@@ -1,9 +1,12 @@
 // A call of the machine, or a look at the position, on as much of each buffer as the script says. A function has few calls here: its proof takes time by
 // the square of the slices that it hands on.
+use crate::commands;
+use crate::commands::Command;
 use crate::lent;
 use crate::lent::at_most;
 use crate::lent::byte;
 use crate::lent::word;
+use crate::numbers::ARGS;
 use crate::state::State;
 use crate::state::entry;
 use crate::state::half;
@@ -11,9 +14,6 @@ use crate::tell::drawn;
 use crate::tell::found;
 use crate::tell::listed;
 use crate::tell::told;
-use crate::words;
-use crate::words::ARGS;
-use crate::words::Command;
 use mapping::Batch;
 use mapping::MappingList;
 
@@ -78,21 +78,13 @@ fn chosen(
     b: &mut [u32],
     a: &mut [u8],
 ) -> MappingList {
-    if name <= words::MAP_ALL {
+    if name <= commands::MAP_ALL {
         return listing(name, args, list, batch, r, p, m, w, t, a);
     }
     match name {
-        words::READ..=words::WRITE | words::EVICT..=words::LOOK => accesses(
-            name,
-            args,
-            list,
-            r,
-            p,
-            m,
-            w,
-            t,
-        ),
-        words::DEVICE_READ..=words::DEVICE_WRITE_PART => transfers(
+        commands::READ..=commands::WRITE => accesses(name, args, list, r, p, m, w, t),
+        commands::EVICT..=commands::LOOK => others(name, args, list, r, p, m, w, t),
+        commands::DEVICE_READ..=commands::DEVICE_WRITE_PART => transfers(
             name,
             args,
             list,
@@ -122,7 +114,7 @@ fn listing(
     a: &mut [u8],
 ) -> MappingList {
     match name {
-        words::MAP => listed(machine::map(
+        commands::MAP => listed(machine::map(
             list,
             r,
             p,
@@ -131,12 +123,21 @@ fn listing(
             t,
             entry(args[0], args[1], args[2], args[3]),
         )),
-        words::UNMAP => listed(machine::unmap(list, r, p, m, w, t, byte(args[0]), half(args[1]))),
+        commands::UNMAP => listed(machine::unmap(
+            list,
+            r,
+            p,
+            m,
+            w,
+            t,
+            byte(args[0]),
+            half(args[1]),
+        )),
         _ => listed(machine::map_all(list, r, p, m, w, t, batch, a)),
     }
 }
 
-// Accesses, evictions and looks.
+// Accesses.
 fn accesses(
     name: usize,
     args: [u64; ARGS],
@@ -150,12 +151,30 @@ fn accesses(
     let space = byte(args[0]);
     let page = half(args[1]);
     let offset = args[2] as usize;
-    let last = word(args[3]);
     match name {
-        words::READ => found(machine::read(list, r, p, m, w, t, space, page, offset)),
-        words::WRITE => told(machine::write(list, r, p, m, w, t, space, page, offset, last)),
-        words::EVICT => told(machine::evict(list, r, p, m, w, t, args[0] as usize)),
-        _ => drawn(position_hold::look(list, r, p, m, w, t, space, page, word(args[2]), last)),
+        commands::READ => found(machine::read(list, r, p, m, w, t, space, page, offset)),
+        _ => told(machine::write(list, r, p, m, w, t, space, page, offset, word(args[3]))),
+    }
+}
+
+// Evictions, and looks at the position.
+fn others(
+    name: usize,
+    args: [u64; ARGS],
+    list: MappingList,
+    r: &mut [u32],
+    p: &mut [u8],
+    m: &mut [u32],
+    w: &mut [u32],
+    t: &mut [u8],
+) {
+    let space = byte(args[0]);
+    let page = half(args[1]);
+    let clock = word(args[2]);
+    let hold = word(args[3]);
+    match name {
+        commands::EVICT => told(machine::evict(list, r, p, m, w, t, args[0] as usize)),
+        _ => drawn(position_hold::look(list, r, p, m, w, t, space, page, clock, hold)),
     }
 }
 
@@ -175,8 +194,8 @@ fn transfers(
     let first = args[1] as usize;
     let number = args[2] as usize;
     match name {
-        words::DEVICE_READ => told(machine::device_read(list, r, p, m, w, t, b, frame)),
-        words::DEVICE_WRITE => told(machine::device_write(list, r, p, m, w, t, b, frame)),
+        commands::DEVICE_READ => told(machine::device_read(list, r, p, m, w, t, b, frame)),
+        commands::DEVICE_WRITE => told(machine::device_write(list, r, p, m, w, t, b, frame)),
         _ => told(machine::device_write_part(list, r, p, m, w, t, b, frame, first, number)),
     }
 }
@@ -195,9 +214,9 @@ fn slow(
     let frame = byte(args[0]);
     let offset = args[1] as usize;
     match name {
-        words::BEGIN_READ => told(machine::begin_read(list, r, p, m, w, t, frame)),
-        words::BEGIN_WRITE => told(machine::begin_write(list, r, p, m, w, t, frame)),
-        words::BRING_WORD => told(machine::bring_word(
+        commands::BEGIN_READ => told(machine::begin_read(list, r, p, m, w, t, frame)),
+        commands::BEGIN_WRITE => told(machine::begin_write(list, r, p, m, w, t, frame)),
+        commands::BRING_WORD => told(machine::bring_word(
             list,
             r,
             p,
@@ -208,7 +227,7 @@ fn slow(
             offset,
             word(args[2]),
         )),
-        words::TAKE_WORD => found(machine::take_word(list, r, p, m, w, t, frame, offset)),
+        commands::TAKE_WORD => found(machine::take_word(list, r, p, m, w, t, frame, offset)),
         _ => told(machine::end_transfer(list, r, p, m, w, t, frame)),
     }
 }

@@ -1,15 +1,15 @@
 // A call of the manager, on as many records, protections and answers as the script says.
+use crate::commands;
+use crate::commands::Command;
 use crate::lent;
 use crate::lent::at_most;
 use crate::lent::byte;
+use crate::numbers::ARGS;
 use crate::state::State;
 use crate::state::entry;
 use crate::state::half;
 use crate::tell::listed;
 use crate::tell::told;
-use crate::words;
-use crate::words::ARGS;
-use crate::words::Command;
 use mapping::Batch;
 use mapping::MappingList;
 
@@ -54,10 +54,10 @@ fn chosen(
     p: &mut [u8],
     a: &mut [u8],
 ) -> MappingList {
-    if name <= words::MAP_ALL {
+    if name <= commands::MAP_ALL {
         return listing(name, args, list, batch, r, p, a);
     }
-    if name <= words::DEVICE_WRITE_PART {
+    if name <= commands::DEVICE_WRITE_PART {
         at_once(name, args, list, r, p);
     } else {
         slow(name, args, list, r, p);
@@ -76,8 +76,13 @@ fn listing(
     a: &mut [u8],
 ) -> MappingList {
     match name {
-        words::MAP => listed(manager::map(list, r, p, entry(args[0], args[1], args[2], args[3]))),
-        words::UNMAP => listed(manager::unmap(list, r, p, byte(args[0]), half(args[1]))),
+        commands::MAP => listed(manager::map(
+            list,
+            r,
+            p,
+            entry(args[0], args[1], args[2], args[3]),
+        )),
+        commands::UNMAP => listed(manager::unmap(list, r, p, byte(args[0]), half(args[1]))),
         _ => listed(manager::map_all(list, r, p, batch, a)),
     }
 }
@@ -89,10 +94,10 @@ fn at_once(name: usize, args: [u64; ARGS], list: MappingList, r: &mut [u32], p: 
     let from = args[1] as usize;
     let number = args[2] as usize;
     match name {
-        words::READ => told(manager::read(list, r, p, first, page)),
-        words::WRITE => told(manager::write(list, r, p, first, page)),
-        words::DEVICE_READ => told(manager::device_read(list, r, p, first)),
-        words::DEVICE_WRITE => told(manager::device_write(list, r, p, first)),
+        commands::READ => told(manager::read(list, r, p, first, page)),
+        commands::WRITE => told(manager::write(list, r, p, first, page)),
+        commands::DEVICE_READ => told(manager::device_read(list, r, p, first)),
+        commands::DEVICE_WRITE => told(manager::device_write(list, r, p, first)),
         _ => told(manager::device_write_part(list, r, p, first, from, number)),
     }
 }
@@ -102,10 +107,10 @@ fn slow(name: usize, args: [u64; ARGS], list: MappingList, r: &mut [u32], p: &mu
     let frame = byte(args[0]);
     let offset = args[1] as usize;
     match name {
-        words::BEGIN_READ => told(manager::begin_read(list, r, p, frame)),
-        words::BEGIN_WRITE => told(manager::begin_write(list, r, p, frame)),
-        words::BRING_WORD => told(manager::bring_word(list, r, p, frame, offset)),
-        words::TAKE_WORD => told(manager::take_word(list, r, p, frame, offset)),
+        commands::BEGIN_READ => told(manager::begin_read(list, r, p, frame)),
+        commands::BEGIN_WRITE => told(manager::begin_write(list, r, p, frame)),
+        commands::BRING_WORD => told(manager::bring_word(list, r, p, frame, offset)),
+        commands::TAKE_WORD => told(manager::take_word(list, r, p, frame, offset)),
         _ => told(manager::end_transfer(list, r, p, frame)),
     }
 }

@@ -1,12 +1,14 @@
 // What a script has at a line: what is lent and how much of it, the list and another that it keeps, the items of a call over many mappings, whose calls are
 // made, the numbers that it was called with, and what is wrong with the line, or 0.
+use crate::commands;
+use crate::commands::Command;
 use crate::lent;
 use crate::lent::Lent;
 use crate::lent::byte;
-use crate::words;
-use crate::words::ARGS;
-use crate::words::Command;
-use crate::words::Numbers;
+use crate::numbers;
+use crate::numbers::ARGS;
+use crate::numbers::Numbers;
+use crate::slips;
 use mapping::Batch;
 use mapping::CAPACITY;
 use mapping::Mapping;
@@ -28,7 +30,7 @@ pub fn start() -> State {
     let zeros = lent::zeros();
     let list = mapping::empty();
     let batch = none();
-    let called = words::none();
+    let called = numbers::none();
     State {
         lent: zeros,
         lengths: [0u64; ARGS],
@@ -77,19 +79,19 @@ pub fn set(s: State, c: Command) -> State {
     let kept = s.kept;
     let name = c.name;
     match name {
-        words::MACHINE => on(s, false),
-        words::MANAGER => on(s, true),
-        words::START => with_lent(s, lent::started(l)),
-        words::EMPTY => with_list(s, mapping::empty()),
-        words::ENTRY => entered(s, args),
-        words::LISTED => counted(s, args[0]),
-        words::PAGES => with_list(s, pages(args[0], args[1], args[2], args[3])),
-        words::KEEP => keep(s),
-        words::BACK => with_list(s, kept),
-        words::BATCH => batch(s, args[0]),
-        words::ITEM => item(s, args),
-        words::ITEMS => with_batch(s, items(args[0], args[1], args[2], args[3])),
-        words::WITH => lengths(s, args),
+        commands::MACHINE => on(s, false),
+        commands::MANAGER => on(s, true),
+        commands::START => with_lent(s, lent::started(l)),
+        commands::EMPTY => with_list(s, mapping::empty()),
+        commands::ENTRY => entered(s, args),
+        commands::LISTED => counted(s, args[0]),
+        commands::PAGES => with_list(s, pages(args[0], args[1], args[2], args[3])),
+        commands::KEEP => keep(s),
+        commands::BACK => with_list(s, kept),
+        commands::BATCH => batch(s, args[0]),
+        commands::ITEM => item(s, args),
+        commands::ITEMS => with_batch(s, items(args[0], args[1], args[2], args[3])),
+        commands::WITH => lengths(s, args),
         _ => with_lent(s, lent::set(l, c)),
     }
 }
@@ -133,10 +135,10 @@ fn entered(s: State, args: [u64; ARGS]) -> State {
     let list = s.list;
     let place = args[0] as usize;
     if list.count >= CAPACITY {
-        return with_slip(s, words::MISFIT);
+        return with_slip(s, slips::MISFIT);
     }
     if place > list.count {
-        return with_slip(s, words::MISFIT);
+        return with_slip(s, slips::MISFIT);
     }
     let m = entry(args[1], args[2], args[3], args[4]);
     with_list(s, mapping::insert_at(list, place, m))

@@ -1,7 +1,7 @@
 // Text on a call: the refusal, or 0, the two operations and the word, or what is drawn; and what changed.
 use crate::lent::Lent;
-use crate::words::Numbers;
-use crate::words::wide;
+use crate::numbers::Numbers;
+use crate::numbers::wide;
 use libc::STDOUT_FILENO;
 use machine::Loaded;
 use manager::Answer;

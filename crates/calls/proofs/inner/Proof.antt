@@ -29,8 +29,8 @@ part-line-end c = search needs
 line-requires : tie.Need-line-requires Inv-loop μ-loop
 line-requires c κs = search needs
 
-slip-requires : tie.Need-slip-requires Inv-loop μ-loop
-slip-requires c κs = search needs
+told-requires : tie.Need-told-requires Inv-loop μ-loop
+told-requires c κs = search needs
 
 returns : tie.Need-returns Inv-loop μ-loop
 returns c = search needs
@@ -68,7 +68,7 @@ inner-spec =
     part-line-start
     part-line-end
     line-requires
-    slip-requires
+    told-requires
     returns
     with-slip-requires
     returns-2

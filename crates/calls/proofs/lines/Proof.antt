@@ -29,14 +29,14 @@ part-outer-end c = search needs
 outer-requires : tie.Need-outer-requires Inv-loop μ-loop
 outer-requires c κs = search needs
 
-slip-requires : tie.Need-slip-requires Inv-loop μ-loop
-slip-requires c κs = search needs
+told-requires : tie.Need-told-requires Inv-loop μ-loop
+told-requires c κs = search needs
 
 returns : tie.Need-returns Inv-loop μ-loop
 returns c = search needs
 
-slip-requires-2 : tie.Need-slip-requires-2 Inv-loop μ-loop
-slip-requires-2 c κs = search needs
+told-requires-2 : tie.Need-told-requires-2 Inv-loop μ-loop
+told-requires-2 c κs = search needs
 
 returns-2 : tie.Need-returns-2 Inv-loop μ-loop
 returns-2 c = search needs
@@ -68,9 +68,9 @@ lines-spec =
     part-outer-start
     part-outer-end
     outer-requires
-    slip-requires
+    told-requires
     returns
-    slip-requires-2
+    told-requires-2
     returns-2
     add-at
     wrapping-add-u64-requires

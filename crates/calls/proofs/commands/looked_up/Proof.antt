@@ -1,9 +1,9 @@
--- `calls::words::looked_up` meets its contract.
+-- `calls::commands::looked_up` meets its contract.
 use borrow.Author.Needs.{needs}
 use Prim.Native.Nat.{_-_}
 use lib.ListN.{length}
-use Rattle.calls.proofs.words.looked_up.Statement.{statement}
-use Rattle.calls.proofs.words.looked_up.Tie as tie
+use Rattle.calls.proofs.commands.looked_up.Statement.{statement}
+use Rattle.calls.proofs.commands.looked_up.Tie as tie
 
 abbrev Inv-loop : tie.InvT-loop
 Inv-loop table line end k₀ i₀ k i = Unit {0}

@@ -1,9 +1,9 @@
--- `calls::words::numbers_of` meets its contract.
+-- `calls::numbers::of_line` meets its contract.
 use borrow.Author.Needs.{needs}
 use Prim.Native.Nat.{_-_}
 use lib.ListN.{length}
-use Rattle.calls.proofs.words.numbers_of.Statement.{statement}
-use Rattle.calls.proofs.words.numbers_of.Tie as tie
+use Rattle.calls.proofs.numbers.of_line.Statement.{statement}
+use Rattle.calls.proofs.numbers.of_line.Tie as tie
 
 abbrev Inv-loop : tie.InvT-loop
 Inv-loop table kinds line from s₀ i₀ s i = Unit {0}
@@ -41,8 +41,8 @@ whole-requires c κs = search needs
 returns : tie.Need-returns Inv-loop μ-loop
 returns c = search needs
 
-pub numbers-of-spec : {M : Type 1} → statement M
-numbers-of-spec =
+pub of-line-spec : {M : Type 1} → statement M
+of-line-spec =
     tie.close
     (tie.spec
     Inv-loop

@@ -1,9 +1,9 @@
--- `calls::words::word_end` meets its contract.
+-- `calls::commands::word_end` meets its contract.
 use borrow.Author.Needs.{needs}
 use Prim.Native.Nat.{_-_}
 use lib.ListN.{length}
-use Rattle.calls.proofs.words.word_end.Statement.{statement}
-use Rattle.calls.proofs.words.word_end.Tie as tie
+use Rattle.calls.proofs.commands.word_end.Statement.{statement}
+use Rattle.calls.proofs.commands.word_end.Tie as tie
 
 abbrev Inv-loop : tie.InvT-loop
 Inv-loop line from i₀ i = Unit {0}
