@@ -680,47 +680,42 @@ fn random_looks_find_the_words_last_sent() {
     assert!(least > 1000, "{least} looks of one sort");
 }
 
-/// The line of a fix and a look at it with the peer's answer, if the line is well formed.
-fn answered(line: &str) -> Option<String> {
-    let (fix, look_words) = line.strip_prefix("fix ")?.split_once(": look ")?;
-    let fix: Vec<u32> = fix.split(' ').flat_map(str::parse).collect();
-    let [number, second, latitude, longitude] = *fix else {
+/// The peer's line for the look of a line `do position_fix ..`, if that is well formed: a fix, and the clock and the hold of a look at it.
+fn drawn(line: &str) -> Option<String> {
+    let numbers = line.strip_prefix("do position_fix ")?.split(' ');
+    let numbers: Vec<u32> = numbers.flat_map(str::parse).collect();
+    let [number, second, latitude, longitude, clock, hold] = *numbers else {
         return None;
     };
-    let mut look_words = look_words.split(' ');
-    let space = look_words.next()?.parse().ok()?;
-    let page = look_words.next()?.parse().ok()?;
-    let clock = look_words.next()?.parse().ok()?;
-    let hold = look_words.next()?.parse().ok()?;
 
     let mut machine = received([number, second, latitude, longitude]);
-    let answer = match look(&mut machine, space, page, clock, hold) {
+    let answer = match look(&mut machine, 0, 0, clock, hold) {
         Ok(Shown::Blank) => "blank".to_string(),
         Ok(Shown::Position {
             latitude,
             longitude,
         }) => format!("position {latitude} {longitude}"),
-        Err(refusal) => format!("refused {}", refusal.number()),
+        Err(refusal) => refusal.number().to_string(),
     };
-    let fix = format!("fix {number} {second} {latitude} {longitude}");
-    Some(format!(
-        "{fix}: look {space} {page} {clock} {hold} {answer}"
-    ))
+    Some(format!("look 0 0 {clock} {hold}: {answer}"))
 }
 
-/// The text of the proved crate's cases: in each line of a fix, the answer is the peer's.
+/// The text of the proved crate's cases: the answer of each look at a fix is the peer's. What the look changed stands behind its answer.
 #[test]
 fn cases_of_the_proved_crate() {
-    let file = "../../crates/position_hold_cases/stdout";
+    let file = "../../crates/calls/stdout";
     let file = Path::new(env!("CARGO_MANIFEST_DIR")).join(file);
     let text = fs::read_to_string(&file);
     let text = text.unwrap_or_else(|error| panic!("{}: {error}", file.display()));
-    let lines = text.lines().filter(|line| line.starts_with("fix "));
+    let mut lines = text.lines();
     let mut count = 0;
-    for line in lines {
-        let right = answered(line);
-        assert_eq!(Some(line), right.as_deref(), "the peer has the latter");
+    while let Some(fix) = lines.find(|line| line.starts_with("do position_fix ")) {
+        let look = lines.find(|line| line.starts_with("look "));
+        let told = look.unwrap_or("").split(' ');
+        let told: Vec<&str> = told.take_while(|word| !word.contains('=')).collect();
+        let right = drawn(fix);
+        assert_eq!(Some(told.join(" ")), right, "the peer has the latter");
         count += 1;
     }
-    assert!(count >= 30, "{count} lines of a fix");
+    assert!(count >= 30, "{count} looks at a fix");
 }
