@@ -2,6 +2,8 @@
 use crate::numbers;
 use crate::numbers::Numbers;
 use crate::slips;
+ghost use Prim.Native.Nat.{_≤_};
+ghost use lib.ListN.{length};
 
 // The commands, by their rows in the tables of `parsed`: settings, `with`, and the calls.
 pub const MACHINE: usize = 0;
@@ -126,11 +128,14 @@ pub fn is_do(line: &[u8]) -> bool {
     line[0] == b'd' && line[1] == b'o' && line[2] == b' '
 }
 
-// Where the word that starts at a place of a line ends.
-pub fn word_end(line: &[u8], from: usize) -> usize {
-    let mut i = from;
-    while i < line.len() {
-        if line[i] == b' ' {
+// Where the first byte of a kind stands from a place of a text on, or where the text ends.
+pub fn up_to(text: &[u8], at: usize, stop: u8) -> usize
+    requires { ⌜ at ≤ length (now text) ⌝ }
+    ensures { λ r. ⌜ (at ≤ r) × (r ≤ length (now (text .entry))) ⌝ }
+{
+    let mut i = at;
+    while i < text.len() {
+        if text[i] == stop {
             return i;
         }
         i += 1;
@@ -153,7 +158,7 @@ struct Row {
 
 // The command of a line by the row of a table that its word has, with the numbers of the rows from `first` on.
 fn of_table(table: &[u8], line: &[u8], called: Numbers, first: usize) -> Command {
-    let end = word_end(line, 0);
+    let end = up_to(line, 0, b' ');
     let row = looked_up(table, line, end);
     if !row.found {
         let mut unknown = numbers::none();

@@ -12,12 +12,10 @@ mod tell;
 use commands::Command;
 use libc::STDOUT_FILENO;
 use state::State;
-ghost use Prim.Native.Nat.{_≤_};
-ghost use lib.ListN.{length};
 ghost use Rattle.io.specs.Counts.{Counts};
 
-// A script has fewer bytes.
-const MOST_BYTES: usize = 65536;
+// How many bytes of a script are read: it has fewer, or is too long.
+const BYTES: usize = 65536;
 
 fn main() {
     scripts(os::arg_count());
@@ -43,14 +41,15 @@ fn named(i: usize) {
 fn script(name: &[u8]) {
     let mut text = io::large_buffer();
     let n = read(name, &mut text);
-    if n == 0 {
-        slips::told(name, 0, slips::NO_SCRIPT);
+    let slip = slip_of(n);
+    if slip != 0 {
+        slips::told(name, 0, slip);
         return;
     }
     lines(name, &text[..n], state::start());
 }
 
-// Reads a script; 0 where there is none.
+// Reads a script, and answers how many bytes it has: at most those that the buffer takes.
 fn read(name: &[u8], text: &mut [u8]) -> usize
     ensures { λ r. ⌜ Counts r (now (text .exit)) ⌝ }
 {
@@ -60,42 +59,37 @@ fn read(name: &[u8], text: &mut [u8]) -> usize
     n
 }
 
+// What is wrong with a script of so many bytes.
+fn slip_of(bytes: usize) -> u8 {
+    if bytes == 0 {
+        return slips::NO_SCRIPT;
+    }
+    if bytes >= BYTES {
+        return slips::TOO_LONG;
+    }
+    0
+}
+
 // ---- lines
 
-// Carries out the lines of a script up to its end, or to one that is no command.
+// Carries out the lines of a script up to its end, or to one that has a slip.
 fn lines(name: &[u8], text: &[u8], s: State) {
     let mut now = s;
     let mut number: u64 = 1;
     let mut at = 0;
     while at < text.len() {
-        let end = line_end(text, at);
+        let end = commands::up_to(text, at, b'\n');
         now = outer(&text[at..end], now);
         if now.slip != 0 {
             slips::told(name, number, now.slip);
             return;
         }
-        if end >= MOST_BYTES {
-            slips::told(name, number, slips::TOO_LONG);
+        if end >= BYTES {
             return;
         }
         at = end + 1;
         number = std::num::wrapping_add_u64(number, 1);
     }
-}
-
-// Where the line that starts at a place ends.
-fn line_end(text: &[u8], at: usize) -> usize
-    requires { ⌜ at ≤ length (now text) ⌝ }
-    ensures { λ r. ⌜ (at ≤ r) × (r ≤ length (now (text .entry))) ⌝ }
-{
-    let mut i = at;
-    while i < text.len() {
-        if text[i] == b'\n' {
-            return i;
-        }
-        i += 1;
-    }
-    i
 }
 
 // Carries out a line that may call a script by `do NAME NUMBER..`. The line is written, and its numbers stand for `$1` and so on in that script.
@@ -108,28 +102,22 @@ fn outer(text: &[u8], s: State) -> State {
     if text.len() < 3 {
         return s;
     }
-    let end = commands::word_end(text, 3);
-    if end > text.len() {
-        return s;
+    let end = commands::up_to(text, 3, b' ');
+    let numbers = commands::of_call(text, end);
+    if numbers.slip != 0 {
+        return state::with_slip(s, numbers.slip);
     }
-    if end < 3 {
-        return s;
-    }
-    called(
-        &text[3..end],
-        state::within(s, commands::of_call(text, end)),
-    )
+    let left = called(&text[3..end], state::with_numbers(s, numbers));
+    state::with_numbers(left, numbers::none())
 }
 
 // Runs a script that another one calls.
 fn called(name: &[u8], s: State) -> State {
-    if s.slip != 0 {
-        return s;
-    }
     let mut text = io::large_buffer();
     let n = read(name, &mut text);
-    if n == 0 {
-        return state::with_slip(s, slips::NO_SCRIPT);
+    let slip = slip_of(n);
+    if slip != 0 {
+        return state::with_slip(s, slip);
     }
     inner(name, &text[..n], s)
 }
@@ -140,14 +128,14 @@ fn inner(name: &[u8], text: &[u8], s: State) -> State {
     let mut number: u64 = 1;
     let mut at = 0;
     while at < text.len() {
-        let end = line_end(text, at);
+        let end = commands::up_to(text, at, b'\n');
         now = line(&text[at..end], now);
         if now.slip != 0 {
             slips::told(name, number, now.slip);
             return now;
         }
-        if end >= MOST_BYTES {
-            return state::with_slip(now, slips::TOO_LONG);
+        if end >= BYTES {
+            return now;
         }
         at = end + 1;
         number = std::num::wrapping_add_u64(number, 1);
@@ -172,6 +160,7 @@ fn line(text: &[u8], s: State) -> State {
     carried_out(text, s, commands::parsed(text, s.manager, numbers))
 }
 
+// Carries out a command: a setting, or a call, of which a line is written.
 fn carried_out(text: &[u8], s: State, c: Command) -> State {
     let numbers = c.numbers;
     if numbers.slip != 0 {
@@ -180,10 +169,8 @@ fn carried_out(text: &[u8], s: State, c: Command) -> State {
     if c.name < commands::MAP {
         return state::set(s, c);
     }
-    let end = commands::word_end(text, 0);
-    if end <= text.len() {
-        io::write_all(STDOUT_FILENO, &text[0..end]);
-    }
+    let end = commands::up_to(text, 0, b' ');
+    io::write_all(STDOUT_FILENO, &text[0..end]);
     tell::numbers(numbers);
     made(s, c)
 }

@@ -43,11 +43,10 @@ pub fn start() -> State {
     }
 }
 
-// The same within a script that is called with these numbers.
-pub fn within(s: State, called: Numbers) -> State {
+// The same with the numbers of a script that is called.
+pub fn with_numbers(s: State, called: Numbers) -> State {
     let mut next = s;
     next.called = called;
-    next.slip = called.slip;
     next
 }
 

@@ -14,8 +14,8 @@ abbrev μ-loop : tie.MeasureT-loop
 loop-holds : tie.Need-loop-holds Inv-loop μ-loop
 loop-holds c = search needs
 
-line-end-requires : tie.Need-line-end-requires Inv-loop μ-loop
-line-end-requires c κs = search needs
+up-to-requires : tie.Need-up-to-requires Inv-loop μ-loop
+up-to-requires c κs = search needs
 
 sub-outer : tie.Need-sub-outer Inv-loop μ-loop
 sub-outer c = search needs
@@ -34,9 +34,6 @@ told-requires c κs = search needs
 
 returns : tie.Need-returns Inv-loop μ-loop
 returns c = search needs
-
-told-requires-2 : tie.Need-told-requires-2 Inv-loop μ-loop
-told-requires-2 c κs = search needs
 
 returns-2 : tie.Need-returns-2 Inv-loop μ-loop
 returns-2 c = search needs
@@ -63,14 +60,13 @@ lines-spec =
     Inv-loop
     μ-loop
     loop-holds
-    line-end-requires
+    up-to-requires
     sub-outer
     part-outer-start
     part-outer-end
     outer-requires
     told-requires
     returns
-    told-requires-2
     returns-2
     add-at
     wrapping-add-u64-requires
