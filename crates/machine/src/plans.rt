@@ -1,4 +1,4 @@
-// The machine's own refusals, told before anything changes, and the manager's plan or refusal beside them.
+// What a call would do, found before anything changes: the machine's own refusal and the manager's plan or refusal are found apart, and the refusal that stands earlier in the order is given.
 ghost use mathlib.Core.Path.{_≡_};
 ghost use mathlib.Core.Bool.{true};
 ghost use lib.Dec.{eqb};
@@ -10,7 +10,7 @@ ghost use Rattle.cache.specs.Store.{store};
 ghost use Rattle.machine.specs.Refusals.{causes};
 ghost use Rattle.machine.specs.State as call;
 ghost use Rattle.machine.specs.State.{machineOf};
-ghost use Rattle.machine.specs.Plans.{storeCauses, accessCauses, earlier, withStep, withPlace, MovesWord};
+ghost use Rattle.machine.specs.Plans.{storeCauses, accessCauses, earlier, withStep, withPlace, MovesWord, refusalOf, placeRefusal};
 use board::Board;
 use manager::ListPlan;
 use manager::Plan;
@@ -19,7 +19,7 @@ use manager::refusals::or_else;
 use manager::refusals::place;
 use mapping::MappingList;
 
-// The refusal of a word at an offset of a transfer that has this mark, or 0.
+// The refusal of a word at an offset, which a transfer with this mark moves, or 0.
 pub fn word_refusal(
     board: Board,
     list: MappingList,
@@ -196,6 +196,26 @@ pub fn with_place(own: u8, plan: ListPlan) -> ListPlan
         return plan;
     };
     ListPlan::Refused(earlier(own, number))
+}
+
+// The number of a plan that is a refusal, else 0.
+pub fn refusal_of(plan: Plan) -> u8
+    ensures { λ r. ⌜ r ≡ refusalOf plan ⌝ }
+{
+    match plan {
+        Plan::Refused(number) => number,
+        Plan::Step(_) => 0,
+    }
+}
+
+// The same of a plan of the list.
+pub fn place_refusal(plan: ListPlan) -> u8
+    ensures { λ r. ⌜ r ≡ placeRefusal plan ⌝ }
+{
+    match plan {
+        ListPlan::Refused(number) => number,
+        ListPlan::Place(_) => 0,
+    }
 }
 
 // Of two refusals, 0 for none, the one whose place comes first.

@@ -59,10 +59,10 @@ use Rattle.manager.specs.Tables as lists
 use Rattle.manager.proofs.LentItems.{lent-items}
 use Rattle.manager.proofs.Listed as R
 use Rattle.manager.proofs.Listed.Laws as R′
-use Rattle.manager.proofs.map_all as all
-use Rattle.manager.proofs.map_all.Symbol as all-def
-use Rattle.manager.proofs.map_all.Symbol.{name as #manager·map-all}
-use Rattle.manager.proofs.map_all.Met as all-thm
+use Rattle.manager.proofs.calls.map_all as all
+use Rattle.manager.proofs.calls.map_all.Symbol as all-def
+use Rattle.manager.proofs.calls.map_all.Symbol.{name as #manager·calls·map-all}
+use Rattle.manager.proofs.calls.map_all.Met as all-thm
 use Rattle.manager.proofs.lent.map_all.Key.{name as #manager·lent·map-all}
 use Rattle.manager.proofs.lent.map_all as lent
 use Rattle.manager.proofs.lent.map_all.Statement as stated
@@ -159,7 +159,7 @@ module _ {M : Type 1} (𝓤 : URA M) (H : Heap 𝓤) (A : Atoms 𝓤) (W : Given
       move ! (1 ∷ []) $ split ! $ move ! (1 ∷ []) $ split ! $ move ! (1 ∷ []) $ split ! $ move ! (5 ∷ 1 ∷ []) $ join ! $ move ! (1 ∷ 0 ∷ []) $ join ! $ move ! (1 ∷ 0 ∷ []) $ join ! $
       move ! (0 ∷ 2 ∷ 1 ∷ []) $ done !))))
 
-  module _ (𝓣 : Tables 𝓤 H) (known-batch : Triple 𝓤 (𝓣 .C #mapping·lent·batch) (Batched 𝓤 H A mem run)) (known-all : Triple 𝓤 (𝓣 .C #manager·map-all) (All 𝓤 H A mem run))
+  module _ (𝓣 : Tables 𝓤 H) (known-batch : Triple 𝓤 (𝓣 .C #mapping·lent·batch) (Batched 𝓤 H A mem run)) (known-all : Triple 𝓤 (𝓣 .C #manager·calls·map-all) (All 𝓤 H A mem run))
       (is : Is L.the-row list (v ∷ [])) (records-fit : Room u32 (length (now records))) (protections-fit : Room u8 (length (now protections))) (items-fit : Room T.the-row (length (now items))) (answers-fit : Room u8 (length (now answers))) where
     abbrev C : Calls 𝓤 H
     C = 𝓣 .C
@@ -230,7 +230,7 @@ module _ {M : Type 1} (𝓤 : URA M) (H : Heap 𝓤) (A : Atoms 𝓤) (W : Given
         keep ! (22 ∷ 23 ∷ 24 ∷ 20 ∷ 21 ∷ 18 ∷ 19 ∷ 16 ∷ 17 ∷ 14 ∷ 15 ∷ 12 ∷ 13 ∷ 10 ∷ 11 ∷ 8 ∷ 9 ∷ 6 ∷ 7 ∷ 4 ∷ 5 ∷ 2 ∷ 3 ∷ 0 ∷ 1 ∷ []) $ starts l₀ l₁ l₂ l₃ l₄ l₅ l₆ l₇ l₈ l₉ l₁₀)))))))))))
 
 module _ {M : Type 1} (𝓤 : URA M) (H : Heap 𝓤) (A : Atoms 𝓤) (W : Given 𝓤 H A) (mem : Memory → SProp 𝓤) (run : Routine → Fun 𝓤) (𝓣 : Tables 𝓤 H)
-    (known-batch : Triple 𝓤 (𝓣 .C #mapping·lent·batch) (Batched 𝓤 H A mem run)) (known-all : Triple 𝓤 (𝓣 .C #manager·map-all) (All 𝓤 H A mem run)) where
+    (known-batch : Triple 𝓤 (𝓣 .C #mapping·lent·batch) (Batched 𝓤 H A mem run)) (known-all : Triple 𝓤 (𝓣 .C #manager·calls·map-all) (All 𝓤 H A mem run)) where
   map-all-walks : Walks 𝓤 H A lent.ended stayed (WpFn 𝓤 H (𝓣 .C) (𝓣 .Λ) code.function) (lent.clauses 𝓤 H A mem run)
   map-all-walks = walked 𝓤 H A lent.ended stayed (lent.clauses 𝓤 H A mem run) (WpFn 𝓤 H (𝓣 .C) (𝓣 .Λ) code.function) (λ κs. (LL.vals L.the-type L′.the-laws, (slice-vals, (slice-vals, (slice-vals, (slice-vals, tt))))))
       (λ κs. (LL.tells L.the-type L′.the-laws, (shr-slice-tells (named 0) (κs .0) u32, (mut-slice-tells (named 1) (κs .1 .0) u8, (shr-slice-tells (named 2) (κs .1 .1 .0) T.the-row, (mut-slice-tells (named 3) (κs .1 .1 .1 .0) u8, tt))))))
@@ -260,4 +260,4 @@ map-all-spec 𝓤 H 𝓜 𝓖 𝓡 =
     (tables 𝓤 H 𝓜 𝓡 code.env .C) (tables 𝓤 H 𝓜 𝓡 code.env .Λ) #manager·lent·map-all code.function (code.unfolded 𝓤 H 𝓜 𝓡)
     (map-all-meets 𝓤 H (𝓖 .A) (givenOf 𝓤 H 𝓜 𝓖) (𝓜 .mem) (𝓡 .run) (tablesOf 𝓤 H 𝓜 (tables 𝓤 H 𝓜 𝓡 code.env))
     (cited 𝓤 H (Batched 𝓤 H (𝓖 .A) (𝓜 .mem) (𝓡 .run)) 𝓜 𝓡 code.env #mapping·lent·batch batch-def.routine code.calls-mapping·lent·batch (batch-thm.met 𝓤 H 𝓜 𝓖 𝓡))
-    (cited 𝓤 H (All 𝓤 H (𝓖 .A) (𝓜 .mem) (𝓡 .run)) 𝓜 𝓡 code.env #manager·map-all all-def.routine code.calls-manager·map-all (all-thm.met 𝓤 H 𝓜 𝓖 𝓡)))
+    (cited 𝓤 H (All 𝓤 H (𝓖 .A) (𝓜 .mem) (𝓡 .run)) 𝓜 𝓡 code.env #manager·calls·map-all all-def.routine code.calls-manager·calls·map-all (all-thm.met 𝓤 H 𝓜 𝓖 𝓡)))

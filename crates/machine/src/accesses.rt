@@ -1,0 +1,139 @@
+// The processor's accesses, and a line turned out of the cache.
+ghost use mathlib.Core.Path.{_≡_};
+ghost use mathlib.Core.List.{[]};
+ghost use mathlib.Core.Option.{none};
+ghost use Rattle.board.specs.Board.{board01};
+ghost use Rattle.manager.specs.Answers.{outcome};
+ghost use Rattle.machine.specs.State as call;
+ghost use Rattle.machine.specs.State.{machineOf};
+ghost use Rattle.machine.specs.Step.{answer, result, step};
+ghost use Rattle.machine.specs.Plans.{loaded};
+use super::Loaded;
+use super::operations;
+use super::plans;
+use board::BOARD01;
+use manager::Answer;
+use manager::FrameOps;
+use manager::Plan;
+use manager::commits::COLOURS;
+use mapping::MappingList;
+
+// The processor reads a word.
+pub fn read(
+    list: MappingList,
+    records: &mut [u32],
+    protections: &mut [u8],
+    memory: &mut [u32],
+    words: &mut [u32],
+    tags: &mut [u8],
+    space: u8,
+    page: u16,
+    offset: usize,
+) -> Loaded
+    ensures { λ r. ⌜ result (loaded r)
+        (machineOf list (now (records .exit)) (now (protections .exit)) (now (memory .exit)) (now (words .exit)) (now (tags .exit)))
+        ≡ step board01
+        (machineOf list (now (records .entry)) (now (protections .entry)) (now (memory .entry)) (now (words .entry)) (now (tags .entry)))
+        (call.read space page offset) ⌝ }
+{
+    let own = plans::access_refusal(BOARD01, memory, words, tags, BOARD01.page, offset);
+    let managers = manager::plans::plan_read(BOARD01, list, records, protections, space, page);
+    let plan = plans::with_step(own, managers);
+    let Plan::Step(change) = plan else {
+        return Loaded::Refused(plans::refusal_of(plan));
+    };
+    let frame = change.frame;
+    let next = change.next;
+    let ops = change.ops;
+    manager::commits::commit_change(COLOURS, list, records, protections, frame, next);
+    let colour = board::colour_of(BOARD01, page as usize);
+    let word = operations::load(
+        BOARD01,
+        memory,
+        words,
+        tags,
+        frame as usize,
+        ops,
+        colour,
+        offset,
+    );
+    Loaded::Word(FrameOps { frame, ops }, word)
+}
+
+// The processor writes a word.
+pub fn write(
+    list: MappingList,
+    records: &mut [u32],
+    protections: &mut [u8],
+    memory: &mut [u32],
+    words: &mut [u32],
+    tags: &mut [u8],
+    space: u8,
+    page: u16,
+    offset: usize,
+    word: u32,
+) -> Answer
+    ensures { λ r. ⌜ result (answer (outcome r) none [])
+        (machineOf list (now (records .exit)) (now (protections .exit)) (now (memory .exit)) (now (words .exit)) (now (tags .exit)))
+        ≡ step board01
+        (machineOf list (now (records .entry)) (now (protections .entry)) (now (memory .entry)) (now (words .entry)) (now (tags .entry)))
+        (call.write space page offset word) ⌝ }
+{
+    let own = plans::access_refusal(BOARD01, memory, words, tags, BOARD01.page, offset);
+    let managers = manager::plans::plan_write(BOARD01, list, records, protections, space, page);
+    let plan = plans::with_step(own, managers);
+    let Plan::Step(change) = plan else {
+        return Answer::Refused(plans::refusal_of(plan));
+    };
+    let frame = change.frame;
+    let next = change.next;
+    let ops = change.ops;
+    manager::commits::commit_change(COLOURS, list, records, protections, frame, next);
+    let colour = board::colour_of(BOARD01, page as usize);
+    operations::put(
+        BOARD01,
+        memory,
+        words,
+        tags,
+        frame as usize,
+        ops,
+        colour,
+        offset,
+        word,
+    );
+    Answer::Accepted(FrameOps { frame, ops })
+}
+
+// A line is written back if it is dirty, and emptied: document 01's turning out.
+pub fn evict(
+    list: MappingList,
+    records: &[u32],
+    protections: &mut [u8],
+    memory: &mut [u32],
+    words: &[u32],
+    tags: &mut [u8],
+    line: usize,
+) -> Answer
+    ensures { λ r. ⌜ result (answer (outcome r) none [])
+        (machineOf list (now (records .entry)) (now (protections .exit)) (now (memory .exit)) (now (words .entry)) (now (tags .exit)))
+        ≡ step board01
+        (machineOf list (now (records .entry)) (now (protections .entry)) (now (memory .entry)) (now (words .entry)) (now (tags .entry)))
+        (call.evict line) ⌝ }
+{
+    let refusal = plans::evict_refusal(
+        BOARD01,
+        list,
+        records,
+        protections,
+        memory,
+        words,
+        tags,
+        line,
+    );
+    if refusal != 0 {
+        return Answer::Refused(refusal);
+    }
+    manager::records::refill(COLOURS, list, records, protections);
+    cache::line::evict(BOARD01, memory, words, tags, line);
+    manager::no_operations()
+}

@@ -1,0 +1,62 @@
+-- `manager::plans::plan_read` meets its contract.
+use mathlib.Core.Path.{refl, sym, ap, _∙_}
+use mathlib.Core.List.{List, [], _++_}
+use Prim.Native.Nat.{ℕ}
+use borrow.Author.Needs.{needs}
+use Rattle.board.specs.Board.{colourOf}
+use Rattle.page_model.specs.declared.FrameRecord.{FrameRecord}
+use Rattle.page_model.specs.Busy.{bars}
+use Rattle.page_model.specs.Record.{keepsRules}
+use Rattle.page_model.specs.Step.{stepped}
+use Rattle.page_model.specs.Table.{read}
+use Rattle.mapping.specs.declared.Seen.{Seen}
+use Rattle.mapping.specs.Look.{find}
+use Rattle.mapping.specs.Lookup.{listedMapping}
+use Rattle.mapping.proofs.Laws.{items-length}
+use Rattle.manager.specs.Refusals.{Cause, tableCauses, readCauses, toldPage}
+use Rattle.manager.specs.Tables.{Tables, tables, recordAt}
+use Rattle.manager.proofs.CauseLaws.{told-found, call-list-keeps, told-rest, page-rules}
+use Rattle.manager.proofs.PlanLaws.{planned-first, planned-barred}
+use Rattle.manager.proofs.plans.plan_read.Statement.{statement}
+use Rattle.manager.proofs.plans.plan_read.Tie as tie
+
+abbrev lent : tie.Start → Tables
+lent s = tables (s .args .list) (s .args .records .now) (s .args .protections .now)
+
+-- what is tested before the frame's mark
+abbrev first : tie.Start → List Cause
+first s = tableCauses (s .args .board) (lent s) ++ toldPage (s .args .space) (s .args .page) (find (s .args .list) (s .args .space) (s .args .page))
+
+returns : tie.Need-returns
+unfolding readCauses
+returns c =
+    let looked = c .before .before in
+    let s = looked .before .before .before in
+    let a = s .args in
+    let refusal = c .before .page-refusal .ensures ∙ told-rest (a .board) (a .list) _ _ (looked .look .ensures) _ _ (toldPage (a .space) (a .page)) (items-length (a .list) _ (s .good .1 .0)) in
+    planned-first (first s) _ _ refusal (c .if1 .taken)
+
+returns-2 : tie.Need-returns-2
+unfolding readCauses
+returns-2 c =
+    let at-record = c .before .before .before in
+    let at-colour = at-record .before in
+    let tested = at-colour .before in
+    let looked = tested .before .before in
+    let s = looked .before .before .before in
+    let a = s .args in
+    let refusal = tested .before .page-refusal .ensures ∙ told-rest (a .board) (a .list) _ _ (looked .look .ensures) _ _ (toldPage (a .space) (a .page)) (items-length (a .list) _ (s .good .1 .0)) in
+    let none = sym refusal ∙ tested .if1 .left in
+    let frame = ap (λ (x : Seen). x .mapping .frame) (told-found _ (a .list) _ _ (looked .look .ensures) (call-list-keeps (a .board) (lent s) (toldPage (a .space) (a .page) (find (a .list) (a .space) (a .page))) refl none)) in
+    let same = at-record .record-at .ensures ∙ ap (λ (f : ℕ). recordAt (a .records .now) f) frame in
+    let kept = ap (keepsRules _) same ∙ page-rules _ (lent s) (a .space) (a .page) [] refl none in
+    c .step-of .ensures
+    ∙ planned-barred (a .board) (lent s) (first s) (listedMapping (a .list) (a .space) (a .page) .frame) (read (colourOf (a .board) (a .page))) refl none
+    (c .before .before .bars-read .ensures (colourOf (a .board) (a .page)) ∙ ap (λ (r : FrameRecord). bars (r .busy) (read (colourOf (a .board) (a .page)))) same)
+    frame
+    (c .before .read .ensures kept ∙ (λ i. stepped (a .board .colours) (read (at-colour .colour-of .ensures .0 i)) (same i)))
+
+pub plan-read-spec : {M : Type 1} → statement M
+plan-read-spec =
+    tie.close
+    (tie.spec (λ c κs. search needs) (λ c κs. search needs) returns (λ c κs. search needs) (λ c κs. search needs) (λ c κs. search needs) (λ c κs. search needs) (λ c κs. search needs) returns-2)

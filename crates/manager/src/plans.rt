@@ -1,0 +1,194 @@
+// What each call with operations, and each change of the list, would do: a refusal, or the step of one frame's record, or a place in the list. A plan changes nothing.
+ghost use mathlib.Core.Path.{_≡_};
+ghost use mathlib.Core.Bool.{cond};
+ghost use Rattle.board.specs.Board.{Regular};
+ghost use Rattle.page_model.specs.Table.{deviceRead};
+ghost use Rattle.manager.specs.Calls.{planMap, planUnmap, planned, planRead, planWrite, planTransfer, beginStep, planDeviceWritePart};
+ghost use Rattle.manager.specs.Tables.{tables};
+use super::Change;
+use super::ListPlan;
+use super::Plan;
+use super::records::record_at;
+use super::refusals::map_refusal;
+use super::refusals::page_refusal;
+use super::refusals::part_refusal;
+use super::refusals::transfer_refusal;
+use super::refusals::write_refusal;
+use board::Board;
+use mapping::Mapping;
+use mapping::MappingList;
+use page_model::Stepped;
+
+// Whether a mapping can be listed, and where.
+pub fn plan_map(
+    board: Board,
+    list: MappingList,
+    records: &[u32],
+    protections: &[u8],
+    m: Mapping,
+) -> ListPlan
+    requires { ⌜ Regular board ⌝ }
+    ensures { λ r. ⌜ r ≡ planMap board (tables list (now (records .entry)) (now (protections .entry))) (m .space) (m .page) (m .frame) (m .rights) ⌝ }
+{
+    let seen = mapping::look(board, list, m.space, m.page);
+    let refusal = map_refusal(board, seen, records, protections, m);
+    if refusal != 0 {
+        return ListPlan::Refused(refusal);
+    }
+    ListPlan::Place(seen.place)
+}
+
+// Whether a page of a space is mapped, and at which place.
+pub fn plan_unmap(
+    board: Board,
+    list: MappingList,
+    records: &[u32],
+    protections: &[u8],
+    space: u8,
+    page: u16,
+) -> ListPlan
+    requires { ⌜ Regular board ⌝ }
+    ensures { λ r. ⌜ r ≡ planUnmap board (tables list (now (records .entry)) (now (protections .entry))) space page ⌝ }
+{
+    let seen = mapping::look(board, list, space, page);
+    let refusal = page_refusal(board, seen, records, protections, space, page);
+    if refusal != 0 {
+        return ListPlan::Refused(refusal);
+    }
+    ListPlan::Place(seen.place)
+}
+
+// What a read makes of the page's frame.
+pub fn plan_read(
+    board: Board,
+    list: MappingList,
+    records: &[u32],
+    protections: &[u8],
+    space: u8,
+    page: u16,
+) -> Plan
+    requires { ⌜ Regular board ⌝ }
+    ensures { λ r. ⌜ r ≡ planRead board (tables list (now (records .entry)) (now (protections .entry))) space page ⌝ }
+{
+    let seen = mapping::look(board, list, space, page);
+    let refusal = page_refusal(board, seen, records, protections, space, page);
+    if refusal != 0 {
+        return Plan::Refused(refusal);
+    }
+    let frame = seen.mapping.frame;
+    let colour = board::colour_of(board, page as usize);
+    let record = record_at(records, frame);
+    step_of(
+        frame,
+        record.bars_read(),
+        record.read(board.colours, colour),
+    )
+}
+
+// What a write makes of the page's frame.
+pub fn plan_write(
+    board: Board,
+    list: MappingList,
+    records: &[u32],
+    protections: &[u8],
+    space: u8,
+    page: u16,
+) -> Plan
+    requires { ⌜ Regular board ⌝ }
+    ensures { λ r. ⌜ r ≡ planWrite board (tables list (now (records .entry)) (now (protections .entry))) space page ⌝ }
+{
+    let seen = mapping::look(board, list, space, page);
+    let refusal = write_refusal(board, seen, records, protections, space, page);
+    if refusal != 0 {
+        return Plan::Refused(refusal);
+    }
+    let frame = seen.mapping.frame;
+    let colour = board::colour_of(board, page as usize);
+    let record = record_at(records, frame);
+    step_of(frame, record.is_busy(), record.write(board.colours, colour))
+}
+
+// What a device read makes of a frame.
+pub fn plan_device_read(
+    board: Board,
+    list: MappingList,
+    records: &[u32],
+    protections: &[u8],
+    frame: u8,
+) -> Plan
+    requires { ⌜ Regular board ⌝ }
+    ensures { λ r. ⌜ r ≡ planTransfer board (tables list (now (records .entry)) (now (protections .entry))) frame deviceRead ⌝ }
+{
+    let kept = mapping::keeps_rules(board, list);
+    let refusal = transfer_refusal(board, kept, records, protections, frame);
+    if refusal != 0 {
+        return Plan::Refused(refusal);
+    }
+    let record = record_at(records, frame);
+    step_of(frame, record.is_busy(), record.device_read(board.colours))
+}
+
+// What a device's write of so many words from an offset on makes of a frame.
+pub fn plan_device_write_part(
+    board: Board,
+    list: MappingList,
+    records: &[u32],
+    protections: &[u8],
+    frame: u8,
+    first: usize,
+    number: usize,
+) -> Plan
+    requires { ⌜ Regular board ⌝ }
+    ensures { λ r. ⌜ r ≡ planDeviceWritePart board (tables list (now (records .entry)) (now (protections .entry))) frame first number ⌝ }
+{
+    let kept = mapping::keeps_rules(board, list);
+    let refusal = part_refusal(board, kept, records, protections, frame, first, number);
+    if refusal != 0 {
+        return Plan::Refused(refusal);
+    }
+    let record = record_at(records, frame);
+    if number < board.page {
+        return step_of(
+            frame,
+            record.is_busy(),
+            record.device_write_part(board.colours),
+        );
+    }
+    step_of(frame, record.is_busy(), record.device_write(board.colours))
+}
+
+// What the beginning of a device's transfer makes of a frame, a write or a read.
+pub fn plan_begin(
+    board: Board,
+    list: MappingList,
+    records: &[u32],
+    protections: &[u8],
+    frame: u8,
+    writes: bool,
+) -> Plan
+    requires { ⌜ Regular board ⌝ }
+    ensures { λ r. ⌜ r ≡ planTransfer board (tables list (now (records .entry)) (now (protections .entry))) frame (beginStep writes) ⌝ }
+{
+    let kept = mapping::keeps_rules(board, list);
+    let refusal = transfer_refusal(board, kept, records, protections, frame);
+    if refusal != 0 {
+        return Plan::Refused(refusal);
+    }
+    let record = record_at(records, frame);
+    if writes {
+        return step_of(frame, record.is_busy(), record.begin_write(board.colours));
+    }
+    step_of(frame, record.is_busy(), record.begin_read(board.colours))
+}
+
+// The plan of a step of one frame's record, which its mark may bar.
+fn step_of(frame: u8, barred: bool, stepped: Stepped) -> Plan
+    ensures { λ r. ⌜ r ≡ planned (cond barred 15 0) (record { frame = frame; next = stepped .next; ops = stepped .ops }) ⌝ }
+{
+    if barred {
+        return Plan::Refused(15);
+    }
+    let next = stepped.next;
+    let ops = stepped.ops;
+    Plan::Step(Change { frame, next, ops })
+}
