@@ -1,4 +1,4 @@
--- How a single call is planned: the machine's own refusal beside the manager's plan, of which the number that stands earlier is given.
+-- How the code plans a single call: it finds the machine's own refusal and the manager's plan, and gives the refusal that stands earlier in the order.
 use mathlib.Core.Bool.{Bool, true, false, not, cond, _&&_}
 use mathlib.Core.List.{List, [], _∷_, _++_}
 use mathlib.Core.Path.{_≡_}
@@ -26,7 +26,7 @@ use Rattle.machine.specs.Step.{answer}
 unfoldable pub storeCauses : Board → Store → Bool → List Cause
 storeCauses b s buffer = (1 if not (storeLengths b s && buffer)) ∷ (2 if not (tagsKeepRules b (s .tags))) ∷ []
 
--- and in an offset, or a line, with its limit
+-- these, and an offset, or a line, past its limit
 unfoldable pub accessCauses : Board → Store → ℕ → ℕ → List Cause
 unfolding storeCauses
 accessCauses b s limit offset = storeCauses b s true ++ offsetCause limit offset ∷ []
@@ -37,7 +37,7 @@ earlier zero n = n
 earlier (suc m) zero = suc m
 earlier (suc m) (suc n) = cond (leb (refusalPlace (suc m)) (refusalPlace (suc n))) (suc m) (suc n)
 
--- a plan beside a refusal
+-- the manager's plan, with the machine's own refusal (0 for none): the earlier of two refusals, and a step or a place only where there is none
 unfoldable pub withStep : ℕ → Plan → Plan
 unfolding earlier
 withStep own (step-plan.Refused n) = step-plan.Refused (earlier own n)
@@ -62,7 +62,7 @@ abbrev pub begins : Bool → ℕ → Single
 begins true frame = beginWrite frame
 begins false frame = beginRead frame
 
--- a call that moves a word at an offset, of a transfer that has this mark: what it tests of its own
+-- the call moves a word at an offset by a transfer with this mark: it is lent no buffer, and these are its own causes
 pub record MovesWord (b : Board) (st : State) (call : Single) (frame offset mark : ℕ) : Type 0 where
   pub no-buffer : bufferRight b call ≡ true
   pub tests : ownCauses b st call ≡ frameCause b frame ∷ offsetCause (b .page) offset ∷ wordCause (st .tables .records) frame mark ∷ []

@@ -29,7 +29,7 @@ unfoldable pub firstRefusal : List Cause → ℕ
 firstRefusal [] = 0
 firstRefusal (c ∷ rest) = cond (c .applies) (c .number) (firstRefusal rest)
 
--- a refusal, 0 for none, else another
+-- the first of two refusals, each a number or 0 for none
 abbrev pub orElse : ℕ → ℕ → ℕ
 orElse n later = cond (not (eqb n 0)) n later
 
@@ -49,7 +49,7 @@ unfoldable pub refusalPlace : ℕ → ℕ
 unfolding placeIn
 refusalPlace n = placeIn refusalOrder n
 
--- causes whose numbers are listed, in the order's places from n on
+-- whether each cause's number has a place in the order, the first at n or later, and each later than the one before it
 unfoldable pub inOrder : ℕ → List Cause → Bool
 unfolding refusalPlace
 inOrder n [] = true
@@ -67,7 +67,7 @@ outOfPage b first number = eqb number 0 || ltb (b .page) (first + number)
 abbrev pub isRight : ℕ → Bool
 isRight rights = eqb rights readOnly || eqb rights readWrite
 
--- ---- the causes that lie in a call's numbers, each with its place in document 01's table, with what the requests add to that
+-- ---- the causes that lie in a call's numbers, the list and the records: each has its number in document 01's table or in a request
 
 abbrev pub spaceCause : ℕ → ℕ → Cause
 spaceCause space page = 3 if outOfSpace space page
@@ -101,15 +101,15 @@ readOnlyCause l space page = 10 if eqb (listedMapping l space page .rights) read
 abbrev pub busyCause : List ℕ → ℕ → Step → Cause
 busyCause rs frame s = 15 if bars (recordAt rs frame .busy) s
 
--- a word of a transfer that has this mark, where the frame's is another
+-- a word is moved by a transfer with this mark, but the frame has another
 abbrev pub wordCause : List ℕ → ℕ → ℕ → Cause
 wordCause rs frame mark = 16 if not (eqb (recordAt rs frame .busy) mark)
 
--- the end of a transfer, where there is none
+-- a transfer is ended, but the frame has none
 abbrev pub endCause : List ℕ → ℕ → Cause
 endCause rs frame = 16 if eqb (recordAt rs frame .busy) free
 
--- a list of so many mappings, with so many answers
+-- a list of more mappings than a batch has, or of not as many as there are answers
 abbrev pub batchCause : ℕ → ℕ → Cause
 batchCause items answers = 12 if (ltb batchSize items || not (eqb answers items))
 
@@ -119,7 +119,7 @@ batchCause items answers = 12 if (ltb batchSize items || not (eqb answers items)
 unfoldable pub tableCauses : Board → Tables → List Cause
 tableCauses b t = (1 if not (lengthsRight b t)) ∷ (2 if not (rulesKept b t)) ∷ []
 
--- of a mapping, in its numbers and the list
+-- what a map tests besides: its numbers and the list
 abbrev pub mappingCauses : Board → MappingList → ℕ → ℕ → ℕ → ℕ → List Cause
 mappingCauses b l space page frame rights =
     spaceCause space page
@@ -161,7 +161,7 @@ unfolding tableCauses
 partCauses b t frame first number =
     tableCauses b t ++ frameCause b frame ∷ partCause b first number ∷ busyCause (t .records) frame deviceWritePart ∷ []
 
--- a word at an offset, of a transfer that has this mark
+-- a word at an offset, moved by a transfer with this mark
 unfoldable pub wordCauses : Board → Tables → ℕ → ℕ → ℕ → List Cause
 unfolding tableCauses
 wordCauses b t frame offset mark =
@@ -172,16 +172,16 @@ unfoldable pub endCauses : Board → Tables → ℕ → List Cause
 unfolding tableCauses
 endCauses b t frame = tableCauses b t ++ frameCause b frame ∷ endCause (t .records) frame ∷ []
 
--- ---- the causes of each call by what one look at the list told, which are those above where it told them of the list (`told-rest`)
+-- ---- the same causes as the code tests them, by what one look at the list told: where that was a look at this list, they are those above (`told-rest`)
 
--- in the lent records and protections, where kept says whether the list keeps its rules
+-- the causes in what is lent, where kept says whether the list keeps its rules
 unfoldable pub toldTables : Board → Bool → List ℕ → List ℕ → List Cause
 toldTables b kept records protections =
     (1 if not (eqb (length records) (b .frames * recordWords) && eqb (length protections) capacity))
     ∷ (2 if not (kept && recordsKeepRules b records))
     ∷ []
 
--- in a mapping, in a page, and of a write
+-- the causes of a mapping; of an unmap, and a read but for the mark; of a write but for the mark
 abbrev pub toldMapping : Board → ℕ → ℕ → ℕ → ℕ → Seen → List Cause
 toldMapping b space page frame rights seen =
     spaceCause space page

@@ -101,7 +101,8 @@ pub fn records_keep_rules(board: Board, records: &[u32]) -> bool
     true
 }
 
-// What a mapping lets its program do without a stop: 0 nothing, 1 read, 2 read and write. No branch hangs on the record.
+// What a mapping lets its program do without a stop: 0 nothing, 1 read, 2 read and write. The sum of two tests, not a branch on
+// what the record holds, which a processor could not foresee.
 fn protection_of(colours: usize, records: &[u32], m: Mapping) -> u8
     requires { ⌜ Colours colours ⌝ }
     ensures { λ r. ⌜ ((b : any.Board) → b .colours ≡ colours → r ≡ protection (mappingState b (now (records .entry)) m) (m .rights)) ⌝ }

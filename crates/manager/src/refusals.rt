@@ -1,4 +1,4 @@
-// The causes of refusal of each call: the first that applies, or 0.
+// The refusal of each call: the number of the first cause that applies, or 0. Where a function takes `seen`, that is what a look at the list told of the call's page; `kept` says whether the list keeps its rules.
 ghost use mathlib.Core.Bool.{cond};
 ghost use mathlib.Core.List.{[], _∷_, _++_};
 ghost use mathlib.Core.Path.{_≡_};
@@ -31,7 +31,7 @@ pub fn place(number: u8) -> usize
     i
 }
 
-// Of what every call is lent, where kept says whether the list keeps its rules.
+// The refusal in what every call is lent.
 pub fn tables_refusal(board: Board, kept: bool, records: &[u32], protections: &[u8]) -> u8
     requires { ⌜ Regular board ⌝ }
     ensures { λ r. ⌜ r ≡ firstRefusal (toldTables board kept (now (records .entry)) (now (protections .entry))) ⌝ }
@@ -51,7 +51,7 @@ pub fn tables_refusal(board: Board, kept: bool, records: &[u32], protections: &[
     0
 }
 
-// Of `map`, where seen is what a look at the list told of the mapping's page.
+// The refusal of `map`.
 pub fn map_refusal(board: Board, seen: Seen, records: &[u32], protections: &[u8], m: Mapping) -> u8
     requires { ⌜ Regular board ⌝ }
     ensures { λ r. ⌜ r ≡ firstRefusal (toldTables board (seen .kept) (now (records .entry)) (now (protections .entry)) ++ toldMapping board (m .space) (m .page) (m .frame) (m .rights) seen) ⌝ }
@@ -62,7 +62,7 @@ pub fn map_refusal(board: Board, seen: Seen, records: &[u32], protections: &[u8]
     )
 }
 
-// Of a mapping, in its numbers and what a look at the list told of its page.
+// The refusal of a mapping in its numbers and the list, where all that is lent is as it should be.
 pub fn mapping_refusal(board: Board, seen: Seen, m: Mapping) -> u8
     ensures { λ r. ⌜ r ≡ firstRefusal (toldMapping board (m .space) (m .page) (m .frame) (m .rights) seen) ⌝ }
 {
@@ -73,7 +73,7 @@ pub fn mapping_refusal(board: Board, seen: Seen, m: Mapping) -> u8
     first(out_of_space(m.space, m.page), 3, frame)
 }
 
-// Of `unmap`, and of `read` but for the busy mark, where seen is what a look at the list told of the page.
+// The refusal of `unmap`, which is that of `read` but for the frame's busy mark.
 pub fn page_refusal(
     board: Board,
     seen: Seen,
@@ -92,7 +92,7 @@ pub fn page_refusal(
     )
 }
 
-// Of `write`, likewise.
+// The refusal of `write` but for the frame's busy mark.
 pub fn write_refusal(
     board: Board,
     seen: Seen,
@@ -110,7 +110,7 @@ pub fn write_refusal(
     )
 }
 
-// Of a transfer but for the busy mark, where kept says whether the list keeps its rules.
+// The refusal of a device's transfer of a page but for the frame's busy mark.
 pub fn transfer_refusal(
     board: Board,
     kept: bool,
@@ -127,7 +127,7 @@ pub fn transfer_refusal(
     )
 }
 
-// Of a transfer of so many words from an offset on, likewise.
+// The refusal of a transfer of so many words from an offset on, but for the frame's busy mark.
 pub fn part_refusal(
     board: Board,
     kept: bool,
@@ -146,7 +146,7 @@ pub fn part_refusal(
     )
 }
 
-// Of a word at an offset, of a transfer that has this mark.
+// The refusal of a word at an offset, which a transfer with this mark moves.
 pub fn word_refusal(
     board: Board,
     kept: bool,
@@ -167,7 +167,7 @@ pub fn word_refusal(
     first(offset >= board.page, 6, word)
 }
 
-// Of the end of a transfer.
+// The refusal of the end of a transfer.
 pub fn end_refusal(board: Board, kept: bool, records: &[u32], protections: &[u8], frame: u8) -> u8
     requires { ⌜ Regular board ⌝ }
     ensures { λ r. ⌜ r ≡ firstRefusal (toldTables board kept (now (records .entry)) (now (protections .entry)) ++ frameCause board frame ∷ endCause (now (records .entry)) frame ∷ []) ⌝ }
