@@ -1,10 +1,10 @@
--- Each call's plan: the manager's beside the machine's own refusal.
+-- Each call's plan, by the machine's own refusal and the manager's plan. Of the manager's causes the first two are those of the tables.
 use mathlib.Core.Path.{_≡_, refl}
 use mathlib.Core.Bool.{Bool, true, false}
 use mathlib.Core.List.{List, [], _∷_}
 use Prim.Native.Nat.{ℕ}
 use lib.Dec.{eqb}
-use lib.ListN.{length}
+use lib.ListN.{length, drop}
 use Rattle.board.specs.declared.Board.{Board}
 use Rattle.board.specs.Board.{colourOf}
 use Rattle.page_model.specs.Table as table
@@ -12,7 +12,7 @@ use Rattle.mapping.specs.Lookup.{lookup, placeOf, placeFor}
 use Rattle.manager.specs.declared.Plan.{Plan}
 use Rattle.manager.specs.declared.ListPlan.{ListPlan}
 use Rattle.manager.specs.Calls.{changeOf, writeStep, beginStep, planMap, planUnmap, planRead, planWrite, planTransfer, planDeviceWritePart}
-use Rattle.manager.specs.Refusals.{firstRefusal, refusalPlace, inOrder, spaceCause, frameCause, partCause, rightsCause, mappedCause, unmappedCause, fullCause, readOnlyCause, offsetCause, busyCause, mapCauses, pageCauses, readCauses, writeCauses, transferCauses, partCauses}
+use Rattle.manager.specs.Refusals.{firstRefusal, refusalPlace, inOrder, offsetCause, mapCauses, pageCauses, readCauses, writeCauses, transferCauses, partCauses}
 use Rattle.machine.specs.Refusals.{ownCauses}
 use Rattle.machine.specs.State.{State, pageFrame, map, unmap, read, write, deviceRead, deviceWritePart}
 use Rattle.machine.specs.Plans.{storeCauses, accessCauses, withStep, withPlace, planStep, planPlace, begins}
@@ -22,36 +22,31 @@ module _ (b : Board) (st : State) {own : ℕ} where
   pub map-planned : (space page frame rights : ℕ) {plan with : ListPlan} → with ≡ withPlace own plan → own ≡ firstRefusal (storeCauses b (st .store) true)
       → plan ≡ planMap b (st .tables) space page frame rights → with ≡ planPlace b st (map space page frame rights) (placeFor (st .tables .list) space page)
   unfolding inOrder refusalPlace ownCauses storeCauses mapCauses
-  map-planned space page frame rights =
-      let l = st .tables .list in
-      place-merged _ _ _ [] (spaceCause space page ∷ frameCause b frame ∷ rightsCause rights ∷ mappedCause l space page ∷ fullCause l ∷ []) refl refl refl _
+  map-planned space page frame rights = place-merged _ _ _ [] (drop 2 (mapCauses b (st .tables) space page frame rights)) refl refl refl _
 
   pub unmap-planned : (space page : ℕ) {plan with : ListPlan} → with ≡ withPlace own plan → own ≡ firstRefusal (storeCauses b (st .store) true)
       → plan ≡ planUnmap b (st .tables) space page → with ≡ planPlace b st (unmap space page) (placeOf (lookup (st .tables .list) space page))
   unfolding inOrder refusalPlace ownCauses storeCauses pageCauses
-  unmap-planned space page = place-merged _ _ _ [] (spaceCause space page ∷ unmappedCause (st .tables .list) space page ∷ []) refl refl refl _
+  unmap-planned space page = place-merged _ _ _ [] (drop 2 (pageCauses b (st .tables) space page)) refl refl refl _
 
   pub read-planned : (space page offset : ℕ) {plan with : Plan} → with ≡ withStep own plan → own ≡ firstRefusal (accessCauses b (st .store) (b .page) offset)
       → plan ≡ planRead b (st .tables) space page
       → with ≡ planStep b st (read space page offset) (changeOf b (st .tables) (pageFrame st space page) (table.read (colourOf b page)))
   unfolding inOrder refusalPlace ownCauses accessCauses readCauses
   read-planned space page offset =
-      step-merged _ _ _ (offsetCause (b .page) offset ∷ [])
-      (spaceCause space page ∷ unmappedCause (st .tables .list) space page ∷ busyCause (st .tables .records) (pageFrame st space page) (table.read (colourOf b page)) ∷ []) refl refl refl _
+      step-merged _ _ _ (offsetCause (b .page) offset ∷ []) (drop 2 (readCauses b (st .tables) space page)) refl refl refl _
 
   pub write-planned : (space page offset word : ℕ) {plan with : Plan} → with ≡ withStep own plan → own ≡ firstRefusal (accessCauses b (st .store) (b .page) offset)
       → plan ≡ planWrite b (st .tables) space page
       → with ≡ planStep b st (write space page offset word) (changeOf b (st .tables) (pageFrame st space page) (table.write (colourOf b page)))
   unfolding inOrder refusalPlace ownCauses accessCauses writeCauses
   write-planned space page offset word =
-      step-merged _ _ _ (offsetCause (b .page) offset ∷ [])
-      (spaceCause space page ∷ unmappedCause (st .tables .list) space page ∷ readOnlyCause (st .tables .list) space page ∷ busyCause (st .tables .records) (pageFrame st space page) (table.write (colourOf b page)) ∷ [])
-      refl refl refl _
+      step-merged _ _ _ (offsetCause (b .page) offset ∷ []) (drop 2 (writeCauses b (st .tables) space page)) refl refl refl _
 
   pub device-read-planned : (frame : ℕ) (buffer : List ℕ) {plan with : Plan} → with ≡ withStep own plan → own ≡ firstRefusal (storeCauses b (st .store) (eqb (length buffer) (b .page)))
       → plan ≡ planTransfer b (st .tables) frame table.deviceRead → with ≡ planStep b st (deviceRead frame buffer) (changeOf b (st .tables) frame table.deviceRead)
   unfolding inOrder refusalPlace ownCauses storeCauses transferCauses
-  device-read-planned frame buffer = step-merged _ _ _ [] (frameCause b frame ∷ busyCause (st .tables .records) frame table.deviceRead ∷ []) refl refl refl _
+  device-read-planned frame buffer = step-merged _ _ _ [] (drop 2 (transferCauses b (st .tables) frame table.deviceRead)) refl refl refl _
 
   pub part-planned : (frame first number : ℕ) (buffer : List ℕ) {plan with : Plan} → with ≡ withStep own plan
       → own ≡ firstRefusal (storeCauses b (st .store) (eqb (length buffer) number))
@@ -59,10 +54,10 @@ module _ (b : Board) (st : State) {own : ℕ} where
       → with ≡ planStep b st (deviceWritePart frame first number buffer) (changeOf b (st .tables) frame (writeStep b number))
   unfolding inOrder refusalPlace ownCauses storeCauses partCauses
   part-planned frame first number buffer =
-      step-merged _ _ _ [] (frameCause b frame ∷ partCause b first number ∷ busyCause (st .tables .records) frame table.deviceWritePart ∷ []) refl refl refl _
+      step-merged _ _ _ [] (drop 2 (partCauses b (st .tables) frame first number)) refl refl refl _
 
   pub begin-planned : (frame : ℕ) (writes : Bool) {plan with : Plan} → with ≡ withStep own plan → own ≡ firstRefusal (storeCauses b (st .store) true)
       → plan ≡ planTransfer b (st .tables) frame (beginStep writes) → with ≡ planStep b st (begins writes frame) (changeOf b (st .tables) frame (beginStep writes))
   unfolding inOrder refusalPlace ownCauses storeCauses transferCauses
-  begin-planned frame true = step-merged _ _ _ [] (frameCause b frame ∷ busyCause (st .tables .records) frame table.beginWrite ∷ []) refl refl refl _
-  begin-planned frame false = step-merged _ _ _ [] (frameCause b frame ∷ busyCause (st .tables .records) frame table.beginRead ∷ []) refl refl refl _
+  begin-planned frame true = step-merged _ _ _ [] (drop 2 (transferCauses b (st .tables) frame table.beginWrite)) refl refl refl _
+  begin-planned frame false = step-merged _ _ _ [] (drop 2 (transferCauses b (st .tables) frame table.beginRead)) refl refl refl _
