@@ -1,57 +1,26 @@
 -- `manager::unmap` meets its contract.
 use mathlib.Core.Path.{refl, sym, ap, _∙_}
-use Rattle.manager.specs.Answers.{accepted}
-use Rattle.manager.specs.Calls.{noOps, result}
 use borrow.Author.Needs.{needs}
 use Rattle.board.specs.Board.{board01}
 use Rattle.board.proofs.Geometry.{board01-regular}
+use Rattle.manager.specs.Answers.{accepted}
+use Rattle.manager.specs.Calls.{noOps, result}
 use Rattle.manager.proofs.calls.unmap.Statement.{statement}
 use Rattle.manager.proofs.calls.unmap.Tie as tie
 
-plan-unmap-requires : tie.Need-plan-unmap-requires
-plan-unmap-requires c κs = board01-regular
-
-enum-known-plan : tie.Need-enum-known-plan
-enum-known-plan c = search needs
-
-refused-as-requires : tie.Need-refused-as-requires
-refused-as-requires c κs = search needs
-
-enum-known-plan-2 : tie.Need-enum-known-plan-2
-enum-known-plan-2 c = search needs
-
-commit-unmap-requires : tie.Need-commit-unmap-requires
-commit-unmap-requires c κs = search needs
-
-listed-as-requires : tie.Need-listed-as-requires
-listed-as-requires c κs = search needs
-
-same-length : tie.Need-same-length
-same-length c = search needs
-
 returns : tie.Need-returns
-returns c = rw (c .refused-as .ensures .0, c .refused-as .ensures .1, sym (c .before .before .before .before .plan-unmap .ensures) ∙ c .before .before .plan .given .1)
-
-same-length-2 : tie.Need-same-length-2
-same-length-2 c = search needs
+returns c =
+    let at = c .before .before in
+    rw (c .refused-as .ensures .0, c .refused-as .ensures .1, sym (at .before .before .plan-unmap .ensures) ∙ at .plan .given .1)
 
 returns-2 : tie.Need-returns-2
 returns-2 c =
-    let after-plan2 = c .before .before .before .before .before .before in
-    let after-plan-unmap = after-plan2 .before .before in
-    rw (c .listed-as .ensures .0, c .listed-as .ensures .1, sym (after-plan-unmap .plan-unmap .ensures) ∙ after-plan2 .plan2 .given .1) (ap (result (accepted 0 noOps)) (c .before .before .before .commit-unmap .ensures board01 refl))
+    let commit = c .before .before .before in
+    let at = commit .before .before .before in
+    rw (c .listed-as .ensures .0, c .listed-as .ensures .1, sym (at .before .before .plan-unmap .ensures) ∙ at .plan2 .given .1)
+    (ap (result (accepted 0 noOps)) (commit .commit-unmap .ensures board01 refl))
 
 pub unmap-spec : {M : Type 1} → statement M
 unmap-spec =
     tie.close
-    (tie.spec
-    plan-unmap-requires
-    enum-known-plan
-    refused-as-requires
-    enum-known-plan-2
-    commit-unmap-requires
-    listed-as-requires
-    same-length
-    returns
-    same-length-2
-    returns-2)
+    (tie.spec (λ c κs. board01-regular) (λ c. search needs) (λ c κs. search needs) (λ c. search needs) (λ c κs. search needs) (λ c κs. search needs) (λ c. search needs) returns (λ c. search needs) returns-2)
