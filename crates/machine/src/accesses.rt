@@ -16,6 +16,7 @@ use manager::Answer;
 use manager::FrameOps;
 use manager::Plan;
 use manager::commits::COLOURS;
+use manager::plans::plan_access;
 use mapping::MappingList;
 
 // The processor reads a word.
@@ -37,7 +38,7 @@ pub fn read(
         (call.read space page offset) ⌝ }
 {
     let own = plans::access_refusal(BOARD01, memory, words, tags, BOARD01.page, offset);
-    let managers = manager::plans::plan_read(BOARD01, list, records, protections, space, page);
+    let managers = plan_access(BOARD01, list, records, protections, space, page, false);
     let plan = plans::with_step(own, managers);
     let Plan::Step(change) = plan else {
         return Loaded::Refused(plans::refusal_of(plan));
@@ -80,7 +81,7 @@ pub fn write(
         (call.write space page offset word) ⌝ }
 {
     let own = plans::access_refusal(BOARD01, memory, words, tags, BOARD01.page, offset);
-    let managers = manager::plans::plan_write(BOARD01, list, records, protections, space, page);
+    let managers = plan_access(BOARD01, list, records, protections, space, page, true);
     let plan = plans::with_step(own, managers);
     let Plan::Step(change) = plan else {
         return Answer::Refused(plans::refusal_of(plan));

@@ -43,6 +43,10 @@ abbrev pub planWrite : Board → Tables → ℕ → ℕ → Plan
 planWrite b t space page =
     planned (firstRefusal (writeCauses b t space page)) (changeOf b t (listedMapping (t .list) space page .frame) (write (colourOf b page)))
 
+-- either of the two
+abbrev pub planAccess : Board → Tables → ℕ → ℕ → Bool → Plan
+planAccess b t space page writes = cond writes (planWrite b t space page) (planRead b t space page)
+
 -- a transfer of a page, or the beginning of one
 abbrev pub planTransfer : Board → Tables → ℕ → Step → Plan
 planTransfer b t frame s = planned (firstRefusal (transferCauses b t frame s)) (changeOf b t frame s)

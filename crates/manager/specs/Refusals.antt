@@ -181,7 +181,7 @@ toldTables b kept records protections =
     ∷ (2 if not (kept && recordsKeepRules b records))
     ∷ []
 
--- the causes of a mapping; of an unmap, and a read but for the mark; of a write but for the mark
+-- the causes of a mapping; of an unmap; and of an access, a write or a read, but for the mark
 abbrev pub toldMapping : Board → ℕ → ℕ → ℕ → ℕ → Seen → List Cause
 toldMapping b space page frame rights seen =
     spaceCause space page
@@ -194,5 +194,5 @@ toldMapping b space page frame rights seen =
 abbrev pub toldPage : ℕ → ℕ → Seen → List Cause
 toldPage space page seen = spaceCause space page ∷ (8 if not (seen .mapped)) ∷ []
 
-abbrev pub toldWrite : ℕ → ℕ → Seen → List Cause
-toldWrite space page seen = toldPage space page seen ++ (10 if eqb (seen .mapping .rights) readOnly) ∷ []
+abbrev pub toldAccess : Bool → ℕ → ℕ → Seen → List Cause
+toldAccess writes space page seen = toldPage space page seen ++ (10 if (writes && eqb (seen .mapping .rights) readOnly)) ∷ []

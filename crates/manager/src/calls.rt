@@ -18,13 +18,12 @@ use super::commits::commit_map;
 use super::commits::commit_unmap;
 use super::listed_as;
 use super::no_operations;
+use super::plans::plan_access;
 use super::plans::plan_begin;
 use super::plans::plan_device_read;
 use super::plans::plan_device_write_part;
 use super::plans::plan_map;
-use super::plans::plan_read;
 use super::plans::plan_unmap;
-use super::plans::plan_write;
 use super::records;
 use super::records::record_at;
 use super::records::refill;
@@ -115,7 +114,7 @@ pub fn read(
     ensures { λ r. ⌜ result (outcome r) (tables list (now (records .exit)) (now (protections .exit)))
         ≡ readCall board01 (tables list (now (records .entry)) (now (protections .entry))) space page ⌝ }
 {
-    let plan = plan_read(BOARD01, list, records, protections, space, page);
+    let plan = plan_access(BOARD01, list, records, protections, space, page, false);
     carry_out(COLOURS, list, records, protections, plan)
 }
 
@@ -130,7 +129,7 @@ pub fn write(
     ensures { λ r. ⌜ result (outcome r) (tables list (now (records .exit)) (now (protections .exit)))
         ≡ writeCall board01 (tables list (now (records .entry)) (now (protections .entry))) space page ⌝ }
 {
-    let plan = plan_write(BOARD01, list, records, protections, space, page);
+    let plan = plan_access(BOARD01, list, records, protections, space, page, true);
     carry_out(COLOURS, list, records, protections, plan)
 }
 

@@ -3,17 +3,17 @@ ghost use mathlib.Core.Path.{_≡_};
 ghost use mathlib.Core.Bool.{cond};
 ghost use Rattle.board.specs.Board.{Regular};
 ghost use Rattle.page_model.specs.Table.{deviceRead};
-ghost use Rattle.manager.specs.Calls.{planMap, planUnmap, planned, planRead, planWrite, planTransfer, beginStep, planDeviceWritePart};
+ghost use Rattle.manager.specs.Calls.{planMap, planUnmap, planned, planAccess, planTransfer, beginStep, planDeviceWritePart};
 ghost use Rattle.manager.specs.Tables.{tables};
 use super::Change;
 use super::ListPlan;
 use super::Plan;
 use super::records::record_at;
+use super::refusals::access_refusal;
 use super::refusals::map_refusal;
 use super::refusals::page_refusal;
 use super::refusals::part_refusal;
 use super::refusals::transfer_refusal;
-use super::refusals::write_refusal;
 use board::Board;
 use mapping::Mapping;
 use mapping::MappingList;
@@ -58,54 +58,35 @@ pub fn plan_unmap(
     ListPlan::Place(seen.place)
 }
 
-// What a read makes of the page's frame.
-pub fn plan_read(
+// What an access of the processor, a write or a read, makes of the page's frame.
+pub fn plan_access(
     board: Board,
     list: MappingList,
     records: &[u32],
     protections: &[u8],
     space: u8,
     page: u16,
+    writes: bool,
 ) -> Plan
     requires { ⌜ Regular board ⌝ }
-    ensures { λ r. ⌜ r ≡ planRead board (tables list (now (records .entry)) (now (protections .entry))) space page ⌝ }
+    ensures { λ r. ⌜ r ≡ planAccess board (tables list (now (records .entry)) (now (protections .entry))) space page writes ⌝ }
 {
     let seen = mapping::look(board, list, space, page);
-    let refusal = page_refusal(board, seen, records, protections, space, page);
+    let refusal = access_refusal(board, seen, records, protections, space, page, writes);
     if refusal != 0 {
         return Plan::Refused(refusal);
     }
     let frame = seen.mapping.frame;
     let colour = board::colour_of(board, page as usize);
     let record = record_at(records, frame);
+    if writes {
+        return step_of(frame, record.is_busy(), record.write(board.colours, colour));
+    }
     step_of(
         frame,
         record.bars_read(),
         record.read(board.colours, colour),
     )
-}
-
-// What a write makes of the page's frame.
-pub fn plan_write(
-    board: Board,
-    list: MappingList,
-    records: &[u32],
-    protections: &[u8],
-    space: u8,
-    page: u16,
-) -> Plan
-    requires { ⌜ Regular board ⌝ }
-    ensures { λ r. ⌜ r ≡ planWrite board (tables list (now (records .entry)) (now (protections .entry))) space page ⌝ }
-{
-    let seen = mapping::look(board, list, space, page);
-    let refusal = write_refusal(board, seen, records, protections, space, page);
-    if refusal != 0 {
-        return Plan::Refused(refusal);
-    }
-    let frame = seen.mapping.frame;
-    let colour = board::colour_of(board, page as usize);
-    let record = record_at(records, frame);
-    step_of(frame, record.is_busy(), record.write(board.colours, colour))
 }
 
 // What a device read makes of a frame.

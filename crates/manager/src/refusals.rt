@@ -3,7 +3,7 @@ ghost use mathlib.Core.Bool.{cond};
 ghost use mathlib.Core.List.{[], _∷_, _++_};
 ghost use mathlib.Core.Path.{_≡_};
 ghost use Rattle.board.specs.Board.{Regular};
-ghost use Rattle.manager.specs.Refusals.{firstRefusal, orElse, refusalPlace, toldTables, toldMapping, toldPage, toldWrite, frameCause, partCause, offsetCause, wordCause, endCause, outOfSpace, outOfPage, isRight};
+ghost use Rattle.manager.specs.Refusals.{firstRefusal, orElse, refusalPlace, toldTables, toldMapping, toldPage, toldAccess, frameCause, partCause, offsetCause, wordCause, endCause, outOfSpace, outOfPage, isRight};
 use super::records::RECORD_WORDS;
 use super::records::record_at;
 use super::records::records_keep_rules;
@@ -73,7 +73,7 @@ pub fn mapping_refusal(board: Board, seen: Seen, m: Mapping) -> u8
     first(out_of_space(m.space, m.page), 3, frame)
 }
 
-// The refusal of `unmap`, which is that of `read` but for the frame's busy mark.
+// The refusal of `unmap`.
 pub fn page_refusal(
     board: Board,
     seen: Seen,
@@ -92,21 +92,22 @@ pub fn page_refusal(
     )
 }
 
-// The refusal of `write` but for the frame's busy mark.
-pub fn write_refusal(
+// The refusal of an access of the processor, a write or a read, but for the frame's busy mark.
+pub fn access_refusal(
     board: Board,
     seen: Seen,
     records: &[u32],
     protections: &[u8],
     space: u8,
     page: u16,
+    writes: bool,
 ) -> u8
     requires { ⌜ Regular board ⌝ }
-    ensures { λ r. ⌜ r ≡ firstRefusal (toldTables board (seen .kept) (now (records .entry)) (now (protections .entry)) ++ toldWrite space page seen) ⌝ }
+    ensures { λ r. ⌜ r ≡ firstRefusal (toldTables board (seen .kept) (now (records .entry)) (now (protections .entry)) ++ toldAccess writes space page seen) ⌝ }
 {
     or_else(
         page_refusal(board, seen, records, protections, space, page),
-        first(seen.mapping.rights == mapping::READ_ONLY, 10, 0),
+        first(writes & (seen.mapping.rights == mapping::READ_ONLY), 10, 0),
     )
 }
 

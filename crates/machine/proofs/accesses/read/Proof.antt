@@ -29,13 +29,13 @@ load-requires c κs =
     let plan = at .before .before in
     let a = start-of plan .args in
     access-requires board01 _ (read (a .space) (a .page) (a .offset)) _ _ refl (a .page) (a .offset) board01-regular
-    (sym (read-planned board01 _ (a .space) (a .page) (a .offset) (plan .with-step .ensures) (plan .before .before .before .before .access-refusal .ensures) (plan .before .plan-read .ensures)) ∙ at .plan .given .1) refl (colour .colour-of .ensures .0)
+    (sym (read-planned board01 _ (a .space) (a .page) (a .offset) (plan .with-step .ensures) (plan .before .before .before .before .access-refusal .ensures) (plan .before .plan-access .ensures)) ∙ at .plan .given .1) refl (colour .colour-of .ensures .0)
 
 returns : tie.Need-returns
 returns c =
     let plan = c .before .before .before in
     let a = start-of plan .args in
-    planned-refused _ _ _ _ (read-planned board01 _ (a .space) (a .page) (a .offset) (plan .with-step .ensures) (plan .before .before .before .before .access-refusal .ensures) (plan .before .plan-read .ensures)) (c .before .enum-told .given .1) (c .refusal-of .ensures)
+    planned-refused _ _ _ _ (read-planned board01 _ (a .space) (a .page) (a .offset) (plan .with-step .ensures) (plan .before .before .before .before .access-refusal .ensures) (plan .before .plan-access .ensures)) (c .before .enum-told .given .1) (c .refusal-of .ensures)
 
 returns-2 : tie.Need-returns-2
 unfolding accept
@@ -46,7 +46,7 @@ returns-2 c =
     let at = plan-of commit in
     let plan = at .before .before in
     let a = start-of plan .args in
-    access-made board01 _ _ _ (sym (read-planned board01 _ (a .space) (a .page) (a .offset) (plan .with-step .ensures) (plan .before .before .before .before .access-refusal .ensures) (plan .before .plan-read .ensures)) ∙ at .plan .given .1) (colourOf board01 (a .page))
+    access-made board01 _ _ _ (sym (read-planned board01 _ (a .space) (a .page) (a .offset) (plan .with-step .ensures) (plan .before .before .before .before .access-refusal .ensures) (plan .before .plan-access .ensures)) ∙ at .plan .given .1) (colourOf board01 (a .page))
     (λ f k x. some (hardware.readWord board01 f k (a .offset) x)) (λ f k. hardware.access board01 f k (a .offset)) refl
     (colour .colour-of .ensures .0) (ap some (load .load .ensures .0)) (commit .commit-change .ensures board01 refl) (load .load .ensures .1)
 

@@ -29,13 +29,13 @@ put-requires c κs =
     let plan = at .before .before in
     let a = start-of plan .args in
     access-requires board01 _ (write (a .space) (a .page) (a .offset) (a .word)) _ _ refl (a .page) (a .offset) board01-regular
-    (sym (write-planned board01 _ (a .space) (a .page) (a .offset) (a .word) (plan .with-step .ensures) (plan .before .before .before .before .access-refusal .ensures) (plan .before .plan-write .ensures)) ∙ at .plan .given .1) refl (colour .colour-of .ensures .0)
+    (sym (write-planned board01 _ (a .space) (a .page) (a .offset) (a .word) (plan .with-step .ensures) (plan .before .before .before .before .access-refusal .ensures) (plan .before .plan-access .ensures)) ∙ at .plan .given .1) refl (colour .colour-of .ensures .0)
 
 returns : tie.Need-returns
 returns c =
     let plan = c .before .before .before in
     let a = start-of plan .args in
-    planned-refused _ _ _ _ (write-planned board01 _ (a .space) (a .page) (a .offset) (a .word) (plan .with-step .ensures) (plan .before .before .before .before .access-refusal .ensures) (plan .before .plan-write .ensures)) (c .before .enum-told .given .1) (c .refusal-of .ensures)
+    planned-refused _ _ _ _ (write-planned board01 _ (a .space) (a .page) (a .offset) (a .word) (plan .with-step .ensures) (plan .before .before .before .before .access-refusal .ensures) (plan .before .plan-access .ensures)) (c .before .enum-told .given .1) (c .refusal-of .ensures)
 
 returns-2 : tie.Need-returns-2
 unfolding accept
@@ -46,7 +46,7 @@ returns-2 c =
     let at = plan-of commit in
     let plan = at .before .before in
     let a = start-of plan .args in
-    access-made board01 _ (write (a .space) (a .page) (a .offset) (a .word)) _ (sym (write-planned board01 _ (a .space) (a .page) (a .offset) (a .word) (plan .with-step .ensures) (plan .before .before .before .before .access-refusal .ensures) (plan .before .plan-write .ensures)) ∙ at .plan .given .1)
+    access-made board01 _ (write (a .space) (a .page) (a .offset) (a .word)) _ (sym (write-planned board01 _ (a .space) (a .page) (a .offset) (a .word) (plan .with-step .ensures) (plan .before .before .before .before .access-refusal .ensures) (plan .before .plan-access .ensures)) ∙ at .plan .given .1)
     (colourOf board01 (a .page)) (λ f k x. none) (λ f k. hardware.writeWord board01 f k (a .offset) (a .word)) refl
     (colour .colour-of .ensures .0) refl (commit .commit-change .ensures board01 refl) (put .put .ensures)
 

@@ -1,29 +1,16 @@
 -- `manager::read` meets its contract.
 use mathlib.Core.Path.{refl, ap, _∙_}
-use Rattle.board.specs.Board.{board01}
-use Rattle.manager.specs.Calls.{stepResult}
 use borrow.Author.Needs.{needs}
+use Rattle.board.specs.Board.{board01}
 use Rattle.board.proofs.Geometry.{board01-regular}
+use Rattle.manager.specs.Calls.{stepResult}
 use Rattle.manager.proofs.calls.read.Statement.{statement}
 use Rattle.manager.proofs.calls.read.Tie as tie
 
-plan-read-requires : tie.Need-plan-read-requires
-plan-read-requires c κs = board01-regular
-
-carry-out-requires : tie.Need-carry-out-requires
-carry-out-requires c κs = search needs
-
-same-length : tie.Need-same-length
-same-length c = search needs
-
-same-length-2 : tie.Need-same-length-2
-same-length-2 c = search needs
-
 returns : tie.Need-returns
 returns c =
-    let after-plan-read = c .before .before .before .before .before .before .before in
-    c .before .before .before .before .carry-out .ensures board01 refl ∙ ap (stepResult board01 _) (after-plan-read .plan-read .ensures)
+    let carried = c .before .before .before .before in
+    carried .carry-out .ensures board01 refl ∙ ap (stepResult board01 _) (carried .before .before .before .plan-access .ensures)
 
 pub read-spec : {M : Type 1} → statement M
-read-spec =
-    tie.close (tie.spec plan-read-requires carry-out-requires same-length same-length-2 returns)
+read-spec = tie.close (tie.spec (λ c κs. board01-regular) (λ c κs. search needs) (λ c. search needs) (λ c. search needs) returns)

@@ -1,29 +1,16 @@
 -- `manager::write` meets its contract.
 use mathlib.Core.Path.{refl, ap, _∙_}
-use Rattle.board.specs.Board.{board01}
-use Rattle.manager.specs.Calls.{stepResult}
 use borrow.Author.Needs.{needs}
+use Rattle.board.specs.Board.{board01}
 use Rattle.board.proofs.Geometry.{board01-regular}
+use Rattle.manager.specs.Calls.{stepResult}
 use Rattle.manager.proofs.calls.write.Statement.{statement}
 use Rattle.manager.proofs.calls.write.Tie as tie
 
-plan-write-requires : tie.Need-plan-write-requires
-plan-write-requires c κs = board01-regular
-
-carry-out-requires : tie.Need-carry-out-requires
-carry-out-requires c κs = search needs
-
-same-length : tie.Need-same-length
-same-length c = search needs
-
-same-length-2 : tie.Need-same-length-2
-same-length-2 c = search needs
-
 returns : tie.Need-returns
 returns c =
-    let after-plan-write = c .before .before .before .before .before .before .before in
-    c .before .before .before .before .carry-out .ensures board01 refl ∙ ap (stepResult board01 _) (after-plan-write .plan-write .ensures)
+    let carried = c .before .before .before .before in
+    carried .carry-out .ensures board01 refl ∙ ap (stepResult board01 _) (carried .before .before .before .plan-access .ensures)
 
 pub write-spec : {M : Type 1} → statement M
-write-spec =
-    tie.close (tie.spec plan-write-requires carry-out-requires same-length same-length-2 returns)
+write-spec = tie.close (tie.spec (λ c κs. board01-regular) (λ c κs. search needs) (λ c. search needs) (λ c. search needs) returns)
