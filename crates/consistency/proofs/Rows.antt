@@ -1,4 +1,5 @@
 -- Demand 3 admits no wrong word: each list of `specs/Rows` computes to an answer, or to words in memory, that it refuses.
+use mathlib.Core.Bool.{true≢false}
 use mathlib.Core.Path.{_≡_, refl, ap}
 use mathlib.Core.Logic.{_⊎_, ⊎-elim, inl, inr}
 use mathlib.Core.Option.{Option, some}
@@ -40,5 +41,6 @@ wrong-words =
       page-read = λ h. last-not-one (h .finds .0 refl);
       word-taken = λ h. not-one (h .finds .1 .0 refl);
       unmapped-write = λ h. h .finds .0 refl;
+      eviction-refused = λ h. true≢false (h .evicted four below every .0 .0);
       left-in-memory = λ h. let z : _≡_ {A = ℕ} 0 1 = h .evicted four below every .1 .memory-words 0 3 (omega arith) (omega arith) in omega arith;
     }

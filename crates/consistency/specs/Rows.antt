@@ -5,7 +5,8 @@ use Prim.Native.Nat.{ℕ}
 use lib.ListN.{replicate}
 use Rattle.board.specs.declared.Board.{Board}
 use Rattle.mapping.specs.Entry.{capacity}
-use Rattle.machine.specs.State.{State, map, read, write, deviceRead, beginRead, takeWord, Call, single}
+use Rattle.cache.specs.Store.{store}
+use Rattle.machine.specs.State.{State, state, map, read, write, deviceRead, deviceWrite, beginRead, takeWord, endTransfer, Call, single}
 use Rattle.consistency.specs.Cacheless.{Cacheless, start}
 use Rattle.consistency.specs.Demand3.{startState, stateAfter, Holds}
 
@@ -13,25 +14,36 @@ use Rattle.consistency.specs.Demand3.{startState, stateAfter, Holds}
 abbrev pub small : Board
 small = record { page = 4; line = 2; colours = 2; frames = 1 }
 
--- the start with 0 in every word of memory; a cacheless memory that starts with 0 everywhere, and one with 1 at the last offset
+-- the start with 0 in every word of memory
 abbrev pub atStart : State
 atStart = startState small (0 ∷ 0 ∷ 0 ∷ 0 ∷ []) (replicate 8 0) (replicate capacity 0)
 
+-- the same with a tag that breaks the rules
+abbrev pub broken : State
+broken = state (atStart .tables) (store (0 ∷ 0 ∷ 0 ∷ 0 ∷ []) (replicate 8 0) (9 ∷ 0 ∷ 0 ∷ 0 ∷ []))
+
+-- a cacheless memory that starts with 0 everywhere, and one with 1 at the last offset
 abbrev pub same : Cacheless
 same = start small (0 ∷ 0 ∷ 0 ∷ 0 ∷ [])
 
 abbrev pub another : Cacheless
 another = start small (0 ∷ 0 ∷ 0 ∷ 1 ∷ [])
 
+-- a device writes the whole page: from then on both hold the same words, so that only the call before it can show the wrong one
+abbrev pub over : Call
+over = single (deviceWrite 0 (replicate 4 7))
+
 abbrev pub NotHolds : State → Cacheless → List Call → Type 0
 NotHolds st m calls = Holds small st m calls → ⊥
 
 pub record WrongWords : Type 0 where
   -- a read after a map, a device's read of the page, and a word that it takes
-  pub read-word : NotHolds atStart another (single (map 0 0 0 1) ∷ single (read 0 0 3) ∷ [])
-  pub page-read : NotHolds atStart another (single (deviceRead 0 (replicate 4 0)) ∷ [])
-  pub word-taken : NotHolds atStart another (single (beginRead 0) ∷ single (takeWord 0 3) ∷ [])
+  pub read-word : NotHolds atStart another (single (map 0 0 0 1) ∷ single (read 0 0 3) ∷ over ∷ [])
+  pub page-read : NotHolds atStart another (single (deviceRead 0 (replicate 4 0)) ∷ over ∷ [])
+  pub word-taken : NotHolds atStart another (single (beginRead 0) ∷ single (takeWord 0 3) ∷ single (endTransfer 0) ∷ over ∷ [])
   -- a write through a page that the cacheless memory was not told of
-  pub unmapped-write : NotHolds (stateAfter small atStart (single (map 0 0 0 2) ∷ [])) same (single (write 0 0 3 5) ∷ [])
+  pub unmapped-write : NotHolds (stateAfter small atStart (single (map 0 0 0 2) ∷ [])) same (single (write 0 0 3 5) ∷ over ∷ [])
+  -- no call, and an eviction that is refused
+  pub eviction-refused : NotHolds broken same []
   -- no call, and memory after every line has been evicted
   pub left-in-memory : NotHolds atStart another []

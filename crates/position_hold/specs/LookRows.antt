@@ -7,14 +7,14 @@ use lib.ListN.{replicate}
 use Rattle.board.specs.declared.Board.{Board}
 use Rattle.board.specs.Board.{board01, memoryWords, cacheWords}
 use Rattle.mapping.specs.Entry.{capacity}
-use Rattle.machine.specs.State.{State, map, deviceWritePart, beginRead, beginWrite, endTransfer}
+use Rattle.machine.specs.State.{State, map, read, deviceWritePart, beginRead, beginWrite, endTransfer}
 use Rattle.consistency.specs.Demand3.{startState}
-use Rattle.consistency.specs.Rows.{small, atStart, another}
+use Rattle.consistency.specs.Rows.{small, atStart, another, over}
 use Rattle.position_hold.specs.declared.Drawn.the-variants as answer
 use Rattle.position_hold.specs.Demand3.{Holds}
 use Rattle.position_hold.specs.Fix.{Display, refused, blank, position, displayed}
 use Rattle.position_hold.specs.Rows.{one, chart}
-use Rattle.position_hold.specs.Theorems.{Act, look, displays, withHolds}
+use Rattle.position_hold.specs.Theorems.{Act, call, look, displays, withHolds}
 
 abbrev pub fourFrames : Board
 fourFrames = record { page = board01 .page; line = board01 .line; colours = board01 .colours; frames = 4 }
@@ -117,10 +117,12 @@ OtherHolds = withHolds (_+ 2) (look 0 0 1003 30 ∷ chart ∷ look 0 0 1003 30 �
 abbrev pub Answers : Type 0
 Answers = (displayed (answer.Refused 14) ≡ refused 14) × (displayed answer.Blank ≡ blank) × (displayed (answer.Position 5 6) ≡ position 5 6)
 
--- ---- demand 3 refuses a look that reads another word than the cacheless memory has, here the last of the four
+-- ---- demand 3 refuses a look that reads another word than the cacheless memory has, and a read beside a look that does: both memories end the same
 
-abbrev pub WrongLook : Type 0
-WrongLook = Holds small atStart another (one (map 0 0 0 1) ∷ look 0 0 1000 2 ∷ []) → ⊥
+abbrev pub WrongLooks : Type 0
+WrongLooks =
+    (Holds small atStart another (one (map 0 0 0 1) ∷ look 0 0 0 2 ∷ call over ∷ []) → ⊥)
+    × (Holds small atStart another (one (map 0 0 0 1) ∷ look 0 0 0 1 ∷ one (read 0 0 3) ∷ call over ∷ []) → ⊥)
 
 abbrev pub LookRows : Type 0
-LookRows = Run north × Run south × Run times × Run busy × Unmapped × OtherHolds × Answers × WrongLook
+LookRows = Run north × Run south × Run times × Run busy × Unmapped × OtherHolds × Answers × WrongLooks
