@@ -12,27 +12,22 @@ use Rattle.manager.specs.Refusals.{Cause, _if_, spaceCause, frameCause, offsetC
 use Rattle.manager.specs.Tables.{lengthsRight, rulesKept}
 use Rattle.cache.specs.Store.{Store}
 use Rattle.cache.specs.Tag.{tagsKeepRules}
-use Rattle.machine.specs.State.{State, pageFrame, Single, map, unmap, read, write, deviceRead, deviceWrite, deviceWritePart, evict, beginRead, beginWrite, bringWord, takeWord, endTransfer}
+use Rattle.machine.specs.State.{State, pageFrame, Single, map, unmap, read, write, deviceRead, deviceWrite, deviceWritePart, evict, beginRead, beginWrite, bringWord, takeWord, endTransfer, Exchange, noWords, wordOut, pageOut, pageIn, partIn, exchangeOf}
 
 -- memory, cache words and tags have their lengths
 unfoldable pub storeLengths : Board → Store → Bool
 storeLengths b s = eqb (length (s .memory)) (memoryWords b) && eqb (length (s .words)) (cacheWords b) && eqb (length (s .tags)) (lines b)
 
--- a device's buffer has a page's length, or that of its part
+-- a buffer has a page's length, or that of its part
+abbrev pub lengthRight : Board → Exchange → Bool
+lengthRight b noWords = true
+lengthRight b wordOut = true
+lengthRight b (pageOut buffer) = eqb (length buffer) (b .page)
+lengthRight b (pageIn buffer) = eqb (length buffer) (b .page)
+lengthRight b (partIn number buffer) = eqb (length buffer) number
+
 abbrev pub bufferRight : Board → Single → Bool
-bufferRight b (map space page frame rights) = true
-bufferRight b (unmap space page) = true
-bufferRight b (read space page offset) = true
-bufferRight b (write space page offset word) = true
-bufferRight b (deviceRead frame buffer) = eqb (length buffer) (b .page)
-bufferRight b (deviceWrite frame buffer) = eqb (length buffer) (b .page)
-bufferRight b (deviceWritePart frame first number buffer) = eqb (length buffer) number
-bufferRight b (evict line) = true
-bufferRight b (beginRead frame) = true
-bufferRight b (beginWrite frame) = true
-bufferRight b (bringWord frame offset word) = true
-bufferRight b (takeWord frame offset) = true
-bufferRight b (endTransfer frame) = true
+bufferRight b call = lengthRight b (exchangeOf call)
 
 -- what each tests of all that it is lent
 unfoldable pub lentCauses : Board → State → Single → List Cause

@@ -62,18 +62,38 @@ pub record Result : Type 0 where
   pub answer : Answer
   pub after : State
 
--- the buffer that a device read is lent; other single calls fill none
+-- What a single call is lent by its caller or gives to it besides numbers: a view, for definitions that are alike for most calls.
+pub data Exchange : Type 0 where
+  noWords : Exchange
+  -- a word that it answers; a page's words, left in the buffer that it is lent
+  wordOut : Exchange
+  pageOut : List ℕ → Exchange
+  -- a buffer of a page's words; one of as many as the call says
+  pageIn : List ℕ → Exchange
+  partIn : ℕ → List ℕ → Exchange
+
+abbrev pub exchangeOf : Single → Exchange
+exchangeOf (map space page frame rights) = noWords
+exchangeOf (unmap space page) = noWords
+exchangeOf (read space page offset) = wordOut
+exchangeOf (write space page offset word) = noWords
+exchangeOf (deviceRead frame buffer) = pageOut buffer
+exchangeOf (deviceWrite frame buffer) = pageIn buffer
+exchangeOf (deviceWritePart frame first number buffer) = partIn number buffer
+exchangeOf (evict line) = noWords
+exchangeOf (beginRead frame) = noWords
+exchangeOf (beginWrite frame) = noWords
+exchangeOf (bringWord frame offset word) = noWords
+exchangeOf (takeWord frame offset) = wordOut
+exchangeOf (endTransfer frame) = noWords
+
+-- the buffer that a call fills: a device read's, else none
+abbrev pub bufferOut : Exchange → List ℕ
+bufferOut noWords = []
+bufferOut wordOut = []
+bufferOut (pageOut buffer) = buffer
+bufferOut (pageIn buffer) = []
+bufferOut (partIn number buffer) = []
+
 abbrev pub lentBuffer : Single → List ℕ
-lentBuffer (map space page frame rights) = []
-lentBuffer (unmap space page) = []
-lentBuffer (read space page offset) = []
-lentBuffer (write space page offset word) = []
-lentBuffer (deviceRead frame buffer) = buffer
-lentBuffer (deviceWrite frame buffer) = []
-lentBuffer (deviceWritePart frame first number buffer) = []
-lentBuffer (evict line) = []
-lentBuffer (beginRead frame) = []
-lentBuffer (beginWrite frame) = []
-lentBuffer (bringWord frame offset word) = []
-lentBuffer (takeWord frame offset) = []
-lentBuffer (endTransfer frame) = []
+lentBuffer call = bufferOut (exchangeOf call)

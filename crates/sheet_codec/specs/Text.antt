@@ -8,7 +8,7 @@ use lib.ListN.{getD}
 use Rattle.io.specs.Digits.{digits}
 use Rattle.manager.specs.Answers as operation
 use Rattle.manager.specs.Answers.{FrameOperation, Outcome, refused, accepted, numberOf, firstOperation, secondOperation}
-use Rattle.machine.specs.State.{Single, map, unmap, read, write, deviceRead, deviceWrite, deviceWritePart, evict, beginRead, beginWrite, bringWord, takeWord, endTransfer, Answer}
+use Rattle.machine.specs.State.{Single, Exchange, noWords, wordOut, pageOut, pageIn, partIn, exchangeOf, Answer}
 use Rattle.sheet_codec.specs.declared.Shown.{Shown}
 use Rattle.sheet_codec.specs.declared.Shown.the-variants.{Absent, Word}
 
@@ -86,20 +86,15 @@ firstWord (refused n) buffer = none
 firstWord (accepted f ops) buffer = some (getD buffer 0 0)
 
 -- the word read, for a device read its first; the word that a device takes
+abbrev pub wordGiven : Exchange → Answer → Option ℕ
+wordGiven noWords a = none
+wordGiven wordOut a = a .word
+wordGiven (pageOut buffer) a = firstWord (a .outcome) (a .buffer)
+wordGiven (pageIn buffer) a = none
+wordGiven (partIn number buffer) a = none
+
 abbrev pub wordOf : Single → Answer → Option ℕ
-wordOf (map space page frame rights) a = none
-wordOf (unmap space page) a = none
-wordOf (read space page offset) a = a .word
-wordOf (write space page offset word) a = none
-wordOf (deviceRead frame buffer) a = firstWord (a .outcome) (a .buffer)
-wordOf (deviceWrite frame buffer) a = none
-wordOf (deviceWritePart frame first number buffer) a = none
-wordOf (evict line) a = none
-wordOf (beginRead frame) a = none
-wordOf (beginWrite frame) a = none
-wordOf (bringWord frame offset word) a = none
-wordOf (takeWord frame offset) a = a .word
-wordOf (endTransfer frame) a = none
+wordOf call = wordGiven (exchangeOf call)
 
 -- ---- the lines
 
