@@ -207,35 +207,11 @@ module _ (b : Board) (st : State) where
 
     causes-same : (call : Single) → causes b other call ≡ causes b st call
     unfolding causes lentCauses ownCauses lengthsRight rulesKept
-    causes-same (map space page frame rights) = rw same
-    causes-same (unmap space page) = rw same
-    causes-same (read space page offset) = rw same
-    causes-same (write space page offset word) = rw same
-    causes-same (deviceRead frame buffer) = rw same
-    causes-same (deviceWrite frame buffer) = rw same
-    causes-same (deviceWritePart frame first number buffer) = rw same
-    causes-same (evict line) = rw same
-    causes-same (beginRead frame) = rw same
-    causes-same (beginWrite frame) = rw same
-    causes-same (bringWord frame offset word) = rw same
-    causes-same (takeWord frame offset) = rw same
-    causes-same (endTransfer frame) = rw same
+    causes-same call = rw same
 
     accept-same : (call : Single) → accept b other call ≡ accept b st call
     unfolding accept refill
-    accept-same (map space page frame rights) = rw same
-    accept-same (unmap space page) = rw same
-    accept-same (read space page offset) = rw same
-    accept-same (write space page offset word) = rw same
-    accept-same (deviceRead frame buffer) = rw same
-    accept-same (deviceWrite frame buffer) = rw same
-    accept-same (deviceWritePart frame first number buffer) = rw same
-    accept-same (evict line) = rw same
-    accept-same (beginRead frame) = rw same
-    accept-same (beginWrite frame) = rw same
-    accept-same (bringWord frame offset word) = rw same
-    accept-same (takeWord frame offset) = rw same
-    accept-same (endTransfer frame) = rw same
+    accept-same call = rw same
 
     pub unread-after : (call : Single) → firstRefusal (causes b st call) ≡ 0 → step b other call ≡ step b st call
     unread-after call e = sym (step-accepted b other call (ap firstRefusal (causes-same call) ∙ e)) ∙ accept-same call ∙ step-accepted b st call e

@@ -1,5 +1,5 @@
 -- The parts of an accepted single call, each once and by its own cases: what becomes of a frame's record, the list after it, and the access that
--- it makes. `accept` puts them together.
+-- it makes. Of the state each asks the list alone, for the frame of a page. `accept` puts them together.
 use mathlib.Core.List.{List, []}
 use mathlib.Core.Option.{Option, none, some}
 use Prim.Native.Nat.{ℕ}
@@ -16,7 +16,7 @@ use Rattle.manager.specs.Calls.{noOps, writeStep}
 use Rattle.manager.specs.Tables.{recordAt, putRecord}
 use Rattle.cache.specs.Cache as hardware
 use Rattle.cache.specs.Store.{Store, memoryWord}
-use Rattle.machine.specs.State.{State, pageFrame, Single, map, unmap, read, write, deviceRead, deviceWrite, deviceWritePart, evict, beginRead, beginWrite, bringWord, takeWord, endTransfer}
+use Rattle.machine.specs.State.{State, listedFrame, Single, map, unmap, read, write, deviceRead, deviceWrite, deviceWritePart, evict, beginRead, beginWrite, bringWord, takeWord, endTransfer}
 
 -- what a call makes of the record of a frame: a step of the page model, the end of a transfer, or nothing
 pub data Effect : Type 0 where
@@ -24,20 +24,23 @@ pub data Effect : Type 0 where
   ends : ℕ → Effect
   nothing : Effect
 
+abbrev pub effectIn : Board → MappingList → Single → Effect
+effectIn b l (map space page frame rights) = nothing
+effectIn b l (unmap space page) = nothing
+effectIn b l (read space page offset) = steps (listedFrame l space page) (table.read (colourOf b page))
+effectIn b l (write space page offset word) = steps (listedFrame l space page) (table.write (colourOf b page))
+effectIn b l (deviceRead frame buffer) = steps frame table.deviceRead
+effectIn b l (deviceWrite frame buffer) = steps frame table.deviceWrite
+effectIn b l (deviceWritePart frame first number buffer) = steps frame (writeStep b number)
+effectIn b l (evict line) = nothing
+effectIn b l (beginRead frame) = steps frame table.beginRead
+effectIn b l (beginWrite frame) = steps frame table.beginWrite
+effectIn b l (bringWord frame offset word) = nothing
+effectIn b l (takeWord frame offset) = nothing
+effectIn b l (endTransfer frame) = ends frame
+
 abbrev pub effectOf : Board → State → Single → Effect
-effectOf b st (map space page frame rights) = nothing
-effectOf b st (unmap space page) = nothing
-effectOf b st (read space page offset) = steps (pageFrame st space page) (table.read (colourOf b page))
-effectOf b st (write space page offset word) = steps (pageFrame st space page) (table.write (colourOf b page))
-effectOf b st (deviceRead frame buffer) = steps frame table.deviceRead
-effectOf b st (deviceWrite frame buffer) = steps frame table.deviceWrite
-effectOf b st (deviceWritePart frame first number buffer) = steps frame (writeStep b number)
-effectOf b st (evict line) = nothing
-effectOf b st (beginRead frame) = steps frame table.beginRead
-effectOf b st (beginWrite frame) = steps frame table.beginWrite
-effectOf b st (bringWord frame offset word) = nothing
-effectOf b st (takeWord frame offset) = nothing
-effectOf b st (endTransfer frame) = ends frame
+effectOf b st = effectIn b (st .tables .list)
 
 -- its answer's orders, and the records after it
 abbrev pub outcomeOf : Board → List ℕ → Effect → Outcome
@@ -75,19 +78,22 @@ pub record Access : Type 0 where
 abbrev pub accessed : Option ℕ → List ℕ → Store → Access
 accessed word buffer s = record { word = word; buffer = buffer; store = s }
 
+abbrev pub accessIn : Board → MappingList → Single → Store → Access
+accessIn b l (map space page frame rights) s = accessed none [] s
+accessIn b l (unmap space page) s = accessed none [] s
+accessIn b l (read space page offset) s =
+    accessed (some (hardware.readWord b (listedFrame l space page) (colourOf b page) offset s)) []
+    (hardware.access b (listedFrame l space page) (colourOf b page) offset s)
+accessIn b l (write space page offset word) s = accessed none [] (hardware.writeWord b (listedFrame l space page) (colourOf b page) offset word s)
+accessIn b l (deviceRead frame buffer) s = accessed none (hardware.deviceRead b frame s) s
+accessIn b l (deviceWrite frame buffer) s = accessed none [] (hardware.deviceWrite b frame 0 buffer s)
+accessIn b l (deviceWritePart frame first number buffer) s = accessed none [] (hardware.deviceWrite b frame first buffer s)
+accessIn b l (evict line) s = accessed none [] (hardware.evict b line s)
+accessIn b l (beginRead frame) s = accessed none [] s
+accessIn b l (beginWrite frame) s = accessed none [] s
+accessIn b l (bringWord frame offset word) s = accessed none [] (hardware.bringWord b frame offset word s)
+accessIn b l (takeWord frame offset) s = accessed (some (memoryWord b s frame offset)) [] s
+accessIn b l (endTransfer frame) s = accessed none [] s
+
 abbrev pub accessOf : Board → State → Single → Store → Access
-accessOf b st (map space page frame rights) s = accessed none [] s
-accessOf b st (unmap space page) s = accessed none [] s
-accessOf b st (read space page offset) s =
-    accessed (some (hardware.readWord b (pageFrame st space page) (colourOf b page) offset s)) []
-    (hardware.access b (pageFrame st space page) (colourOf b page) offset s)
-accessOf b st (write space page offset word) s = accessed none [] (hardware.writeWord b (pageFrame st space page) (colourOf b page) offset word s)
-accessOf b st (deviceRead frame buffer) s = accessed none (hardware.deviceRead b frame s) s
-accessOf b st (deviceWrite frame buffer) s = accessed none [] (hardware.deviceWrite b frame 0 buffer s)
-accessOf b st (deviceWritePart frame first number buffer) s = accessed none [] (hardware.deviceWrite b frame first buffer s)
-accessOf b st (evict line) s = accessed none [] (hardware.evict b line s)
-accessOf b st (beginRead frame) s = accessed none [] s
-accessOf b st (beginWrite frame) s = accessed none [] s
-accessOf b st (bringWord frame offset word) s = accessed none [] (hardware.bringWord b frame offset word s)
-accessOf b st (takeWord frame offset) s = accessed (some (memoryWord b s frame offset)) [] s
-accessOf b st (endTransfer frame) s = accessed none [] s
+accessOf b st = accessIn b (st .tables .list)

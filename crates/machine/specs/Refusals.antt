@@ -8,11 +8,12 @@ use Rattle.board.specs.declared.Board.{Board}
 use Rattle.board.specs.Board.{memoryWords, cacheWords, lines, colourOf}
 use Rattle.page_model.specs.Busy.{reading, writing}
 use Rattle.page_model.specs.Table as table
+use Rattle.mapping.specs.declared.MappingList.{MappingList}
 use Rattle.manager.specs.Refusals.{Cause, _if_, spaceCause, frameCause, offsetCause, partCause, unmappedCause, readOnlyCause, busyCause, wordCause, endCause, mappingCauses}
 use Rattle.manager.specs.Tables.{lengthsRight, rulesKept}
 use Rattle.cache.specs.Store.{Store}
 use Rattle.cache.specs.Tag.{tagsKeepRules}
-use Rattle.machine.specs.State.{State, pageFrame, Single, map, unmap, read, write, deviceRead, deviceWrite, deviceWritePart, evict, beginRead, beginWrite, bringWord, takeWord, endTransfer, Exchange, noWords, wordOut, pageOut, pageIn, partIn, exchangeOf}
+use Rattle.machine.specs.State.{State, listedFrame, Single, map, unmap, read, write, deviceRead, deviceWrite, deviceWritePart, evict, beginRead, beginWrite, bringWord, takeWord, endTransfer, Exchange, noWords, wordOut, pageOut, pageIn, partIn, exchangeOf}
 
 -- memory, cache words and tags have their lengths
 unfoldable pub storeLengths : Board → Store → Bool
@@ -38,47 +39,50 @@ lentCauses b st call =
     ∷ []
 
 -- the mark of a page's frame bars this step
-abbrev pub pageBusy : State → ℕ → ℕ → table.Step → Cause
-pageBusy st space page s = busyCause (st .tables .records) (pageFrame st space page) s
+abbrev pub pageBusy : MappingList → List ℕ → ℕ → ℕ → table.Step → Cause
+pageBusy l records space page s = busyCause records (listedFrame l space page) s
 
--- and of its own numbers, and of the frame's mark
-unfoldable pub ownCauses : Board → State → Single → List Cause
-ownCauses b st (map space page frame rights) = mappingCauses b (st .tables .list) space page frame rights
-ownCauses b st (unmap space page) = spaceCause space page ∷ unmappedCause (st .tables .list) space page ∷ []
-ownCauses b st (read space page offset) =
+-- and of its own numbers, and of the frame's mark, by the list and the records
+abbrev pub causesIn : Board → MappingList → List ℕ → Single → List Cause
+causesIn b l records (map space page frame rights) = mappingCauses b l space page frame rights
+causesIn b l records (unmap space page) = spaceCause space page ∷ unmappedCause l space page ∷ []
+causesIn b l records (read space page offset) =
     spaceCause space page
     ∷ offsetCause (b .page) offset
-    ∷ unmappedCause (st .tables .list) space page
-    ∷ pageBusy st space page (table.read (colourOf b page))
+    ∷ unmappedCause l space page
+    ∷ pageBusy l records space page (table.read (colourOf b page))
     ∷ []
-ownCauses b st (write space page offset word) =
+causesIn b l records (write space page offset word) =
     spaceCause space page
     ∷ offsetCause (b .page) offset
-    ∷ unmappedCause (st .tables .list) space page
-    ∷ readOnlyCause (st .tables .list) space page
-    ∷ pageBusy st space page (table.write (colourOf b page))
+    ∷ unmappedCause l space page
+    ∷ readOnlyCause l space page
+    ∷ pageBusy l records space page (table.write (colourOf b page))
     ∷ []
-ownCauses b st (deviceRead frame buffer) = frameCause b frame ∷ busyCause (st .tables .records) frame table.deviceRead ∷ []
-ownCauses b st (deviceWrite frame buffer) = frameCause b frame ∷ busyCause (st .tables .records) frame table.deviceWrite ∷ []
-ownCauses b st (deviceWritePart frame first number buffer) =
+causesIn b l records (deviceRead frame buffer) = frameCause b frame ∷ busyCause records frame table.deviceRead ∷ []
+causesIn b l records (deviceWrite frame buffer) = frameCause b frame ∷ busyCause records frame table.deviceWrite ∷ []
+causesIn b l records (deviceWritePart frame first number buffer) =
     frameCause b frame
     ∷ partCause b first number
-    ∷ busyCause (st .tables .records) frame table.deviceWritePart
+    ∷ busyCause records frame table.deviceWritePart
     ∷ []
-ownCauses b st (evict line) = offsetCause (lines b) line ∷ []
-ownCauses b st (beginRead frame) = frameCause b frame ∷ busyCause (st .tables .records) frame table.beginRead ∷ []
-ownCauses b st (beginWrite frame) = frameCause b frame ∷ busyCause (st .tables .records) frame table.beginWrite ∷ []
-ownCauses b st (bringWord frame offset word) =
+causesIn b l records (evict line) = offsetCause (lines b) line ∷ []
+causesIn b l records (beginRead frame) = frameCause b frame ∷ busyCause records frame table.beginRead ∷ []
+causesIn b l records (beginWrite frame) = frameCause b frame ∷ busyCause records frame table.beginWrite ∷ []
+causesIn b l records (bringWord frame offset word) =
     frameCause b frame
     ∷ offsetCause (b .page) offset
-    ∷ wordCause (st .tables .records) frame writing
+    ∷ wordCause records frame writing
     ∷ []
-ownCauses b st (takeWord frame offset) =
+causesIn b l records (takeWord frame offset) =
     frameCause b frame
     ∷ offsetCause (b .page) offset
-    ∷ wordCause (st .tables .records) frame reading
+    ∷ wordCause records frame reading
     ∷ []
-ownCauses b st (endTransfer frame) = frameCause b frame ∷ endCause (st .tables .records) frame ∷ []
+causesIn b l records (endTransfer frame) = frameCause b frame ∷ endCause records frame ∷ []
+
+unfoldable pub ownCauses : Board → State → Single → List Cause
+ownCauses b st = causesIn b (st .tables .list) (st .tables .records)
 
 unfoldable pub causes : Board → State → Single → List Cause
 unfolding lentCauses ownCauses

@@ -21,9 +21,12 @@ state t s = record { tables = t; store = s }
 abbrev pub machineOf : MappingList → List ℕ → List ℕ → List ℕ → List ℕ → List ℕ → State
 machineOf list records protections memory words tags = state (tables list records protections) (store memory words tags)
 
--- the frame of a page of a space
+-- the frame of a page of a space, in a list and in the tables
+abbrev pub listedFrame : MappingList → ℕ → ℕ → ℕ
+listedFrame l space page = listedMapping l space page .frame
+
 abbrev pub pageFrame : State → ℕ → ℕ → ℕ
-pageFrame st space page = listedMapping (st .tables .list) space page .frame
+pageFrame st = listedFrame (st .tables .list)
 
 -- A single call with its numbers and words as they are passed, whatever they are. Document 01 calls evict turning out.
 pub data Single : Type 0 where

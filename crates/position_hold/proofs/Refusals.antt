@@ -40,7 +40,7 @@ module _ (b : Board) (reg : Regular b) (space page : ℕ) where
     pub store-kept : hardware.WellFormed b (st .store)
     pub in-space : spaceCause space page .applies ≡ false
     pub mapped : unmappedCause (st .tables .list) space page .applies ≡ false
-    pub unbarred : pageBusy st space page (table.read (colourOf b page)) .applies ≡ false
+    pub unbarred : pageBusy (st .tables .list) (st .tables .records) space page (table.read (colourOf b page)) .applies ≡ false
 
   read-clear : (st : State) (k : ℕ) → Ready st → k < b .page → firstRefusal (causes b st (read space page k)) ≡ 0
   unfolding causes firstRefusal

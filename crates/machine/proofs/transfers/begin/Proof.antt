@@ -8,10 +8,11 @@ use borrow.Author.Needs.{needs}
 use Rattle.board.specs.declared.Board.{Board}
 use Rattle.board.specs.Board.{board01}
 use Rattle.board.proofs.Geometry.{board01-regular}
+use Rattle.mapping.specs.declared.MappingList.{MappingList}
 use Rattle.manager.specs.Answers.{refused}
 use Rattle.manager.specs.Calls.{changeOf, beginStep}
 use Rattle.manager.specs.Tables.{tables}
-use Rattle.machine.specs.Parts.{steps, effectOf}
+use Rattle.machine.specs.Parts.{steps, effectIn}
 use Rattle.machine.specs.Plans.{begins}
 use Rattle.machine.specs.State.{State, Result, lentBuffer}
 use Rattle.machine.specs.Step.{answer, result, accept}
@@ -21,9 +22,9 @@ use Rattle.machine.proofs.transfers.begin.Statement.{statement}
 use Rattle.machine.proofs.transfers.begin.Tie as tie
 
 -- the call that begins a write or a read: its step, what it is where it is accepted, and that it is lent no buffer
-steps-of : (b : Board) (st : State) (frame : ℕ) (writes : Bool) → effectOf b st (begins writes frame) ≡ steps frame (beginStep writes)
-steps-of b st frame true = refl
-steps-of b st frame false = refl
+steps-of : (b : Board) (l : MappingList) (frame : ℕ) (writes : Bool) → effectIn b l (begins writes frame) ≡ steps frame (beginStep writes)
+steps-of b l frame true = refl
+steps-of b l frame false = refl
 
 begun : (b : Board) (st : State) (frame : ℕ) (writes : Bool) → accept b st (begins writes frame) ≡ stepped b st (changeOf b (st .tables) frame (beginStep writes)) (λ s. none) (λ s. []) (λ s. s)
 unfolding accept
