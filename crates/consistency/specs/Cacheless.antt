@@ -42,21 +42,48 @@ sent word frame first buffer f o = cond (eqb frame f && leb first o && ltb o (fi
 
 -- ---- a single call
 
+-- The use that a call makes of it: none by an eviction, and by the beginning and the end of a transfer.
+pub data Use : Type 0 where
+  noUse : Use
+  -- space and page, and the frame that it gets, or none
+  setsFrame : ℕ → ℕ → Option ℕ → Use
+  -- a program's, through a page of a space: offset; the word that it writes
+  loads : ℕ → ℕ → ℕ → Use
+  stores : ℕ → ℕ → ℕ → ℕ → Use
+  -- a device's, of a frame: all words read; words sent from an offset on; the word at an offset taken, and brought
+  loadsPage : ℕ → Use
+  sendsWords : ℕ → ℕ → List ℕ → Use
+  takesWord : ℕ → ℕ → Use
+  bringsWord : ℕ → ℕ → ℕ → Use
+
+abbrev pub useOf : Single → Use
+useOf (map space page frame rights) = setsFrame space page (some frame)
+useOf (unmap space page) = setsFrame space page none
+useOf (read space page offset) = loads space page offset
+useOf (write space page offset word) = stores space page offset word
+useOf (deviceRead frame buffer) = loadsPage frame
+useOf (deviceWrite frame buffer) = sendsWords frame 0 buffer
+useOf (deviceWritePart frame first number buffer) = sendsWords frame first buffer
+useOf (evict line) = noUse
+useOf (beginRead frame) = noUse
+useOf (beginWrite frame) = noUse
+useOf (bringWord frame offset word) = bringsWord frame offset word
+useOf (takeWord frame offset) = takesWord frame offset
+useOf (endTransfer frame) = noUse
+
+abbrev pub afterUse : Cacheless → Use → Cacheless
+afterUse m noUse = m
+afterUse m (setsFrame space page frame) = cacheless (m .word) (replaced (m .frame) space page frame)
+afterUse m (loads space page offset) = m
+afterUse m (stores space page offset word) = cacheless (stored (m .word) (m .frame space page) offset word) (m .frame)
+afterUse m (loadsPage frame) = m
+afterUse m (sendsWords frame first buffer) = cacheless (sent (m .word) frame first buffer) (m .frame)
+afterUse m (takesWord frame offset) = m
+afterUse m (bringsWord frame offset word) = cacheless (replaced (m .word) frame offset word) (m .frame)
+
 -- what an accepted one makes of it
 unfoldable pub afterAccepted : Cacheless → Single → Cacheless
-afterAccepted m (map space page frame rights) = cacheless (m .word) (replaced (m .frame) space page (some frame))
-afterAccepted m (unmap space page) = cacheless (m .word) (replaced (m .frame) space page none)
-afterAccepted m (read space page offset) = m
-afterAccepted m (write space page offset word) = cacheless (stored (m .word) (m .frame space page) offset word) (m .frame)
-afterAccepted m (deviceRead frame buffer) = m
-afterAccepted m (deviceWrite frame buffer) = cacheless (sent (m .word) frame 0 buffer) (m .frame)
-afterAccepted m (deviceWritePart frame first number buffer) = cacheless (sent (m .word) frame first buffer) (m .frame)
-afterAccepted m (evict line) = m
-afterAccepted m (beginRead frame) = m
-afterAccepted m (beginWrite frame) = m
-afterAccepted m (bringWord frame offset word) = cacheless (replaced (m .word) frame offset word) (m .frame)
-afterAccepted m (takeWord frame offset) = m
-afterAccepted m (endTransfer frame) = m
+afterAccepted m call = afterUse m (useOf call)
 
 -- a refused one changes nothing
 abbrev pub afterSingle : Cacheless → Single → Bool → Cacheless

@@ -15,8 +15,8 @@ use Rattle.mapping.specs.Entry.{capacity}
 use Rattle.manager.specs.Tables.{tables, tabulate, startRecords}
 use Rattle.cache.specs.Store.{store, memoryWord}
 use Rattle.machine.specs.Call.{perform}
-use Rattle.machine.specs.State.{State, state, map, unmap, read, write, deviceRead, deviceWrite, deviceWritePart, evict, beginRead, beginWrite, bringWord, takeWord, endTransfer, Call, single, mapAll, Answer}
-use Rattle.consistency.specs.Cacheless.{Cacheless, start, isRefused, fed}
+use Rattle.machine.specs.State.{State, state, evict, Call, single, mapAll, Answer}
+use Rattle.consistency.specs.Cacheless.{Cacheless, start, Use, noUse, setsFrame, loads, stores, loadsPage, sendsWords, takesWord, bringsWord, useOf, isRefused, fed}
 
 -- ---- the start: empty list, page states and cache, whatever words memory, cache and protections hold
 
@@ -35,20 +35,18 @@ abbrev pub HasFrame : Option ℕ → Type 0
 HasFrame none = ⊥
 HasFrame (some f) = Unit {0}
 
+abbrev pub FindsBy : Board → Cacheless → Use → Answer → Type 0
+FindsBy b m noUse a = Unit {0}
+FindsBy b m (setsFrame space page frame) a = Unit {0}
+FindsBy b m (loads space page offset) a = a .word ≡ pageWord m (m .frame space page) offset
+FindsBy b m (stores space page offset word) a = HasFrame (m .frame space page)
+FindsBy b m (loadsPage frame) a = a .buffer ≡ tabulate (b .page) (m .word frame)
+FindsBy b m (sendsWords frame first buffer) a = Unit {0}
+FindsBy b m (takesWord frame offset) a = a .word ≡ some (m .word frame offset)
+FindsBy b m (bringsWord frame offset word) a = Unit {0}
+
 abbrev pub Finds : Board → Cacheless → Call → Answer → Type 0
-Finds b m (single (map space page frame rights)) a = Unit {0}
-Finds b m (single (unmap space page)) a = Unit {0}
-Finds b m (single (read space page offset)) a = a .word ≡ pageWord m (m .frame space page) offset
-Finds b m (single (write space page offset word)) a = HasFrame (m .frame space page)
-Finds b m (single (deviceRead frame buffer)) a = a .buffer ≡ tabulate (b .page) (m .word frame)
-Finds b m (single (deviceWrite frame buffer)) a = Unit {0}
-Finds b m (single (deviceWritePart frame first number buffer)) a = Unit {0}
-Finds b m (single (evict line)) a = Unit {0}
-Finds b m (single (beginRead frame)) a = Unit {0}
-Finds b m (single (beginWrite frame)) a = Unit {0}
-Finds b m (single (bringWord frame offset word)) a = Unit {0}
-Finds b m (single (takeWord frame offset)) a = a .word ≡ some (m .word frame offset)
-Finds b m (single (endTransfer frame)) a = Unit {0}
+Finds b m (single call) a = FindsBy b m (useOf call) a
 Finds b m (mapAll items answers) a = Unit {0}
 
 -- ---- a list of calls, with the cacheless memory beside it
