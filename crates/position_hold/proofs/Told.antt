@@ -14,7 +14,7 @@ use Rattle.manager.specs.Batch.{itemAt}
 use Rattle.machine.specs.Call.{mapOf}
 use Rattle.machine.specs.State.{Single, map, unmap, read, write, deviceRead, deviceWrite, deviceWritePart, evict, beginRead, beginWrite, bringWord, takeWord, endTransfer, Call, single, mapAll, Answer}
 use Rattle.consistency.specs.Cacheless.{Cacheless, start, stored, afterAccepted, afterSingle, itemsTaken, isRefused, itemRefused, fed}
-use Rattle.position_hold.specs.Sent.{mappedFrame, isFrame, Effect, sends, overwrites, leaves, sentAfter, lastSent, LeftBy, SentBy, itemsAnd, acceptedAnd}
+use Rattle.position_hold.specs.Sent.{mappedFrame, isFrame, WordEffect, sends, overwrites, leaves, sentAfter, lastSent, LeftBy, SentBy, itemsAnd, acceptedAnd}
 
 pub record Told (m : Cacheless) (calls : List Single) : Type 0 where
   pub words-told : (f o w : ℕ) → lastSent calls f o ≡ some w → m .word f o ≡ w
@@ -31,8 +31,8 @@ told-start b memory = record { words-told = λ f o w e. absurd (no-word e); fram
 -- ---- calls one after the other
 
 module _ (earlier : List Single) (f o : ℕ) where
-  after : (calls : List Single) {x y : Effect} → x ≡ y → sentAfter x (lastSent (calls ++ earlier) f o) ≡ sentAfter y (lastSent (calls ++ earlier) f o)
-  after calls e = ap (λ (x : Effect). sentAfter x (lastSent (calls ++ earlier) f o)) e
+  after : (calls : List Single) {x y : WordEffect} → x ≡ y → sentAfter x (lastSent (calls ++ earlier) f o) ≡ sentAfter y (lastSent (calls ++ earlier) f o)
+  after calls e = ap (λ (x : WordEffect). sentAfter x (lastSent (calls ++ earlier) f o)) e
 
   pub left-by : (later : List Single) → LeftBy later earlier f o → lastSent (later ++ earlier) f o ≡ lastSent earlier f o
   left-by [] h = refl

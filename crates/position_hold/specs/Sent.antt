@@ -13,57 +13,71 @@ use Rattle.machine.specs.Call.{mapOf}
 use Rattle.machine.specs.State.{Single, map, unmap, read, write, deviceRead, deviceWrite, deviceWritePart, evict, beginRead, beginWrite, bringWord, takeWord, endTransfer, Call, single, mapAll, Answer}
 use Rattle.consistency.specs.Cacheless.{isRefused, itemRefused}
 
+-- ---- what an accepted call does to pages and to words, by itself: the cacheless memory has its own account of it (`useOf`)
+
+pub data Deed : Type 0 where
+  noDeed : Deed
+  -- space and page, and the frame to which it maps the page, or none
+  mapsTo : ℕ → ℕ → Option ℕ → Deed
+  -- a program's write: space, page, offset
+  writesOver : ℕ → ℕ → ℕ → Deed
+  -- a transfer's words: frame, first offset, words; of one that takes a while (request N6) a word as it is brought, and none at its beginning and its end
+  sendsFrom : ℕ → ℕ → List ℕ → Deed
+  sendsAt : ℕ → ℕ → ℕ → Deed
+
+abbrev pub deedOf : Single → Deed
+deedOf (map space page frame rights) = mapsTo space page (some frame)
+deedOf (unmap space page) = mapsTo space page none
+deedOf (read space page offset) = noDeed
+deedOf (write space page offset word) = writesOver space page offset
+deedOf (deviceRead frame buffer) = noDeed
+deedOf (deviceWrite frame buffer) = sendsFrom frame 0 buffer
+deedOf (deviceWritePart frame first number buffer) = sendsFrom frame first buffer
+deedOf (evict line) = noDeed
+deedOf (beginRead frame) = noDeed
+deedOf (beginWrite frame) = noDeed
+deedOf (bringWord frame offset word) = sendsAt frame offset word
+deedOf (takeWord frame offset) = noDeed
+deedOf (endTransfer frame) = noDeed
+
 -- ---- the frame to which a page of a space was last mapped, if it was and has not been unmapped since
+
+abbrev pub mappedAfter : Deed → ℕ → ℕ → Option ℕ → Option ℕ
+mappedAfter noDeed s p before = before
+mappedAfter (mapsTo space page frame) s p before = cond (eqb space s && eqb page p) frame before
+mappedAfter (writesOver space page offset) s p before = before
+mappedAfter (sendsFrom frame first buffer) s p before = before
+mappedAfter (sendsAt frame offset word) s p before = before
 
 abbrev pub mappedFrame : List Single → ℕ → ℕ → Option ℕ
 mappedFrame [] s p = none
-mappedFrame (map space page frame rights ∷ earlier) s p = cond (eqb space s && eqb page p) (some frame) (mappedFrame earlier s p)
-mappedFrame (unmap space page ∷ earlier) s p = cond (eqb space s && eqb page p) none (mappedFrame earlier s p)
-mappedFrame (read space page offset ∷ earlier) s p = mappedFrame earlier s p
-mappedFrame (write space page offset word ∷ earlier) s p = mappedFrame earlier s p
-mappedFrame (deviceRead frame buffer ∷ earlier) s p = mappedFrame earlier s p
-mappedFrame (deviceWrite frame buffer ∷ earlier) s p = mappedFrame earlier s p
-mappedFrame (deviceWritePart frame first number buffer ∷ earlier) s p = mappedFrame earlier s p
-mappedFrame (evict line ∷ earlier) s p = mappedFrame earlier s p
-mappedFrame (beginRead frame ∷ earlier) s p = mappedFrame earlier s p
-mappedFrame (beginWrite frame ∷ earlier) s p = mappedFrame earlier s p
-mappedFrame (bringWord frame offset word ∷ earlier) s p = mappedFrame earlier s p
-mappedFrame (takeWord frame offset ∷ earlier) s p = mappedFrame earlier s p
-mappedFrame (endTransfer frame ∷ earlier) s p = mappedFrame earlier s p
+mappedFrame (c ∷ earlier) s p = mappedAfter (deedOf c) s p (mappedFrame earlier s p)
 
 abbrev pub isFrame : Option ℕ → ℕ → Bool
 isFrame none f = false
 isFrame (some g) f = eqb g f
 
 -- ---- what an accepted call does to offset o of frame f, after those accepted earlier: a transfer sends it a word, a program's write puts another over
--- it, or it is left. Of a transfer that takes a while (request N6) a word is sent as it is brought; its beginning and its end send none.
+-- it, or it is left
 
-pub data Effect : Type 0 where
-  sends : ℕ → Effect
-  overwrites leaves : Effect
+pub data WordEffect : Type 0 where
+  sends : ℕ → WordEffect
+  overwrites leaves : WordEffect
 
--- a buffer's word for it, if it is sent to this frame from an offset on and reaches this one
-abbrev pub sentFrom : ℕ → ℕ → List ℕ → ℕ → ℕ → Effect
-sentFrom frame first buffer f o = cond (eqb frame f && leb first o && ltb o (first + length buffer)) (sends (getD buffer (o - first) 0)) leaves
+abbrev pub effectBy : List Single → Deed → ℕ → ℕ → WordEffect
+effectBy earlier noDeed f o = leaves
+effectBy earlier (mapsTo space page frame) f o = leaves
+effectBy earlier (writesOver space page offset) f o = cond (isFrame (mappedFrame earlier space page) f && eqb offset o) overwrites leaves
+effectBy earlier (sendsFrom frame first buffer) f o =
+    cond (eqb frame f && leb first o && ltb o (first + length buffer)) (sends (getD buffer (o - first) 0)) leaves
+effectBy earlier (sendsAt frame offset word) f o = cond (eqb frame f && eqb offset o) (sends word) leaves
 
-abbrev pub effectOn : List Single → Single → ℕ → ℕ → Effect
-effectOn earlier (map space page frame rights) f o = leaves
-effectOn earlier (unmap space page) f o = leaves
-effectOn earlier (read space page offset) f o = leaves
-effectOn earlier (write space page offset word) f o = cond (isFrame (mappedFrame earlier space page) f && eqb offset o) overwrites leaves
-effectOn earlier (deviceRead frame buffer) f o = leaves
-effectOn earlier (deviceWrite frame buffer) f o = sentFrom frame 0 buffer f o
-effectOn earlier (deviceWritePart frame first number buffer) f o = sentFrom frame first buffer f o
-effectOn earlier (evict line) f o = leaves
-effectOn earlier (beginRead frame) f o = leaves
-effectOn earlier (beginWrite frame) f o = leaves
-effectOn earlier (bringWord frame offset word) f o = cond (eqb frame f && eqb offset o) (sends word) leaves
-effectOn earlier (takeWord frame offset) f o = leaves
-effectOn earlier (endTransfer frame) f o = leaves
+abbrev pub effectOn : List Single → Single → ℕ → ℕ → WordEffect
+effectOn earlier call = effectBy earlier (deedOf call)
 
 -- ---- the word that a transfer last sent to it, if one has and no program has written it since
 
-abbrev pub sentAfter : Effect → Option ℕ → Option ℕ
+abbrev pub sentAfter : WordEffect → Option ℕ → Option ℕ
 sentAfter (sends w) before = some w
 sentAfter overwrites before = none
 sentAfter leaves before = before
