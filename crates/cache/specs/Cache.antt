@@ -7,7 +7,7 @@ use Rattle.board.specs.declared.Board.{Board}
 use Rattle.board.specs.Board.{pageLines, lineOf, colourLine, lineAt, cacheAt, lineOffset, frameAt, memoryAt}
 use Rattle.cache.specs.Part.{part, overlay}
 use Rattle.cache.specs.Store.{Store, tagAt, wordAt, withMemory, withWords, withTag, when}
-use Rattle.cache.specs.Tag.{emptyTag, cleanTag, dirtyTag, isDirty, names, frameOf}
+use Rattle.cache.specs.Tag.{emptyTag, cleanTag, dirtyTag, isDirtyTag, names, frameOf}
 
 -- ---- a line
 
@@ -23,8 +23,8 @@ copyOut b f n s = withMemory (overlay (s .memory) (memoryAt b f (lineOffset b n)
 
 -- line n is written back if its tag is dirty
 unfoldable pub writeBack : Board → ℕ → Store → Store
-unfolding copyOut isDirty frameOf
-writeBack b n s = when (isDirty (tagAt s n)) (copyOut b (frameOf (tagAt s n)) n) s
+unfolding copyOut isDirtyTag frameOf
+writeBack b n s = when (isDirtyTag (tagAt s n)) (copyOut b (frameOf (tagAt s n)) n) s
 
 -- line n gets tag 0; its words keep their values
 unfoldable pub empty : ℕ → Store → Store

@@ -16,8 +16,8 @@ abbrev pub dirtyTag : ℕ → ℕ
 dirtyTag f = 129 + f
 
 -- whether a tag says dirty, that is 129 or more
-unfoldable pub isDirty : ℕ → Bool
-isDirty tag = leb (dirtyTag 0) tag
+unfoldable pub isDirtyTag : ℕ → Bool
+isDirtyTag tag = leb (dirtyTag 0) tag
 
 -- whether a tag names frame f
 unfoldable pub names : ℕ → ℕ → Bool
@@ -25,8 +25,8 @@ names tag f = eqb tag (cleanTag f) || eqb tag (dirtyTag f)
 
 -- the frame that a tag names, if it is not the empty one
 unfoldable pub frameOf : ℕ → ℕ
-unfolding isDirty
-frameOf tag = cond (isDirty tag) (tag - dirtyTag 0) (tag - cleanTag 0)
+unfolding isDirtyTag
+frameOf tag = cond (isDirtyTag tag) (tag - dirtyTag 0) (tag - cleanTag 0)
 
 -- a tag keeps the rules: it is empty, or names a frame of the board
 unfoldable pub tagKeepsRules : Board → ℕ → Bool

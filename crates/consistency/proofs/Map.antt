@@ -19,7 +19,7 @@ use Rattle.mapping.proofs.Laws.{inserted-length, inserted-rules, mappingOf-inse
 use Rattle.manager.specs.Calls.{commitUnmap}
 use Rattle.manager.specs.Refusals.{firstRefusal, mapCauses}
 use Rattle.manager.specs.Tables.{tables, lengthsRight, refill}
-use Rattle.manager.specs.Theorems.{WellFormed}
+use Rattle.manager.specs.Theorems.{WellFormedTables}
 use Rattle.manager.proofs.AcceptedLaws.{map-accepted}
 use Rattle.manager.proofs.CauseLaws.{mapped-found}
 use Rattle.machine.specs.Refusals.{storeLengths, lentCauses, ownCauses, causes}
@@ -43,7 +43,7 @@ replaced-cases P g i j a x y same other = go (eqb i x) (eqb j y) refl refl
 
 -- what an accepted map tells of its mapping
 pub map-clear : (b : Board) (st : State) (m : Mapping) → firstRefusal (causes b st (map (m .space) (m .page) (m .frame) (m .rights))) ≡ 0
-    → WellFormed b (st .tables) × InRange b m × (lookup (st .tables .list) (m .space) (m .page) ≡ Nothing) × (st .tables .list .count < capacity)
+    → WellFormedTables b (st .tables) × InRange b m × (lookup (st .tables .list) (m .space) (m .page) ≡ Nothing) × (st .tables .list .count < capacity)
 unfolding causes mapCauses firstRefusal
 map-clear b st m e =
     let call = map (m .space) (m .page) (m .frame) (m .rights) in

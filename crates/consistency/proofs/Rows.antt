@@ -34,7 +34,7 @@ every (suc (suc (suc zero))) h = inr (inr (inr (inl refl)))
 every (suc (suc (suc (suc n)))) h = absurd (omega arith)
 
 pub wrong-words : WrongWords
-unfolding opened cacheless.start cacheless.afterAccepted
+unfolding opened cacheless.startCacheless cacheless.afterAccepted
 wrong-words =
     record {
       read-word = λ h. not-one (h .finds .1 .0 refl);

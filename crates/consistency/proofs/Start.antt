@@ -16,7 +16,7 @@ use Rattle.manager.proofs.RecordLaws.{length-startRecords, recordAt-start}
 use Rattle.cache.specs.Store.{store, WellFormed}
 use Rattle.cache.specs.Tag.{emptyTag, names}
 use Rattle.cache.proofs.Laws.Tag.{names-dirty, names-not-empty, rules-all, rules-empty}
-use Rattle.consistency.specs.Cacheless.{start}
+use Rattle.consistency.specs.Cacheless.{startCacheless}
 use Rattle.consistency.specs.Demand3.{startState}
 use Rattle.consistency.proofs.Invariant.{frameIn, Invariant}
 
@@ -39,8 +39,8 @@ module _ (b : Board) (reg : Regular b) (memory words protections : List ℕ) (fu
   unnamed : (f c o : ℕ) → c < b .colours → o < b .page → names (getD (replicate (lines b) 0) (lineOf b c o) 0) f ≡ true → ⊥
   unnamed f c o hc ho n = names-not-empty f (tag-zero (lineOf b c o) (lineOf-lt b reg c o hc ho)) n
 
-  pub start-invariant : Invariant b (startState b memory words protections) (start b memory)
-  unfolding start
+  pub start-invariant : Invariant b (startState b memory words protections) (startCacheless b memory)
+  unfolding startCacheless
   start-invariant =
       record {
         sound = record {

@@ -13,12 +13,12 @@ use Rattle.manager.specs.Batch.{itemAt}
 use Rattle.manager.specs.Refusals.{firstRefusal}
 use Rattle.manager.specs.Tables.{tabulate}
 use Rattle.manager.proofs.Laws.{getD-tabulate}
-use Rattle.machine.specs.Call.{mapOf, afterItems, answerAt, callCauses, perform}
+use Rattle.machine.specs.Call.{mapOf, afterItems, itemAnswer, callCauses, perform}
 use Rattle.machine.specs.Refusals.{causes}
 use Rattle.machine.specs.State.{State, Single, map, unmap, read, write, deviceRead, deviceWrite, deviceWritePart, evict, beginRead, beginWrite, bringWord, takeWord, endTransfer, Call, single, mapAll, Result}
 use Rattle.machine.specs.Step.{accept, step}
 use Rattle.machine.proofs.CallLaws.{perform-cases, accept-accepted, refused-number}
-use Rattle.consistency.specs.Cacheless.{Cacheless, start, afterSingle, itemsTaken, isRefused, fed}
+use Rattle.consistency.specs.Cacheless.{Cacheless, startCacheless, afterSingle, itemsTaken, isRefused, fed}
 use Rattle.consistency.specs.Demand3.{startState, Finds, AllFind, stateAfter, cachelessAfter, Holds, Demand3}
 use Rattle.consistency.proofs.Device.{device-read-taken, device-write-taken, device-write-part-taken}
 use Rattle.consistency.proofs.Evict.{evict-taken}
@@ -62,13 +62,13 @@ module _ (b : Board) (reg : Regular b) where
 
   module _ (st : State) (m : Cacheless) (inv : Invariant b st m) (items : List Mapping) where
     abbrev answered : ℕ → Bool
-    answered k = not (eqb (getD (tabulate (length items) (answerAt b st items)) k 0) 0)
+    answered k = not (eqb (getD (tabulate (length items) (itemAnswer b st items)) k 0) 0)
 
     -- an item was refused exactly if its answer says so
     item-refused : (k : ℕ) → suc k ≤ length items → isRefused (step b (afterItems b st items k) (mapOf (itemAt items k)) .answer) ≡ answered k
-    unfolding answerAt
+    unfolding itemAnswer
     item-refused k h =
-        refused-number b (afterItems b st items k) (mapOf (itemAt items k)) ∙ ap (λ (n : ℕ). not (eqb n 0)) (sym (getD-tabulate (length items) (answerAt b st items) k h))
+        refused-number b (afterItems b st items k) (mapOf (itemAt items k)) ∙ ap (λ (n : ℕ). not (eqb n 0)) (sym (getD-tabulate (length items) (itemAnswer b st items) k h))
 
     -- each keeps the invariant
     items-kept : (k : ℕ) → k ≤ length items → Invariant b (afterItems b st items k) (itemsTaken m items answered k)
@@ -105,4 +105,4 @@ module _ (b : Board) (reg : Regular b) where
 
 pub demand3 : (b : Board) → Regular b → Demand3 b
 demand3 b reg memory words protections calls full wide long =
-    holds b reg (startState b memory words protections) (start b memory) (start-invariant b reg memory words protections full wide long) calls
+    holds b reg (startState b memory words protections) (startCacheless b memory) (start-invariant b reg memory words protections full wide long) calls

@@ -24,8 +24,8 @@ abbrev pub cacheless : (ℕ → ℕ → ℕ) → (ℕ → ℕ → Option ℕ) �
 cacheless word frame = record { word = word; frame = frame }
 
 -- at the start the words of the lent memory, and no frame
-unfoldable pub start : Board → List ℕ → Cacheless
-start b memory = cacheless (λ f o. getD memory (memoryAt b f o) 0) (λ space page. none)
+unfoldable pub startCacheless : Board → List ℕ → Cacheless
+startCacheless b memory = cacheless (λ f o. getD memory (memoryAt b f o) 0) (λ space page. none)
 
 -- a function of two numbers with one value replaced
 abbrev pub replaced {ℓ} : {A : Type ℓ} → (ℕ → ℕ → A) → ℕ → ℕ → A → ℕ → ℕ → A

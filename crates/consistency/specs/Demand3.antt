@@ -16,7 +16,7 @@ use Rattle.manager.specs.Tables.{tables, tabulate, startRecords}
 use Rattle.cache.specs.Store.{store, memoryWord}
 use Rattle.machine.specs.Call.{perform}
 use Rattle.machine.specs.State.{State, state, evict, Call, single, mapAll, Answer}
-use Rattle.consistency.specs.Cacheless.{Cacheless, start, Use, noUse, setsFrame, loads, stores, loadsPage, sendsWords, takesWord, bringsWord, useOf, isRefused, fed}
+use Rattle.consistency.specs.Cacheless.{Cacheless, startCacheless, Use, noUse, setsFrame, loads, stores, loadsPage, sendsWords, takesWord, bringsWord, useOf, isRefused, fed}
 
 -- ---- the start: empty list, page states and cache, whatever words memory, cache and protections hold
 
@@ -99,4 +99,4 @@ pub record Holds (b : Board) (st : State) (m : Cacheless) (calls : List Call) : 
 abbrev pub Demand3 : Board → Type 0
 Demand3 b =
     (memory words protections : List ℕ) (calls : List Call) → length memory ≡ memoryWords b → length words ≡ cacheWords b → length protections ≡ capacity
-    → Holds b (startState b memory words protections) (start b memory) calls
+    → Holds b (startState b memory words protections) (startCacheless b memory) calls

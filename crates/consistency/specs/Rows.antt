@@ -7,7 +7,7 @@ use Rattle.board.specs.declared.Board.{Board}
 use Rattle.mapping.specs.Entry.{capacity}
 use Rattle.cache.specs.Store.{store}
 use Rattle.machine.specs.State.{State, state, map, read, write, deviceRead, deviceWrite, beginRead, takeWord, endTransfer, Call, single}
-use Rattle.consistency.specs.Cacheless.{Cacheless, start}
+use Rattle.consistency.specs.Cacheless.{Cacheless, startCacheless}
 use Rattle.consistency.specs.Demand3.{startState, stateAfter, Holds}
 
 -- one frame of four words, and a cache of four lines in two colours
@@ -24,10 +24,10 @@ broken = state (atStart .tables) (store (0 ∷ 0 ∷ 0 ∷ 0 ∷ []) (replicate 
 
 -- a cacheless memory that starts with 0 everywhere, and one with 1 at the last offset
 abbrev pub same : Cacheless
-same = start small (0 ∷ 0 ∷ 0 ∷ 0 ∷ [])
+same = startCacheless small (0 ∷ 0 ∷ 0 ∷ 0 ∷ [])
 
 abbrev pub another : Cacheless
-another = start small (0 ∷ 0 ∷ 0 ∷ 1 ∷ [])
+another = startCacheless small (0 ∷ 0 ∷ 0 ∷ 1 ∷ [])
 
 -- a device writes the whole page: from then on both hold the same words, so that only the call before it can show the wrong one
 abbrev pub over : Call

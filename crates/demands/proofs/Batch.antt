@@ -18,7 +18,7 @@ use Rattle.manager.specs.Refusals.{firstRefusal}
 use Rattle.manager.specs.Tables.{Tables, lengthsRight, tabulate}
 use Rattle.manager.proofs.LentItems.{long-refused, lent-refusal, lent-items}
 use Rattle.cache.specs.Store.{WellFormed}
-use Rattle.machine.specs.Call.{mapOf, afterItems, answerAt, callCauses, perform}
+use Rattle.machine.specs.Call.{mapOf, afterItems, itemAnswer, callCauses, perform}
 use Rattle.machine.specs.Refusals.{storeLengths}
 use Rattle.machine.specs.State.{State, single, mapAll}
 use Rattle.machine.specs.State as state-of
@@ -54,8 +54,8 @@ module _ (b : Board) (st : State) (wf : WellFormed b (st .store)) (items : List 
       let m = itemAt items k in
       (ap (λ (r : Result). r .after) (item-agrees k p), map-store b (afterItems b st items k) (m .space) (m .page) (m .frame) (m .rights) ∙ p .1)
 
-  answers-agree : tabulate (length items) (manager.answerAt b (st .tables) items) ≡ tabulate (length items) (answerAt b st items)
-  unfolding manager.answerAt answerAt
+  answers-agree : tabulate (length items) (manager.answerAt b (st .tables) items) ≡ tabulate (length items) (itemAnswer b st items)
+  unfolding manager.answerAt itemAnswer
   answers-agree = ap (tabulate (length items)) (fun-ext (λ k. ap (λ (r : Result). numberOf (r .answer)) (item-agrees k (in-step k))))
 
   -- ---- the whole

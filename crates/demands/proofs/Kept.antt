@@ -23,7 +23,7 @@ use Rattle.manager.specs.Answers.{accepted}
 use Rattle.manager.specs.Calls.{noOps}
 use Rattle.manager.specs.Refusals.{firstRefusal, isRight}
 use Rattle.manager.specs.Tables.{Tables, tables, recordAt, putRecord, lengthsRight, rulesKept, protectionAt, tabulate, refill}
-use Rattle.manager.specs.Theorems.{WellFormed}
+use Rattle.manager.specs.Theorems.{WellFormedTables}
 use Rattle.manager.proofs.AcceptedLaws.{lengths-known, records-rules}
 use Rattle.manager.proofs.CauseLaws.{list-rules, record-rules}
 use Rattle.manager.proofs.KeepsRules.{refill-keeps, step-keeps, end-keeps, map-keeps, unmap-keeps}
@@ -38,7 +38,7 @@ use Rattle.cache.proofs.Laws.Evict.{evict-kept}
 use Rattle.machine.specs.Refusals.{storeLengths, lentCauses, ownCauses, bufferRight, causes}
 use Rattle.machine.specs.State.{State, state, Single, map, unmap, read, write, deviceRead, deviceWrite, deviceWritePart, evict, beginRead, beginWrite, bringWord, takeWord, endTransfer}
 use Rattle.machine.specs.Parts.{Effect, steps, ends, nothing, effectOf, outcomeOf, recordsAfter, listAfter, accessed, accessOf}
-use Rattle.machine.specs.Step.{operate, carryOut, tablesAfter, accept, step}
+use Rattle.machine.specs.Step.{operate, carryOut, tablesLeft, accept, step}
 use Rattle.machine.proofs.StepLaws.{cleared, lengths-clear, store-clear, tables-clear, buffer-length, Tested, effect-tested, part-ready, evict-ready, step-accepted}
 use Rattle.consistency.proofs.Map.{map-clear}
 use Rattle.consistency.proofs.Operations.{ordered-kept}
@@ -46,15 +46,15 @@ use Rattle.demands.specs.Demands.{ByTable, ByEnd, Modelled, Left}
 
 module _ (b : Board) (st : State) (call : Single) (e : firstRefusal (causes b st call) ≡ 0) where
   -- an accepted call was lent tables of their lengths that keep the rules
-  pub tables-lent : WellFormed b (st .tables)
+  pub tables-lent : WellFormedTables b (st .tables)
   tables-lent =
       (and-left (lengthsRight b (st .tables)) (storeLengths b (st .store)) (and-left _ (bufferRight b call) (lengths-clear b st call e)), tables-clear b st call e)
 
 -- ---- the tables
 
 -- the records after an effect, with the list as it was
-effect-keeps : (b : Board) (t : Tables) → WellFormed b t → (x : Effect) → Tested b (t .records) x
-    → WellFormed b (refill b (tables (t .list) (recordsAfter b (t .records) x) (t .protections)))
+effect-keeps : (b : Board) (t : Tables) → WellFormedTables b t → (x : Effect) → Tested b (t .records) x
+    → WellFormedTables b (refill b (tables (t .list) (recordsAfter b (t .records) x) (t .protections)))
 effect-keeps b t w (steps f s) r = step-keeps b t w f s (r .0) (r .1)
 effect-keeps b t w (ends f) r = end-keeps b t w f r
 effect-keeps b t w nothing r =
@@ -62,14 +62,14 @@ effect-keeps b t w nothing r =
     refill-keeps b t (n .0) (n .1) (n .2) (list-rules b t (w .1)) (records-rules b t (w .1))
 
 module _ (b : Board) (st : State) where
-  pub tables-after : (call : Single) → firstRefusal (causes b st call) ≡ 0 → WellFormed b (accept b st call .after .tables)
+  pub tables-after : (call : Single) → firstRefusal (causes b st call) ≡ 0 → WellFormedTables b (accept b st call .after .tables)
   unfolding accept causes
   tables-after call e = go call e (effect-keeps b (st .tables) (tables-lent b st call e) (effectOf b st call) (effect-tested b st call e))
     where
       -- but for two calls the list stays
       go : (call : Single) → firstRefusal (causes b st call) ≡ 0
-          → WellFormed b (refill b (tables (st .tables .list) (recordsAfter b (st .tables .records) (effectOf b st call)) (st .tables .protections)))
-          → WellFormed b (tablesAfter b st call)
+          → WellFormedTables b (refill b (tables (st .tables .list) (recordsAfter b (st .tables .records) (effectOf b st call)) (st .tables .protections)))
+          → WellFormedTables b (tablesLeft b st call)
       go (map space page frame rights) e w =
           let a = map-clear b st (record { space = space; page = page; frame = frame; rights = rights }) e in map-keeps b (st .tables) (a .0) _ (a .1) (a .2) (a .3)
       go (unmap space page) e w =
@@ -89,7 +89,7 @@ module _ (b : Board) (st : State) where
 -- ---- memory and cache
 
 -- the store after an effect's orders
-effect-ordered : (b : Board) → Regular b → (st : State) → WellFormed b (st .tables) → hardware.WellFormed b (st .store)
+effect-ordered : (b : Board) → Regular b → (st : State) → WellFormedTables b (st .tables) → hardware.WellFormed b (st .store)
     → (x : Effect) → Tested b (st .tables .records) x → hardware.WellFormed b (carryOut b (outcomeOf b (st .tables .records) x) (st .store))
 unfolding carryOut operate
 effect-ordered b reg st w kept (steps f s) r = ordered-kept b reg f (r .0) (st .store) kept s (recordAt (st .tables .records) f) (record-rules b (st .tables) (w .1) f (r .0))
@@ -134,7 +134,7 @@ module _ (b : Board) (reg : Regular b) (st : State) where
 -- ---- orders and states
 
 -- whatever becomes of the list
-module _ (b : Board) (t : Tables) (w : WellFormed b t) (f : ℕ) (h : f < b .frames) (list : MappingList) where
+module _ (b : Board) (t : Tables) (w : WellFormedTables b t) (f : ℕ) (h : f < b .frames) (list : MappingList) where
   pub stepped-by : (s : table.Step)
       → let change = stepped (b .colours) s (recordAt (t .records) f) in
       ByTable b t (refill b (tables list (putRecord (t .records) f (change .next)) (t .protections))) (accepted f (change .ops)) f s
@@ -168,7 +168,7 @@ module _ (b : Board) (st : State) where
   unfolding accept refill
   modelled-after call e = go (effectOf b st call) (effect-tested b st call e)
     where
-      w : WellFormed b (st .tables)
+      w : WellFormedTables b (st .tables)
       w = tables-lent b st call e
 
       go : (x : Effect) → Tested b (st .tables .records) x
@@ -217,7 +217,7 @@ module _ (b : Board) (st : State) where
     unread-after call e = sym (step-accepted b other call (ap firstRefusal (causes-same call) ∙ e)) ∙ accept-same call ∙ step-accepted b st call e
 
 -- a listed mapping's byte is its protection
-module _ (b : Board) (t : Tables) (w : WellFormed b t) (agree : Agreeing b t) (i : ℕ) (listed : i < t .list .count) where
+module _ (b : Board) (t : Tables) (w : WellFormedTables b t) (agree : Agreeing b t) (i : ℕ) (listed : i < t .list .count) where
   pub byte-at : getD (t .protections) i 0 ≡ protectionAt b (t .list) (t .records) i
   byte-at =
       let room = list-rules b t (w .1) .count-le in

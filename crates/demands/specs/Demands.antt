@@ -21,7 +21,7 @@ use Rattle.manager.specs.Batch.{itemAt}
 use Rattle.manager.specs.Calls.{noOps}
 use Rattle.manager.specs.Refusals.{Cause, isRight}
 use Rattle.manager.specs.Tables.{Tables, tables, recordAt, protectionAt, tabulate}
-use Rattle.manager.specs.Theorems.{First, WellFormed}
+use Rattle.manager.specs.Theorems.{First, WellFormedTables}
 use Rattle.cache.specs.Cache as hardware
 use Rattle.cache.specs.Store as hardware-store
 use Rattle.machine.specs.Call.{mapOf, callCauses, callBuffer, perform}
@@ -78,7 +78,7 @@ Modelled b before after o nothing = (o ≡ accepted 0 noOps) × (after .records 
 
 -- what an accepted single call leaves, and answers
 pub record Left (b : Board) (st : State) (call : Single) (after : State) (a : Answer) : Type 0 where
-  pub tables-kept : WellFormed b (after .tables)
+  pub tables-kept : WellFormedTables b (after .tables)
   pub store-kept : hardware-store.WellFormed b (after .store)
   pub modelled : Modelled b (st .tables) (after .tables) (a .outcome) (effectOf b st call)
   pub listed : after .tables .list ≡ listAfter (st .tables .list) call

@@ -11,7 +11,7 @@ use Rattle.page_model.specs.Theorems.{Idle}
 use Rattle.mapping.specs.Entry.{capacity, readWrite, mappingAt}
 use Rattle.manager.specs.Refusals.{isRight}
 use Rattle.manager.specs.Tables.{Tables, recordAt, protectionAt, tabulate}
-use Rattle.manager.specs.Theorems.{WellFormed}
+use Rattle.manager.specs.Theorems.{WellFormedTables}
 use Rattle.machine.specs.Call.{perform}
 use Rattle.machine.specs.State.{State, Call, single, mapAll, Answer}
 use Rattle.consistency.specs.Cacheless.{isRefused}
@@ -27,7 +27,7 @@ WriteIdle b t i =
     let m = mappingAt (t .list) i in (m .rights ≡ readWrite) × Idle (b .colours) (table.write (colourOf b (m .page))) (recordAt (t .records) (m .frame))
 
 pub record Protected (b : Board) (t : Tables) : Type 0 where
-  pub rules-kept : WellFormed b t
+  pub rules-kept : WellFormedTables b t
   pub agree : t .protections ≡ tabulate capacity (protectionAt b (t .list) (t .records))
   -- no access that may pass is stopped
   pub idle-read-passes : (i : ℕ) → i < t .list .count → ReadIdle b t i → 1 ≤ getD (t .protections) i 0

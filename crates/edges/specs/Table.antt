@@ -9,7 +9,7 @@ use Rattle.bits.specs.Mask.{digit}
 use Rattle.board.specs.Board.{board01, lineOf}
 use Rattle.page_model.specs.declared.Op.the-variants.{Flush, Purge}
 use Rattle.manager.specs.Tables.{tabulate}
-use Rattle.cache.specs.Tag.{frameOf, isDirty}
+use Rattle.cache.specs.Tag.{frameOf, isDirtyTag}
 use Rattle.machine.specs.Call.{perform}
 use Rattle.machine.specs.Step.{result}
 use Rattle.run_sheet.specs.Run.{sheetText}
@@ -69,7 +69,7 @@ table =
     -- 10. tag 65: 2; tag 64: clean, frame 63
     ∷ (answers (ask (tagged 65) (evict 1 ∷ [])) gives answers (refuses 2 ∷ []))
     ∷ (answers (ask (tagged 64) (map 0 0 63 1 ∷ read 0 0 0 ∷ [])) gives answers (done ∷ finds 63 77 ∷ []))
-    ∷ (numbers (frameOf 64 ∷ digit (isDirty 64) ∷ []) gives numbers (63 ∷ 0 ∷ []))
+    ∷ (numbers (frameOf 64 ∷ digit (isDirtyTag 64) ∷ []) gives numbers (63 ∷ 0 ∷ []))
     -- a word that is written lies in its line, whose tag is 129 + frame, and not in memory
     ∷ (numbers (getD (wroteOnce .store .tags) 0 0 ∷ getD (wroteOnce .store .words) 0 0 ∷ getD (wroteOnce .store .memory) 192 0 ∷ []) gives numbers (132 ∷ 17 ∷ 0 ∷ []))
     -- tags 128 and 193: 2; 129 and 192: dirty, frames 0 and 63, whose word an eviction brings to memory

@@ -12,7 +12,7 @@ use Rattle.manager.specs.Answers.{Outcome, refused, accepted, isRefusal, number
 use Rattle.manager.specs.Calls.{noOps}
 use Rattle.manager.specs.Refusals.{firstRefusal}
 use Rattle.manager.specs.Tables.{tabulate}
-use Rattle.machine.specs.Call.{afterItems, answerAt, callCauses, callBuffer, perform}
+use Rattle.machine.specs.Call.{afterItems, itemAnswer, callCauses, callBuffer, perform}
 use Rattle.machine.specs.Refusals.{causes}
 use Rattle.machine.specs.State.{State, Single, map, Call, single, mapAll, Result, lentBuffer}
 use Rattle.machine.specs.Parts.{Effect, steps, ends, nothing, effectOf, outcomeOf}
@@ -22,7 +22,7 @@ use Rattle.machine.specs.Step.{operate, carryOut, answer, result, accept
 abbrev pub acceptCall : Board → State → Call → Result
 acceptCall b st (single call) = accept b st call
 acceptCall b st (mapAll items answers) =
-    result (answer (accepted 0 noOps) none (tabulate (length items) (answerAt b st items))) (afterItems b st items (length items))
+    result (answer (accepted 0 noOps) none (tabulate (length items) (itemAnswer b st items))) (afterItems b st items (length items))
 
 -- ---- by its refusal
 

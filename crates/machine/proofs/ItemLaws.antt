@@ -17,12 +17,12 @@ use Rattle.manager.specs.Batch.{BatchResult, batchResult, itemAt, wholeResult}
 use Rattle.manager.specs.Calls.{noOps}
 use Rattle.manager.specs.Refusals.{_if_, firstRefusal, batchCause}
 use Rattle.manager.specs.Tables.{Tables, lengthsRight, rulesKept, tabulate}
-use Rattle.manager.specs.Theorems.{WellFormed}
+use Rattle.manager.specs.Theorems.{WellFormedTables}
 use Rattle.manager.proofs.CauseLaws.{cleared-in}
 use Rattle.manager.proofs.Singly.{refusalBy, takenBy, singly, lengths-refused, refusal-by}
 use Rattle.cache.specs.Store.{Store}
 use Rattle.cache.specs.Tag.{tagsKeepRules}
-use Rattle.machine.specs.Call.{mapOf, afterItems, answerAt, callCauses, perform}
+use Rattle.machine.specs.Call.{mapOf, afterItems, itemAnswer, callCauses, perform}
 use Rattle.machine.specs.Refusals.{storeLengths, lentCauses, causes}
 use Rattle.machine.specs.State.{State, state, single, mapAll, Result}
 use Rattle.machine.specs.Step.{answer, result, accept, step}
@@ -69,18 +69,18 @@ module _ (b : Board) (st : State) (items : List Mapping) where
       ap (λ (x : State). firstRefusal (causes b x (mapOf (itemAt items k)))) (items-state k)
       ∙ refusal-by (lentCauses b (state (tablesAt k) (st .store)) (mapOf zeroMapping)) b (tablesAt k .list) (itemAt items k) refl
 
-  items-answered : (k : ℕ) → answerAt b st items k ≡ refusalBy (lentBy (tablesAt k)) (mappingRefusal b (tablesAt k .list) (itemAt items k))
-  unfolding answerAt
+  items-answered : (k : ℕ) → itemAnswer b st items k ≡ refusalBy (lentBy (tablesAt k)) (mappingRefusal b (tablesAt k .list) (itemAt items k))
+  unfolding itemAnswer
   items-answered k = item-number b (afterItems b st items k) (itemAt items k) ∙ items-refusal k
 
-  items-next : (k : ℕ) → tablesAt (suc k) ≡ takenBy b (answerAt b st items k) (tablesAt k) (itemAt items k)
+  items-next : (k : ℕ) → tablesAt (suc k) ≡ takenBy b (itemAnswer b st items k) (tablesAt k) (itemAt items k)
   unfolding afterItems
   items-next k =
       item-tables b (afterItems b st items k) (itemAt items k)
       ∙ ap (λ (n : ℕ). takenBy b n (tablesAt k) (itemAt items k)) (items-refusal k ∙ sym (items-answered k))
 
   -- where what is lent is refused by nothing, the tables have their lengths and keep their rules, and any others that do are refused by nothing
-  lent-parts : (t : Tables) → lentBy t ≡ 0 → WellFormed b t × (storeLengths b (st .store) ≡ true) × (tagsKeepRules b (st .store .tags) ≡ true)
+  lent-parts : (t : Tables) → lentBy t ≡ 0 → WellFormedTables b t × (storeLengths b (st .store) ≡ true) × (tagsKeepRules b (st .store .tags) ≡ true)
   unfolding lentCauses
   lent-parts t e =
       let cs = lentCauses b (state t (st .store)) (mapOf zeroMapping) in
@@ -91,7 +91,7 @@ module _ (b : Board) (st : State) (items : List Mapping) where
         and-right (rulesKept b t) _ rules,
       )
 
-  lent-again : (t u : Tables) → lentBy t ≡ 0 → WellFormed b u → lentBy u ≡ 0
+  lent-again : (t u : Tables) → lentBy t ≡ 0 → WellFormedTables b u → lentBy u ≡ 0
   unfolding lentCauses firstRefusal
   lent-again t u e w = let p = lent-parts t e in rw (w .0, w .1, p .1, p .2)
 
@@ -103,10 +103,10 @@ beside s r = result (answer (r .answer) none (r .answers)) (state (r .after) s)
 
 module _ (b : Board) (st : State) (items : List Mapping) (answers : List ℕ) where
   listed-items : listedAll b (lentBy b st items (st .tables)) (st .tables) items
-      ≡ batchResult (accepted 0 noOps) (tabulate (length items) (answerAt b st items)) (afterItems b st items (length items) .tables)
+      ≡ batchResult (accepted 0 noOps) (tabulate (length items) (itemAnswer b st items)) (afterItems b st items (length items) .tables)
   unfolding afterItems
   listed-items =
-      singly b (lentBy b st items) items (tablesAt b st items) (answerAt b st items) (items-answered b st items) (items-next b st items)
+      singly b (lentBy b st items) items (tablesAt b st items) (itemAnswer b st items) (items-answered b st items) (items-next b st items)
       (λ t e. lent-parts b st items t e .0) (lent-again b st items)
 
   pub map-all-performed : beside (st .store) (batchMade b (lentBy b st items (st .tables)) (st .tables) items answers) ≡ perform b st (mapAll items answers)
@@ -125,7 +125,7 @@ module _ (b : Board) (st : State) (items : List Mapping) (answers : List ℕ) wh
 
       go : (n : ℕ) → beside (st .store) (wholeResult n answers (st .tables) all)
           ≡ (elim n as (λ x. Result) [
-            | zero ↦ result (answer (accepted 0 noOps) none (tabulate (length items) (answerAt b st items))) (afterItems b st items (length items))
+            | zero ↦ result (answer (accepted 0 noOps) none (tabulate (length items) (itemAnswer b st items))) (afterItems b st items (length items))
             | suc n ↦ result (answer (refused (suc n)) none answers) st
           ])
       go zero = ap (beside (st .store)) listed-items ∙ ap (result _) (sym (items-state b st items (length items)))

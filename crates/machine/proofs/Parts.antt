@@ -14,7 +14,7 @@ use Rattle.machine.specs.Refusals.{lentCauses, ownCauses, causes}
 use Rattle.machine.specs.State.{State, deviceWrite, deviceWritePart, Result}
 use Rattle.machine.specs.Step.{answer, result, accept, step}
 use Rattle.machine.specs.Theorems.{WholePart}
-use Rattle.machine.proofs.StepLaws.{stepped}
+use Rattle.machine.proofs.StepLaws.{steppedCall}
 
 module _ (b : Board) (some : 0 < b .page) (st : State) (frame : ℕ) (buffer : List ℕ) where
   pub whole-refusal : firstRefusal (causes b st (deviceWritePart frame 0 (b .page) buffer)) ≡ firstRefusal (causes b st (deviceWrite frame buffer))
@@ -24,7 +24,7 @@ module _ (b : Board) (some : 0 < b .page) (st : State) (frame : ℕ) (buffer : L
   pub whole-accept : accept b st (deviceWritePart frame 0 (b .page) buffer) ≡ accept b st (deviceWrite frame buffer)
   unfolding accept
   whole-accept =
-      ap (λ (s : Step). stepped b st (changeOf b (st .tables) frame s) (λ x. none) (λ x. []) (hardware.deviceWrite b frame 0 buffer)) (whole-step b some)
+      ap (λ (s : Step). steppedCall b st (changeOf b (st .tables) frame s) (λ x. none) (λ x. []) (hardware.deviceWrite b frame 0 buffer)) (whole-step b some)
 
 pub whole-part : WholePart
 unfolding step

@@ -34,7 +34,7 @@ use Rattle.machine.specs.Ready.{OperationsReady, AccessReady, TransferRe
 use Rattle.machine.specs.Refusals.{storeLengths, bufferRight, causes}
 use Rattle.machine.specs.State.{State, state, Single, map, unmap, read, write, deviceRead, deviceWrite, deviceWritePart, evict, beginRead, beginWrite, bringWord, takeWord, endTransfer, Result, lentBuffer}
 use Rattle.machine.specs.Parts.{Effect, steps, ends, nothing, effectOf, outcomeOf, Access, accessed, accessOf}
-use Rattle.machine.specs.Step.{operate, carryOut, answer, result, tablesAfter, accept, step}
+use Rattle.machine.specs.Step.{operate, carryOut, answer, result, tablesLeft, accept, step}
 use Rattle.machine.specs.Plans.{planStep, planPlace, refusalOf, placeRefusal}
 use Rattle.machine.proofs.StoreLaws.{well-formed}
 
@@ -219,8 +219,8 @@ module _ (b : Board) (st : State) (frame first number : ℕ) (buffer : List ℕ)
 -- ---- what a call answers and leaves, by the parts of its answer and of what is left
 
 -- a step of a frame's record: the tables are the manager's, and the access is made in the store after the orders
-abbrev pub stepped : Board → State → Change → (Store → Option ℕ) → (Store → List ℕ) → (Store → Store) → Result
-stepped b st change word buffer access =
+abbrev pub steppedCall : Board → State → Change → (Store → Option ℕ) → (Store → List ℕ) → (Store → Store) → Result
+steppedCall b st change word buffer access =
     let o : Outcome = accepted (change .frame) (change .ops) in
     let s : Store = carryOut b o (st .store) in
     result (answer o (word s) (buffer s)) (state (commitChange b (st .tables) (change .frame) (change .next)) (access s))
@@ -243,7 +243,7 @@ module _ (b : Board) (st : State) (call : Single) where
   -- the plan was a change, of a call that is a step of a frame's record
   pub stepped-made : (change : Change) {told : Change} → planStep b st call change ≡ step-plan.Step told
       → (word : ℕ → Store → Option ℕ) (buffer : ℕ → Store → List ℕ) (access : ℕ → Store → Store)
-      → accept b st call ≡ stepped b st change (word (change .frame)) (buffer (change .frame)) (access (change .frame))
+      → accept b st call ≡ steppedCall b st change (word (change .frame)) (buffer (change .frame)) (access (change .frame))
       → {w : Option ℕ} {l : List ℕ} {t : Tables} {s : Store}
       → w ≡ word (told .frame) (afterOps b st told)
       → l ≡ buffer (told .frame) (afterOps b st told)
@@ -253,14 +253,14 @@ module _ (b : Board) (st : State) (call : Single) where
   stepped-made change {told} p word buffer access a ew el et es =
       let q = planned-step _ change told p in
       made refl ew el et es
-      ∙ ap (λ (m : Change). stepped b st m (word (m .frame)) (buffer (m .frame)) (access (m .frame))) (sym (q .1))
+      ∙ ap (λ (m : Change). steppedCall b st m (word (m .frame)) (buffer (m .frame)) (access (m .frame))) (sym (q .1))
       ∙ sym a
       ∙ step-accepted b st call (q .0)
 
   -- and makes an access through a page's colour
   pub access-made : (change : Change) {told : Change} → planStep b st call change ≡ step-plan.Step told
       → (colour : ℕ) (word : ℕ → ℕ → Store → Option ℕ) (access : ℕ → ℕ → Store → Store)
-      → accept b st call ≡ stepped b st change (word (change .frame) colour) (λ s. []) (access (change .frame) colour)
+      → accept b st call ≡ steppedCall b st change (word (change .frame) colour) (λ s. []) (access (change .frame) colour)
       → {k : ℕ} {w : Option ℕ} {t : Tables} {s : Store}
       → k ≡ colour
       → w ≡ word (told .frame) k (afterOps b st told)
@@ -286,7 +286,7 @@ module _ (b : Board) (st : State) (call : Single) where
       → o ≡ accepted 0 noOps
       → w ≡ accessOf b st call (st .store) .word
       → l ≡ accessOf b st call (st .store) .buffer
-      → t ≡ tablesAfter b st call
+      → t ≡ tablesLeft b st call
       → s ≡ accessOf b st call (st .store) .store
       → result (answer o w l) (state t s) ≡ step b st call
   unfolding accept carryOut operate
@@ -295,11 +295,11 @@ module _ (b : Board) (st : State) (call : Single) where
       taken : Outcome → Result
       taken o =
           let a : Access = accessOf b st call (carryOut b o (st .store)) in
-          result (answer o (a .word) (a .buffer)) (state (tablesAfter b st call) (a .store))
+          result (answer o (a .word) (a .buffer)) (state (tablesLeft b st call) (a .store))
 
   -- the plan of the list was a place, at which the tables change
   pub placed-made : (place : ℕ) {told : ℕ} → planPlace b st call place ≡ list-plan.Place told
-      → (commit : ℕ → Tables) → commit place ≡ tablesAfter b st call
+      → (commit : ℕ → Tables) → commit place ≡ tablesLeft b st call
       → outcomeOf b (st .tables .records) (effectOf b st call) ≡ accepted 0 noOps → accessOf b st call (st .store) ≡ accessed none [] (st .store)
       → {o : Outcome} {l l′ : MappingList} {records protections : List ℕ} → o ≡ accepted 0 noOps → l ≡ l′ → tables l′ records protections ≡ commit told
       → result (answer o none []) (state (tables l records protections) (st .store)) ≡ step b st call

@@ -27,9 +27,9 @@ afterItems b st items zero = st
 afterItems b st items (suc k) = step b (afterItems b st items k) (mapOf (itemAt items k)) .after
 
 -- answer k: 0, or the number of item k's refusal
-unfoldable pub answerAt : Board → State → List Mapping → ℕ → ℕ
+unfoldable pub itemAnswer : Board → State → List Mapping → ℕ → ℕ
 unfolding afterItems
-answerAt b st items k = numberOf (step b (afterItems b st items k) (mapOf (itemAt items k)) .answer .outcome)
+itemAnswer b st items k = numberOf (step b (afterItems b st items k) (mapOf (itemAt items k)) .answer .outcome)
 
 -- ---- a call
 
@@ -47,10 +47,10 @@ callBuffer (single call) = lentBuffer call
 callBuffer (mapAll items answers) = answers
 
 unfoldable pub perform : Board → State → Call → Result
-unfolding answerAt callCauses
+unfolding itemAnswer callCauses
 perform b st (single call) = step b st call
 perform b st (mapAll items answers) =
     elim (firstRefusal (callCauses b st (mapAll items answers))) [
-      | zero ↦ result (answer (accepted 0 noOps) none (tabulate (length items) (answerAt b st items))) (afterItems b st items (length items))
+      | zero ↦ result (answer (accepted 0 noOps) none (tabulate (length items) (itemAnswer b st items))) (afterItems b st items (length items))
       | suc n ↦ result (answer (refused (suc n)) none answers) st
     ]

@@ -36,15 +36,15 @@ result a st = record { answer = a; after = st }
 
 -- ---- an accepted call: its orders, the tables after it with their protections filled, and its access in the store that the orders leave
 
-abbrev pub tablesAfter : Board → State → Single → Tables
-tablesAfter b st call =
+abbrev pub tablesLeft : Board → State → Single → Tables
+tablesLeft b st call =
     refill b (tables (listAfter (st .tables .list) call) (recordsAfter b (st .tables .records) (effectOf b st call)) (st .tables .protections))
 
 unfoldable pub accept : Board → State → Single → Result
 accept b st call =
     let o : Outcome = outcomeOf b (st .tables .records) (effectOf b st call) in
     let a : Access = accessOf b st call (carryOut b o (st .store)) in
-    result (answer o (a .word) (a .buffer)) (state (tablesAfter b st call) (a .store))
+    result (answer o (a .word) (a .buffer)) (state (tablesLeft b st call) (a .store))
 
 -- ---- a single call
 

@@ -22,7 +22,7 @@ use Rattle.mapping.proofs.Tests.{or-either}
 use Rattle.manager.specs.Refusals.{firstRefusal, tableCauses, mapCauses, mappingCauses}
 use Rattle.manager.specs.Inserted.{mappingRefusal}
 use Rattle.manager.specs.Tables.{Tables, recordWords, recordsKeepRules, lengthsRight, rulesKept}
-use Rattle.manager.specs.Theorems.{WellFormed}
+use Rattle.manager.specs.Theorems.{WellFormedTables}
 use Rattle.manager.proofs.CauseLaws.{list-rules, cleared-in, refusal-rest}
 
 -- ---- the tables' lengths and rules, part by part
@@ -70,7 +70,7 @@ mapping-accepted b l m e =
     )
 
 pub map-accepted : (b : Board) (t : Tables) (m : Mapping) → firstRefusal (mapCauses b t (m .space) (m .page) (m .frame) (m .rights)) ≡ 0
-    → WellFormed b t × InRange b m × (lookup (t .list) (m .space) (m .page) ≡ Nothing) × (t .list .count < capacity)
+    → WellFormedTables b t × InRange b m × (lookup (t .list) (m .space) (m .page) ≡ Nothing) × (t .list .count < capacity)
 unfolding firstRefusal mapCauses mappingRefusal tableCauses
 map-accepted b t m e =
     let cs = mapCauses b t (m .space) (m .page) (m .frame) (m .rights) in

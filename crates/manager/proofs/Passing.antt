@@ -17,7 +17,7 @@ use Rattle.mapping.specs.Entry.{readOnly, readWrite, mappingAt}
 use Rattle.mapping.specs.Facts.{InRange}
 use Rattle.manager.specs.Refusals.{isRight}
 use Rattle.manager.specs.Tables.{Tables, recordAt, protection, mappingState, protectionAt}
-use Rattle.manager.specs.Theorems.{WellFormed, ReadProtection, WriteProtection}
+use Rattle.manager.specs.Theorems.{WellFormedTables, ReadProtection, WriteProtection}
 use Rattle.manager.proofs.CauseLaws.{list-rules, record-rules}
 
 -- ---- what a protection lets pass, by the state of the colour
@@ -47,7 +47,7 @@ write-allowed stale rights = (λ h. absurd (omega arith), λ e. absurd (false≢
 
 -- ---- a listed mapping
 
-module _ (b : Board) (t : Tables) (i : ℕ) (reg : Regular b) (w : WellFormed b t) (listed : i < t .list .count) where
+module _ (b : Board) (t : Tables) (i : ℕ) (reg : Regular b) (w : WellFormedTables b t) (listed : i < t .list .count) where
   range : InRange b (mappingAt (t .list) i)
   range = list-rules b t (w .1) .in-range i listed
 

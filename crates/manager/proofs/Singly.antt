@@ -19,7 +19,7 @@ use Rattle.manager.specs.Batch.{itemAt, BatchResult, batchResult, wholeR
 use Rattle.manager.specs.Calls.{noOps, commitMap, placed, listResult}
 use Rattle.manager.specs.Refusals.{Cause, _if_, firstRefusal, tableCauses, mapCauses, mappingCauses, batchCause}
 use Rattle.manager.specs.Tables.{Tables, tables, lengthsRight, rulesKept, protectionAt, tabulate, refill}
-use Rattle.manager.specs.Theorems.{WellFormed}
+use Rattle.manager.specs.Theorems.{WellFormedTables}
 use Rattle.manager.proofs.AcceptedLaws.{lengths-known, map-accepted}
 use Rattle.manager.proofs.BatchLaws.{relisted-same, relisted-more}
 use Rattle.manager.proofs.CauseLaws.{list-rules, tables-clear, numbered, refusal-prefix, refusal-rest}
@@ -65,12 +65,12 @@ module _ (b : Board) (t : Tables) (l : MappingList) where
       go false = length-tabulate _ _
 
 -- what a mapping that the list does not refuse leaves, where the tables keep their rules
-module _ (b : Board) (t : Tables) (w : WellFormed b t) (m : Mapping) (e : mappingRefusal b (t .list) m ≡ 0) where
+module _ (b : Board) (t : Tables) (w : WellFormedTables b t) (m : Mapping) (e : mappingRefusal b (t .list) m ≡ 0) where
   unrefused : firstRefusal (mapCauses b t (m .space) (m .page) (m .frame) (m .rights)) ≡ 0
   unfolding mapCauses mappingRefusal firstRefusal
   unrefused = rw (w .0, w .1) e
 
-  pub one-keeps : WellFormed b (commitMap b t (placeFor (t .list) (m .space) (m .page)) m)
+  pub one-keeps : WellFormedTables b (commitMap b t (placeFor (t .list) (m .space) (m .page)) m)
   one-keeps = let a = map-accepted b t m unrefused in map-keeps b t w m (a .1) (a .2) (a .3)
 
   pub one-count : insert (t .list) m .count ≡ suc (t .list .count)
@@ -99,7 +99,7 @@ module _ (b : Board) (lent : Tables → ℕ) (items : List Mapping) (after : ℕ
     broken-answer k = answer-by k (broken-after k)
 
   -- where there is none, the items are listed
-  module _ (kept : (t : Tables) → lent t ≡ 0 → WellFormed b t) (again : (t u : Tables) → lent t ≡ 0 → WellFormed b u → lent u ≡ 0) where
+  module _ (kept : (t : Tables) → lent t ≡ 0 → WellFormedTables b t) (again : (t u : Tables) → lent t ≡ 0 → WellFormedTables b u → lent u ≡ 0) where
     module _ (clear : lent (after 0) ≡ 0) where
       -- after k items
       pub record Listed (k : ℕ) : Type 0 where
@@ -145,7 +145,7 @@ module _ (b : Board) (lent : Tables → ℕ) (items : List Mapping) (after : ℕ
                   ∙ (λ i. tables (insert (list-is i) item) (records-are i) (tabulate (protections-long i) (protectionAt b (insert (list-is i) item) (records-are i))))
                   ∙ relisted-more b (after 0) (insert list item) (λ z. omega arith) refl
                   ∙ ap (relisted b (after 0)) list-next;
-              still-clear = again (after k) (after (suc k)) (h .still-clear) (subst⁻¹ (WellFormed b) taken (one-keeps b (after k) w item free));
+              still-clear = again (after k) (after (suc k)) (h .still-clear) (subst⁻¹ (WellFormedTables b) taken (one-keeps b (after k) w item free));
               no-fewer = subst (λ (l : MappingList). after 0 .list .count ≤ l .count) list-next (omega arith);
             }
         more (suc n) e =
@@ -195,7 +195,7 @@ refusal-by cs b l m numbers = go (mappingCauses b l (m .space) (m .page) (m .fra
     go own (suc n) e = sym (refusal-prefix cs own (λ z. omega arith)) ∙ e
 
 -- tables that have their lengths and keep their rules give none
-well-clear : (b : Board) (t : Tables) → WellFormed b t → firstRefusal (tableCauses b t) ≡ 0
+well-clear : (b : Board) (t : Tables) → WellFormedTables b t → firstRefusal (tableCauses b t) ≡ 0
 unfolding firstRefusal tableCauses
 well-clear b t w = rw (w .0, w .1)
 

@@ -16,8 +16,8 @@ use Rattle.manager.specs.Refusals.{Cause, _if_, firstRefusal, refusalPla
 -- ---- the tables' rules
 
 -- the tables have their lengths and keep their rules
-abbrev pub WellFormed : Board → Tables → Type 0
-WellFormed b t = (lengthsRight b t ≡ true) × (rulesKept b t ≡ true)
+abbrev pub WellFormedTables : Board → Tables → Type 0
+WellFormedTables b t = (lengthsRight b t ≡ true) × (rulesKept b t ≡ true)
 
 -- ---- the start
 
@@ -46,14 +46,14 @@ FirstRefusal =
 -- bars none of these (`IdleNotBarred`)
 abbrev pub ReadProtection : Type 0
 ReadProtection =
-    (b : Board) (t : Tables) (i : ℕ) → Regular b → WellFormed b t → i < t .list .count
+    (b : Board) (t : Tables) (i : ℕ) → Regular b → WellFormedTables b t → i < t .list .count
     → let m = mappingAt (t .list) i in
     (1 ≤ protectionAt b (t .list) (t .records) i)
     ↔ ((isRight (m .rights) ≡ true) × Idle (b .colours) (step.read (colourOf b (m .page))) (recordAt (t .records) (m .frame)))
 
 abbrev pub WriteProtection : Type 0
 WriteProtection =
-    (b : Board) (t : Tables) (i : ℕ) → Regular b → WellFormed b t → i < t .list .count
+    (b : Board) (t : Tables) (i : ℕ) → Regular b → WellFormedTables b t → i < t .list .count
     → let m = mappingAt (t .list) i in
     (2 ≤ protectionAt b (t .list) (t .records) i)
     ↔ ((m .rights ≡ readWrite) × Idle (b .colours) (step.write (colourOf b (m .page))) (recordAt (t .records) (m .frame)))

@@ -6,7 +6,7 @@ use Rattle.board.specs.Board.{Regular, board01}
 use Rattle.board.proofs.Geometry.{board01-regular}
 use Rattle.machine.specs.Call.{perform}
 use Rattle.machine.specs.State.{State}
-use Rattle.consistency.specs.Cacheless.{Cacheless, start, fed}
+use Rattle.consistency.specs.Cacheless.{Cacheless, startCacheless, fed}
 use Rattle.consistency.specs.Demand3.{startState}
 use Rattle.consistency.proofs.Evicted.{all-evicted}
 use Rattle.consistency.proofs.Invariant.{Invariant}
@@ -46,8 +46,8 @@ module _ (b : Board) (reg : Regular b) where
       let st = startState b memory cache protections in
       let inv = start-invariant b reg memory cache protections full wide long in
       record {
-        finds = all-find st (start b memory) inv acts;
-        evicted = all-evicted b reg (cachelessAfter b st (start b memory) acts) (stateAfter b st acts) (invariant-after st (start b memory) inv acts);
+        finds = all-find st (startCacheless b memory) inv acts;
+        evicted = all-evicted b reg (cachelessAfter b st (startCacheless b memory) acts) (stateAfter b st acts) (invariant-after st (startCacheless b memory) inv acts);
       }
 
 pub every-board : EveryBoard

@@ -13,5 +13,5 @@ one-zero : _≡_ {A = Option ℕ} (some 1) (some 0) → ⊥
 one-zero e = let z : _≡_ {A = ℕ} 1 0 = cc in omega arith
 
 pub look-rows : LookRows
-unfolding opened position-hold.look fix.judged cacheless.start cacheless.afterAccepted
+unfolding opened position-hold.look fix.judged cacheless.startCacheless cacheless.afterAccepted
 look-rows = (refl, refl, refl, refl, refl, refl, (refl, refl, refl), (λ h. one-zero (h .finds .1 .0 3 (omega arith)), λ h. one-zero (sym (h .finds .1 .1 .0 refl))))

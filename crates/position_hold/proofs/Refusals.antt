@@ -13,7 +13,7 @@ use Rattle.page_model.specs.Table as table
 use Rattle.mapping.specs.declared.MappingList.{MappingList}
 use Rattle.mapping.specs.Lookup.{listedMapping}
 use Rattle.manager.specs.Refusals.{firstRefusal, spaceCause, unmappedCause, busyCause}
-use Rattle.manager.specs.Theorems.{WellFormed}
+use Rattle.manager.specs.Theorems.{WellFormedTables}
 use Rattle.cache.specs.Store as hardware
 use Rattle.machine.specs.Call.{callCauses}
 use Rattle.machine.specs.Refusals.{pageBusy, causes}
@@ -36,7 +36,7 @@ words-stopped e = let z : _≡_ {A = ℕ} 0 1 = cc in omega arith
 module _ (b : Board) (reg : Regular b) (space page : ℕ) where
   -- what a read of the page is lent where it is not refused, but by its offset
   record Ready (st : State) : Type 0 where
-    pub tables-kept : WellFormed b (st .tables)
+    pub tables-kept : WellFormedTables b (st .tables)
     pub store-kept : hardware.WellFormed b (st .store)
     pub in-space : spaceCause space page .applies ≡ false
     pub mapped : unmappedCause (st .tables .list) space page .applies ≡ false

@@ -12,7 +12,7 @@ use Rattle.board.proofs.Geometry.{board01-regular}
 use Rattle.mapping.specs.Entry.{capacity}
 use Rattle.machine.specs.Call.{perform}
 use Rattle.machine.specs.State.{State, pageFrame, Single}
-use Rattle.consistency.specs.Cacheless.{Cacheless, start, fed}
+use Rattle.consistency.specs.Cacheless.{Cacheless, startCacheless, fed}
 use Rattle.consistency.specs.Demand3.{startState, pageWord}
 use Rattle.consistency.proofs.Invariant.{Invariant}
 use Rattle.consistency.proofs.Start.{start-invariant}
@@ -59,13 +59,13 @@ module _ (b : Board) (reg : Regular b) where
     calls = acceptedIn b begun acts []
 
     abbrev without-cache : Cacheless
-    without-cache = cachelessAfter b begun (start b memory) acts
+    without-cache = cachelessAfter b begun (startCacheless b memory) acts
 
     invariant-now : Invariant b now without-cache
-    invariant-now = invariant-after b reg begun (start b memory) (start-invariant b reg memory cache protections full wide long) acts
+    invariant-now = invariant-after b reg begun (startCacheless b memory) (start-invariant b reg memory cache protections full wide long) acts
 
     told-now : Told without-cache calls
-    told-now = told-after b begun (start b memory) [] (told-start b memory) acts
+    told-now = told-after b begun (startCacheless b memory) [] (told-start b memory) acts
 
     -- the frame to which the accepted calls have last mapped a page is the lent list's
     pub mapped-lent : (space page frame : ℕ) → mappedFrame calls space page ≡ some frame → pageFrame now space page ≡ frame

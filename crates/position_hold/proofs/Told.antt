@@ -13,7 +13,7 @@ use Rattle.mapping.specs.declared.Mapping.{Mapping}
 use Rattle.manager.specs.Batch.{itemAt}
 use Rattle.machine.specs.Call.{mapOf}
 use Rattle.machine.specs.State.{Single, map, unmap, read, write, deviceRead, deviceWrite, deviceWritePart, evict, beginRead, beginWrite, bringWord, takeWord, endTransfer, Call, single, mapAll, Answer}
-use Rattle.consistency.specs.Cacheless.{Cacheless, start, stored, afterAccepted, afterSingle, itemsTaken, isRefused, itemRefused, fed}
+use Rattle.consistency.specs.Cacheless.{Cacheless, startCacheless, stored, afterAccepted, afterSingle, itemsTaken, isRefused, itemRefused, fed}
 use Rattle.position_hold.specs.Sent.{mappedFrame, isFrame, WordEffect, sends, overwrites, leaves, sentAfter, lastSent, LeftBy, SentBy, itemsAnd, acceptedAnd}
 
 pub record Told (m : Cacheless) (calls : List Single) : Type 0 where
@@ -24,8 +24,8 @@ pub no-word : {w : ℕ} → _≡_ {A = Option ℕ} none (some w) → ⊥
 no-word e = let z : _≡_ {A = ℕ} 0 1 = cc in omega arith
 
 -- nothing has been sent at the start, and nothing is mapped
-pub told-start : (b : Board) (memory : List ℕ) → Told (start b memory) []
-unfolding start
+pub told-start : (b : Board) (memory : List ℕ) → Told (startCacheless b memory) []
+unfolding startCacheless
 told-start b memory = record { words-told = λ f o w e. absurd (no-word e); frames-told = λ space page. refl }
 
 -- ---- calls one after the other

@@ -10,7 +10,7 @@ use Rattle.board.specs.Board.{Regular, board01, memoryWords, cacheWords, lines}
 use Rattle.mapping.specs.Entry.{capacity}
 use Rattle.machine.specs.Call.{perform}
 use Rattle.machine.specs.State.{State}
-use Rattle.consistency.specs.Cacheless.{Cacheless, start, isRefused, fed}
+use Rattle.consistency.specs.Cacheless.{Cacheless, startCacheless, isRefused, fed}
 use Rattle.consistency.specs.Demand3 as of-calls
 use Rattle.consistency.specs.Demand3.{startState, pageWord, Finds, evictions, Occurs, NoneRefused, MemoryIs}
 use Rattle.position_hold.specs.Look as position-hold
@@ -46,7 +46,7 @@ pub record Holds (b : Board) (st : State) (m : Cacheless) (acts : List Act) : Ty
 abbrev pub Demand3 : Board → Type 0
 Demand3 b =
     (memory cache protections : List ℕ) (acts : List Act) → length memory ≡ memoryWords b → length cache ≡ cacheWords b → length protections ≡ capacity
-    → Holds b (startState b memory cache protections) (start b memory) acts
+    → Holds b (startState b memory cache protections) (startCacheless b memory) acts
 
 -- ---- of every regular board, and so of document 01's
 

@@ -19,8 +19,8 @@ use Rattle.position_hold.specs.Theorems.{Act, call, look, displays, with
 abbrev pub fourFrames : Board
 fourFrames = record { page = board01 .page; line = board01 .line; colours = board01 .colours; frames = 4 }
 
-abbrev pub start : State
-start = startState fourFrames (replicate (memoryWords fourFrames) 0) (replicate (cacheWords fourFrames) 0) (replicate capacity 0)
+abbrev pub fourFramesStart : State
+fourFramesStart = startState fourFrames (replicate (memoryWords fourFrames) 0) (replicate (cacheWords fourFrames) 0) (replicate capacity 0)
 
 -- a turn of a run: calls, then a look through the chart's page at a clock, with a hold, and what it displays
 pub record Turn : Type 0 where
@@ -39,7 +39,7 @@ shownIn (t ∷ turns) = t .shown ∷ shownIn turns
 
 -- after the page is mapped
 abbrev pub Run : List Turn → Type 0
-Run turns = displays fourFrames start (chart ∷ actsOf turns) ≡ shownIn turns
+Run turns = displays fourFrames fourFramesStart (chart ∷ actsOf turns) ≡ shownIn turns
 
 -- ---- the turns
 
@@ -107,7 +107,7 @@ busy =
 
 -- no page mapped: the hold is tested first, and a read's refusal is handed on
 abbrev pub Unmapped : Type 0
-Unmapped = displays fourFrames start (look 0 0 1000 1 ∷ look 0 0 1000 2 ∷ []) ≡ refused 14 ∷ refused 8 ∷ []
+Unmapped = displays fourFrames fourFramesStart (look 0 0 1000 1 ∷ look 0 0 1000 2 ∷ []) ≡ refused 14 ∷ refused 8 ∷ []
 
 -- ---- the same acts with other holds, and the code's answers, a position's latitude first
 

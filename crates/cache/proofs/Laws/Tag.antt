@@ -11,7 +11,7 @@ use lib.ListN.{length, getD, set}
 use borrow.Author.Tests.{le-leb, lt-leb, leb-true, eq-eqb, ne-eqb, eqb-true, lt-ltb, le-ltb, ltb-true}
 use Rattle.board.specs.declared.Board.{Board}
 use Rattle.board.specs.Board.{Regular}
-use Rattle.cache.specs.Tag.{emptyTag, cleanTag, dirtyTag, isDirty, names, frameOf, tagKeepsRules, tagsKeepRules}
+use Rattle.cache.specs.Tag.{emptyTag, cleanTag, dirtyTag, isDirtyTag, names, frameOf, tagKeepsRules, tagsKeepRules}
 
 and-left : (a b : Bool) → (a && b) ≡ true → a ≡ true
 and-left true b e = refl
@@ -33,17 +33,17 @@ ltb-iff m n k l p q = go (decLt m n) (decLt k l)
 
 -- ---- what a tag says
 
-pub isDirty-dirty : (f : ℕ) → isDirty (dirtyTag f) ≡ true
-unfolding isDirty
-isDirty-dirty f = le-leb 129 (129 + f) (omega arith)
+pub isDirtyTag-dirty : (f : ℕ) → isDirtyTag (dirtyTag f) ≡ true
+unfolding isDirtyTag
+isDirtyTag-dirty f = le-leb 129 (129 + f) (omega arith)
 
 pub frameOf-dirty : (f : ℕ) → frameOf (dirtyTag f) ≡ f
 unfolding frameOf
-frameOf-dirty f = rw (isDirty-dirty f) (omega arith)
+frameOf-dirty f = rw (isDirtyTag-dirty f) (omega arith)
 
 -- a dirty tag is that of its frame
-pub dirty-frame : (tag : ℕ) → isDirty tag ≡ true → tag ≡ dirtyTag (frameOf tag)
-unfolding isDirty frameOf
+pub dirty-frame : (tag : ℕ) → isDirtyTag tag ≡ true → tag ≡ dirtyTag (frameOf tag)
+unfolding isDirtyTag frameOf
 dirty-frame tag e = let h = leb-true 129 tag e in rw e (omega arith)
 
 pub names-clean : (f : ℕ) → names (cleanTag f) f ≡ true
@@ -71,9 +71,9 @@ names-cases tag f e = go (eqb tag (1 + f)) refl
     go false h = inr (eqb-true tag (129 + f) (rw h at e))
 
 module _ (b : Board) (reg : Regular b) where
-  pub isDirty-clean : (f : ℕ) → f < b .frames → isDirty (cleanTag f) ≡ false
-  unfolding isDirty
-  isDirty-clean f h = let few = reg .few-frames in lt-leb 129 (1 + f) (omega arith)
+  pub isDirtyTag-clean : (f : ℕ) → f < b .frames → isDirtyTag (cleanTag f) ≡ false
+  unfolding isDirtyTag
+  isDirtyTag-clean f h = let few = reg .few-frames in lt-leb 129 (1 + f) (omega arith)
 
   -- a tag names one frame of the board
   pub names-one : (tag f g : ℕ) → f < b .frames → g < b .frames → names tag f ≡ true → names tag g ≡ true → f ≡ g
@@ -93,15 +93,15 @@ module _ (b : Board) (reg : Regular b) where
 
   pub rules-clean : (f : ℕ) → f < b .frames → tagKeepsRules b (cleanTag f) ≡ true
   unfolding tagKeepsRules
-  rules-clean f h = rw (isDirty-clean f h, lt-ltb (1 + f - 1) (b .frames) (omega arith), or-true)
+  rules-clean f h = rw (isDirtyTag-clean f h, lt-ltb (1 + f - 1) (b .frames) (omega arith), or-true)
 
   pub rules-dirty : (f : ℕ) → f < b .frames → tagKeepsRules b (dirtyTag f) ≡ true
   unfolding tagKeepsRules
-  rules-dirty f h = rw (isDirty-dirty f, lt-ltb (129 + f - 129) (b .frames) (omega arith), or-true)
+  rules-dirty f h = rw (isDirtyTag-dirty f, lt-ltb (129 + f - 129) (b .frames) (omega arith), or-true)
 
   -- a dirty tag that keeps the rules names a frame of the board
-  pub rules-frame : (tag : ℕ) → tagKeepsRules b tag ≡ true → isDirty tag ≡ true → frameOf tag < b .frames
-  unfolding tagKeepsRules isDirty
+  pub rules-frame : (tag : ℕ) → tagKeepsRules b tag ≡ true → isDirtyTag tag ≡ true → frameOf tag < b .frames
+  unfolding tagKeepsRules isDirtyTag
   rules-frame tag e d =
       let h = leb-true 129 tag d in
       ltb-true (frameOf tag) (b .frames) (rw (ne-eqb tag 0 (omega arith)) at e)
@@ -142,13 +142,13 @@ module _ (b : Board) (reg : Regular b) where
       go true h = absurd (true≢false (sym (rules-at tags n h) ∙ e))
 
   -- the rule of a tag as one comparison
-  pub rules-below : (tag : ℕ) → isDirty tag ≡ false → tagKeepsRules b tag ≡ ltb tag (cleanTag (b .frames))
+  pub rules-below : (tag : ℕ) → isDirtyTag tag ≡ false → tagKeepsRules b tag ≡ ltb tag (cleanTag (b .frames))
   unfolding tagKeepsRules
   rules-below zero e = sym (lt-ltb 0 (1 + b .frames) (omega arith))
   rules-below (suc t) e = rw (ne-eqb (suc t) 0 (omega arith), e) (ltb-iff (suc t - 1) (b .frames) (suc t) (1 + b .frames) (λ l. omega arith) (λ l. omega arith))
 
-  pub rules-above : (tag : ℕ) → isDirty tag ≡ true → tagKeepsRules b tag ≡ ltb tag (dirtyTag (b .frames))
-  unfolding tagKeepsRules isDirty
+  pub rules-above : (tag : ℕ) → isDirtyTag tag ≡ true → tagKeepsRules b tag ≡ ltb tag (dirtyTag (b .frames))
+  unfolding tagKeepsRules isDirtyTag
   rules-above tag e =
       let h = leb-true 129 tag e in
       rw (ne-eqb tag 0 (omega arith), e) (ltb-iff (tag - 129) (b .frames) tag (129 + b .frames) (λ l. omega arith) (λ l. omega arith))

@@ -9,10 +9,10 @@ use Rattle.board.specs.declared.Board.{Board}
 use Rattle.board.specs.Board.{Regular, lines, lineOf, lineAt, cacheAt, lineColour, lineOffset, memoryAt}
 use Rattle.board.proofs.Geometry.{lineAt-end, lineOf-offset, memoryAt-line, memoryAt-line-end, memoryAt-within-frame, memoryAt-within-line}
 use Rattle.cache.specs.Store.{Store, WellFormed, tagAt, wordAt, memoryWord, when}
-use Rattle.cache.specs.Tag.{dirtyTag, isDirty, frameOf, tagKeepsRules}
+use Rattle.cache.specs.Tag.{dirtyTag, isDirtyTag, frameOf, tagKeepsRules}
 use Rattle.cache.specs.Cache.{lineWordsOf, copyOut, writeBack}
 use Rattle.cache.proofs.Laws.Part.{length-part, part-at, length-overlay, overlay-inside, overlay-outside}
-use Rattle.cache.proofs.Laws.Tag.{isDirty-dirty, frameOf-dirty, dirty-frame, rules-at, rules-frame}
+use Rattle.cache.proofs.Laws.Tag.{isDirtyTag-dirty, frameOf-dirty, dirty-frame, rules-at, rules-frame}
 
 module _ (b : Board) (reg : Regular b) (s : Store) (wf : WellFormed b s) where
   pub tag-keeps : (n : ℕ) → tagKeepsRules b (tagAt s n) ≡ true
@@ -64,27 +64,27 @@ module _ (b : Board) (reg : Regular b) (s : Store) (wf : WellFormed b s) where
 
   -- ---- write back
 
-  pub writeBack-clean : (n : ℕ) → isDirty (tagAt s n) ≡ false → writeBack b n s ≡ s
+  pub writeBack-clean : (n : ℕ) → isDirtyTag (tagAt s n) ≡ false → writeBack b n s ≡ s
   unfolding writeBack
   writeBack-clean n e = rw e
 
   pub writeBack-dirty : (n f : ℕ) → tagAt s n ≡ dirtyTag f → writeBack b n s ≡ copyOut b f n s
   unfolding writeBack
   writeBack-dirty n f e =
-      ap (λ (t : ℕ). when (isDirty t) (copyOut b (frameOf t) n) s) e
-      ∙ ap₂ (λ (d : Bool) (g : ℕ). when d (copyOut b g n) s) (isDirty-dirty f) (frameOf-dirty f)
+      ap (λ (t : ℕ). when (isDirtyTag t) (copyOut b (frameOf t) n) s) e
+      ∙ ap₂ (λ (d : Bool) (g : ℕ). when d (copyOut b g n) s) (isDirtyTag-dirty f) (frameOf-dirty f)
 
   -- the frame of a dirty tag is on the board
   pub dirty-frame-lt : (n f : ℕ) → tagAt s n ≡ dirtyTag f → f < b .frames
   dirty-frame-lt n f e =
-      let d : isDirty (tagAt s n) ≡ true = rw e (isDirty-dirty f) in
+      let d : isDirtyTag (tagAt s n) ≡ true = rw e (isDirtyTag-dirty f) in
       subst (λ (x : ℕ). x < b .frames) (ap frameOf e ∙ frameOf-dirty f) (rules-frame b reg (tagAt s n) (tag-keeps n) d)
 
   -- what holds of the store as it is, and of each copy of the line to memory, holds after a write-back
-  writeBack-cases : (P : Store → Type 0) (n : ℕ) → (isDirty (tagAt s n) ≡ false → P s) → ((f : ℕ) → f < b .frames → tagAt s n ≡ dirtyTag f → P (copyOut b f n s)) → P (writeBack b n s)
-  writeBack-cases P n clean dirty = go (isDirty (tagAt s n)) refl
+  writeBack-cases : (P : Store → Type 0) (n : ℕ) → (isDirtyTag (tagAt s n) ≡ false → P s) → ((f : ℕ) → f < b .frames → tagAt s n ≡ dirtyTag f → P (copyOut b f n s)) → P (writeBack b n s)
+  writeBack-cases P n clean dirty = go (isDirtyTag (tagAt s n)) refl
     where
-      go : (t : Bool) → isDirty (tagAt s n) ≡ t → P (writeBack b n s)
+      go : (t : Bool) → isDirtyTag (tagAt s n) ≡ t → P (writeBack b n s)
       go false e = subst⁻¹ P (writeBack-clean n e) (clean e)
       go true e =
           let f : ℕ = frameOf (tagAt s n) in

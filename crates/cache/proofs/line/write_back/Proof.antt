@@ -6,7 +6,7 @@ use Prim.Native.Nat.{_-_}
 use native.Mathlib.Omega.{arith}
 use lib.ListN.{getD}
 use borrow.Author.Tests.{le-leb, lt-leb}
-use Rattle.cache.specs.Tag.{isDirty}
+use Rattle.cache.specs.Tag.{isDirtyTag}
 use Rattle.cache.proofs.Laws.Tag.{dirty-frame, rules-at, rules-frame}
 use Rattle.cache.proofs.Laws.WriteBack.{writeBack-clean, writeBack-dirty}
 use Rattle.cache.proofs.line.write_back.Statement.{statement}
@@ -19,11 +19,11 @@ number-requires : tie.Need-number-requires
 number-requires c κs = search needs
 
 copy-out-requires : tie.Need-copy-out-requires
-unfolding isDirty
+unfolding isDirtyTag
 copy-out-requires c κs =
     let start = c .before .before .before .before .before .before .before in
     let tag = getD (start .args .tags .now) (start .args .line) 0 in
-    let dirty : isDirty tag ≡ true = le-leb 129 tag (omega (arith, c .before .before)) in
+    let dirty : isDirtyTag tag ≡ true = le-leb 129 tag (omega (arith, c .before .before)) in
     let keeps = rules-at _ (start .pre .2) (start .args .tags .now) (start .args .line) (start .pre .0 .tags-rules) in (
       start .pre .0 .memory-length,
       start .pre .0 .words-length,
@@ -44,7 +44,7 @@ returns c =
     ∙ sym (writeBack-dirty _ (start .pre .2) _ (start .pre .0) (start .args .line) (here .number .result - 129) (omega (arith, here)))
 
 returns-2 : tie.Need-returns-2
-unfolding isDirty
+unfolding isDirtyTag
 returns-2 c =
     let start = c .before .before .before .before .before .before in
     sym (writeBack-clean _ (start .pre .2) _ (start .pre .0) (start .args .line) (lt-leb 129 (getD (start .args .tags .now) (start .args .line) 0) (omega arith)))

@@ -17,7 +17,7 @@ use Rattle.machine.specs.Plans.{begins}
 use Rattle.machine.specs.State.{State, Result, lentBuffer}
 use Rattle.machine.specs.Step.{answer, result, accept}
 use Rattle.machine.proofs.PlanLaws.{begin-planned}
-use Rattle.machine.proofs.StepLaws.{step-requires, planned-refused, stepped, stepped-made}
+use Rattle.machine.proofs.StepLaws.{step-requires, planned-refused, steppedCall, stepped-made}
 use Rattle.machine.proofs.transfers.begin.Statement.{statement}
 use Rattle.machine.proofs.transfers.begin.Tie as tie
 
@@ -26,7 +26,7 @@ steps-of : (b : Board) (l : MappingList) (frame : ℕ) (writes : Bool) → effec
 steps-of b l frame true = refl
 steps-of b l frame false = refl
 
-begun : (b : Board) (st : State) (frame : ℕ) (writes : Bool) → accept b st (begins writes frame) ≡ stepped b st (changeOf b (st .tables) frame (beginStep writes)) (λ s. none) (λ s. []) (λ s. s)
+begun : (b : Board) (st : State) (frame : ℕ) (writes : Bool) → accept b st (begins writes frame) ≡ steppedCall b st (changeOf b (st .tables) frame (beginStep writes)) (λ s. none) (λ s. []) (λ s. s)
 unfolding accept
 begun b st frame true = refl
 begun b st frame false = refl
