@@ -47,7 +47,7 @@ module _ (b : Board) (st : State) (m : Cacheless) (inv : Invariant b st m) where
   pub refill-invariant : (s : Store) (words : ℕ → ℕ → ℕ) → WellFormed b s → ((f : ℕ) → f < b .frames → Agrees b f (stateOf (recordAt (st .tables .records) f)) (words f) s)
       → Invariant b (state (refill b (st .tables)) s) (record { word = words; frame = m .frame })
   unfolding refill
-  refill-invariant s words kept agrees = record { sound = refill-sound b (st .tables) (inv .sound); kept = kept; agrees = agrees; listed = inv .listed }
+  refill-invariant s words kept agrees = record { sound = refill-sound b (st .tables) (inv .sound); kept = kept; agrees = agrees; frames-listed = inv .frames-listed }
 
   module _ (f : ℕ) (hf : f < b .frames) where
     -- ---- another record of f
@@ -90,7 +90,7 @@ module _ (b : Board) (st : State) (m : Cacheless) (inv : Invariant b st m) where
               sound = put-sound;
               kept = kept;
               agrees = λ g hg. agrees-after g hg (ℕ-discrete g f);
-              listed = inv .listed;
+              frames-listed = inv .frames-listed;
             }
 
     -- ---- a step of f's record, which its mark does not bar

@@ -35,7 +35,7 @@ pub record Invariant (b : Board) (st : State) (m : Cacheless) : Type 0 where
   pub sound : Sound b (st .tables)
   pub kept : WellFormed b (st .store)
   pub agrees : (f : ℕ) → f < b .frames → Agrees b f (stateOf (recordAt (st .tables .records) f)) (m .word f) (st .store)
-  pub listed : (space page : ℕ) → m .frame space page ≡ frameIn (mappingOf (st .tables .list) space page)
+  pub frames-listed : (space page : ℕ) → m .frame space page ≡ frameIn (mappingOf (st .tables .list) space page)
 
 -- an accepted single call finds its words and keeps the invariant
 abbrev pub Taken : Board → State → Cacheless → Single → Type 0

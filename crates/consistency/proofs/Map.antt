@@ -68,7 +68,7 @@ module _ (b : Board) (st : State) (m : Cacheless) (inv : Invariant b st m) where
       → Invariant b (state (refill b (tables new (st .tables .records) (st .tables .protections))) (st .store)) (cacheless (m .word) frame)
   unfolding refill
   relisted new frame sound listed =
-      record { sound = refill-sound b (tables new (st .tables .records) (st .tables .protections)) sound; kept = inv .kept; agrees = inv .agrees; listed = listed }
+      record { sound = refill-sound b (tables new (st .tables .records) (st .tables .protections)) sound; kept = inv .kept; agrees = inv .agrees; frames-listed = listed }
 
   -- ---- map
 
@@ -82,7 +82,7 @@ module _ (b : Board) (st : State) (m : Cacheless) (inv : Invariant b st m) where
     map-listed x y =
         replaced-cases (λ v. v ≡ frameIn (mappingOf (insert (st .tables .list) mp) x y)) (m .frame) (mp .space) (mp .page) (some (mp .frame)) x y
         (λ p q. sym (ap frameIn (ap₂ (mappingOf (insert (st .tables .list) mp)) (sym p) (sym q) ∙ mappingOf-inserted-same (st .tables .list) mp (inv .sound .items-length) room b (inv .sound .list-rules) range new)))
-        (λ ne. inv .listed x y ∙ sym (ap frameIn (mappingOf-inserted-other (st .tables .list) mp (inv .sound .items-length) room b (inv .sound .list-rules) range new x y (λ e. ne (e .0) (e .1)))))
+        (λ ne. inv .frames-listed x y ∙ sym (ap frameIn (mappingOf-inserted-other (st .tables .list) mp (inv .sound .items-length) room b (inv .sound .list-rules) range new x y (λ e. ne (e .0) (e .1)))))
 
     map-kept : Invariant b (state (refill b (tables (insert (st .tables .list) mp) (st .tables .records) (st .tables .protections))) (st .store))
         (cacheless (m .word) (replaced (m .frame) (mp .space) (mp .page) (some (mp .frame))))
@@ -104,7 +104,7 @@ module _ (b : Board) (st : State) (m : Cacheless) (inv : Invariant b st m) where
     unmap-listed x y =
         replaced-cases (λ v. v ≡ frameIn (mappingOf (remove (st .tables .list) i) x y)) (m .frame) space page none x y
         (λ p q. sym (ap frameIn (ap₂ (mappingOf (remove (st .tables .list) i)) (sym (at .maps .0 ∙ p)) (sym (at .maps .1 ∙ q)) ∙ mappingOf-remove-same b (st .tables .list) i (inv .sound .list-rules) (at .listed))))
-        (λ ne. inv .listed x y ∙ sym (ap frameIn (mappingOf-remove-other b (st .tables .list) i (inv .sound .list-rules) (at .listed) x y (λ e. ne (sym (at .maps .0) ∙ e .0) (sym (at .maps .1) ∙ e .1)))))
+        (λ ne. inv .frames-listed x y ∙ sym (ap frameIn (mappingOf-remove-other b (st .tables .list) i (inv .sound .list-rules) (at .listed) x y (λ e. ne (sym (at .maps .0) ∙ e .0) (sym (at .maps .1) ∙ e .1)))))
 
     unmap-kept : Invariant b (state (commitUnmap b (st .tables) i) (st .store)) (cacheless (m .word) (replaced (m .frame) space page none))
     unmap-kept = relisted (remove (st .tables .list) i) (replaced (m .frame) space page none) unmap-sound unmap-listed

@@ -16,7 +16,7 @@ use Rattle.consistency.proofs.Invariant.{frameIn, Invariant}
 -- the frame of a page that is mapped is the cacheless memory's
 pub mapped-frame : (b : Board) (st : State) (m : Cacheless) → Invariant b st m → (space page : ℕ) → isMapped (st .tables .list) space page ≡ true
     → m .frame space page ≡ some (pageFrame st space page)
-mapped-frame b st m inv space page mapped = inv .listed space page ∙ go (lookup (st .tables .list) space page) refl mapped
+mapped-frame b st m inv space page mapped = inv .frames-listed space page ∙ go (lookup (st .tables .list) space page) refl mapped
   where
     go : (x : Found) → lookup (st .tables .list) space page ≡ x → found x ≡ true
         → frameIn (mappingOf (st .tables .list) space page) ≡ some (mappingAt (st .tables .list) (placeOf x) .frame)

@@ -62,5 +62,5 @@ module _ (b : Board) (reg : Regular b) (memory words protections : List ℕ) (fu
             in-memory = λ o ho none. refl;
           };
         };
-        listed = λ space page. sym (ap frameIn (mappingOf-empty space page));
+        frames-listed = λ space page. sym (ap frameIn (mappingOf-empty space page));
       }

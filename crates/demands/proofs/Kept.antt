@@ -235,7 +235,7 @@ module _ (b : Board) (reg : Regular b) (st : State) (call : Single) (e : firstRe
         tables-kept = w;
         store-kept = store-after b reg st call e;
         modelled = modelled-after b st call e;
-        listed = listed-after b st call;
+        list-left = listed-after b st call;
         made = made-after b st call;
         protections = agree;
         unread = λ ps same. unread-after b st ps same call e;

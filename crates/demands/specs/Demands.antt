@@ -81,7 +81,7 @@ pub record Left (b : Board) (st : State) (call : Single) (after : State) (a : An
   pub tables-kept : WellFormedTables b (after .tables)
   pub store-kept : hardware-store.WellFormed b (after .store)
   pub modelled : Modelled b (st .tables) (after .tables) (a .outcome) (effectOf b st call)
-  pub listed : after .tables .list ≡ listAfter (st .tables .list) call
+  pub list-left : after .tables .list ≡ listAfter (st .tables .list) call
   pub made : accessed (a .word) (a .buffer) (after .store) ≡ accessOf b st call (carryOut b (a .outcome) (st .store))
   -- the whole buffer of protections is what list and records give, whatever it held before
   pub protections : after .tables .protections ≡ tabulate capacity (protectionAt b (after .tables .list) (after .tables .records))

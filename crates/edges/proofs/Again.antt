@@ -15,13 +15,13 @@ use Rattle.edges.specs.Rows.{Holds, outcome}
 use Rattle.edges.specs.Table.{secondRead}
 
 -- page 2 of space 0 mapped to frame 5, to read
-abbrev listed : MappingList
-listed = record { items = record { space = 0; page = 2; frame = 5; rights = 1 } ∷ replicate 255 zeroMapping; count = 1 }
+abbrev pageTwoMapped : MappingList
+pageTwoMapped = record { items = record { space = 0; page = 2; frame = 5; rights = 1 } ∷ replicate 255 zeroMapping; count = 1 }
 
 -- frame 5 has colour 2 held, the page may be read, and line 16 names the frame
 abbrev known : State
 known =
-    machineOf listed (startRecords 5 8 ++ (4 ∷ 0 ∷ 0 ∷ 0 ∷ 8 ∷ startRecords 58 8)) (1 ∷ replicate 255 0)
+    machineOf pageTwoMapped (startRecords 5 8 ++ (4 ∷ 0 ∷ 0 ∷ 0 ∷ 8 ∷ startRecords 58 8)) (1 ∷ replicate 255 0)
     (replicate 4096 0)
     (replicate 512 0)
     (replicate 16 0 ++ (6 ∷ replicate 47 0))

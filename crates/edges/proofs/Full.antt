@@ -34,21 +34,21 @@ use Rattle.machine.specs.Step as machine-step
 use Rattle.run_sheet.specs.Run as run
 use Rattle.edges.proofs.Items.{refusalsOf, listWith, inTurn, in-turn}
 use Rattle.edges.proofs.Opened.{opened}
-use Rattle.edges.specs.Calls.{ask, unanswered, pageMapping, itemAt, itemsOf, pagesMapped, listing, leaves}
+use Rattle.edges.specs.Calls.{ask, unanswered, pageMapping, itemAt, mappingsBy, pagesMapped, listing, leaves}
 use Rattle.edges.specs.Lists.{overflowing, fullWithin, fullLeft}
 use Rattle.edges.specs.Rows.{Holds, Seen, answers}
 use Rattle.edges.specs.Table.{roomForOne, freshPair, mappedPair}
 
 -- ---- what stands where
 
-getD-items : (k : ℕ) (f : ℕ → Mapping) (i : ℕ) → i < k → getD (itemsOf k f) i zeroMapping ≡ f i
-unfolding itemsOf
+getD-items : (k : ℕ) (f : ℕ → Mapping) (i : ℕ) → i < k → getD (mappingsBy k f) i zeroMapping ≡ f i
+unfolding mappingsBy
 getD-items zero f i h = absurd (omega arith)
 getD-items (suc k) f zero h = refl
 getD-items (suc k) f (suc i) h = getD-items k (λ j. f (suc j)) i (omega arith)
 
-getD-past : (k : ℕ) (f : ℕ → Mapping) (i : ℕ) → k ≤ i → getD (itemsOf k f) i zeroMapping ≡ zeroMapping
-unfolding itemsOf
+getD-past : (k : ℕ) (f : ℕ → Mapping) (i : ℕ) → k ≤ i → getD (mappingsBy k f) i zeroMapping ≡ zeroMapping
+unfolding mappingsBy
 getD-past zero f i h = refl
 getD-past (suc k) f zero h = absurd (omega arith)
 getD-past (suc k) f (suc i) h = getD-past k (λ j. f (suc j)) i (omega arith)
@@ -87,22 +87,22 @@ unfolding manager-tables.rulesKept manager-tables.recordsKeepRules manager-table
 lent-rules n room = rw (rules-keepsRules board01 (pagesMapped n) (pages-rules n room))
 
 lent-none : (n : ℕ) → n ≤ capacity → (call : Single) → bufferRight board01 call ≡ true → firstRefusal (lentCauses board01 (listing n) call) ≡ 0
-unfolding manager-tables.lengthsRight machine-refusals.storeLengths run.startWith run.start board.lines board.pageLines board.memoryWords board.cacheWords itemsOf
+unfolding manager-tables.lengthsRight machine-refusals.storeLengths run.startWith run.start board.lines board.pageLines board.memoryWords board.cacheWords mappingsBy
 lent-none n room call e = lent-clear board01 (listing n) call e (lent-rules n room)
 
 first-of : (n : ℕ) → n ≤ capacity → (call : Single) → bufferRight board01 call ≡ true → firstRefusal (causes board01 (listing n) call) ≡ firstRefusal (ownCauses board01 (listing n) call)
 first-of n room call e = own-first board01 (listing n) call (lent-none n room call e)
 
 own-255 : firstRefusal (ownCauses board01 (listing 255) (map 1 0 0 1)) ≡ 0
-unfolding ownCauses firstRefusal list-lookup.lookup list-lookup.firstOf entry.isAt itemsOf
+unfolding ownCauses firstRefusal list-lookup.lookup list-lookup.firstOf entry.isAt mappingsBy
 own-255 = refl
 
 own-fresh : firstRefusal (ownCauses board01 (listing 256) (map 1 0 0 1)) ≡ 9
-unfolding ownCauses firstRefusal list-lookup.lookup list-lookup.firstOf entry.isAt itemsOf
+unfolding ownCauses firstRefusal list-lookup.lookup list-lookup.firstOf entry.isAt mappingsBy
 own-fresh = refl
 
 own-mapped : firstRefusal (ownCauses board01 (listing 256) (map 0 255 0 1)) ≡ 7
-unfolding ownCauses firstRefusal list-lookup.lookup list-lookup.firstOf entry.isAt itemsOf
+unfolding ownCauses firstRefusal list-lookup.lookup list-lookup.firstOf entry.isAt mappingsBy
 own-mapped = refl
 
 -- ---- the rows

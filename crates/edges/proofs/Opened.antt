@@ -2,8 +2,8 @@
 use Rattle.machine.proofs.Opened as machine
 use Rattle.run_sheet.specs.Run as run
 use Rattle.sheet_codec.specs.Text as text
-use Rattle.edges.specs.Calls.{after, ask, itemsOf}
+use Rattle.edges.specs.Calls.{after, ask, mappingsBy}
 
 unfoldable pub opened : Unit {0}
-unfolding machine.opened run.sheetText text.operationText text.wordText text.answerText after ask itemsOf
+unfolding machine.opened run.sheetText text.operationText text.wordText text.answerText after ask mappingsBy
 opened = tt

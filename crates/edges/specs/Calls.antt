@@ -177,12 +177,12 @@ pageMapping page = mapping 0 page 0 1
 abbrev pub itemAt : ℕ → ℕ → Mapping
 itemAt n i = cond (ltb i n) (pageMapping i) zeroMapping
 
-unfoldable pub itemsOf : ℕ → (ℕ → Mapping) → List Mapping
-itemsOf zero f = []
-itemsOf (suc k) f = f 0 ∷ itemsOf k (λ i. f (suc i))
+unfoldable pub mappingsBy : ℕ → (ℕ → Mapping) → List Mapping
+mappingsBy zero f = []
+mappingsBy (suc k) f = f 0 ∷ mappingsBy k (λ i. f (suc i))
 
 abbrev pub pagesMapped : ℕ → MappingList
-pagesMapped n = record { items = itemsOf capacity (itemAt n); count = n }
+pagesMapped n = record { items = mappingsBy capacity (itemAt n); count = n }
 
 abbrev pub listing : ℕ → State
 listing n = withList (pagesMapped n) fresh

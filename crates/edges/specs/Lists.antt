@@ -5,14 +5,14 @@ use Prim.Native.Nat.{_-_}
 use lib.ListN.{replicate}
 use Rattle.mapping.specs.declared.Mapping.{Mapping}
 use Rattle.machine.specs.State.{State, Call, mapAll}
-use Rattle.edges.specs.Calls.{after, ask, mapThese, each, refusesWhole, unanswered, fresh, listing, recorded, tagged, withCache, wroteLast, mapping, pageMapping, itemsOf, pagesMapped, listOf, holding, unfilled, leaves, listed}
+use Rattle.edges.specs.Calls.{after, ask, mapThese, each, refusesWhole, unanswered, fresh, listing, recorded, tagged, withCache, wroteLast, mapping, pageMapping, mappingsBy, pagesMapped, listOf, holding, unfilled, leaves, listed}
 use Rattle.edges.specs.Rows.{answers, tables, Row, _gives_}
 
 -- ---- the rows of long lists, which take the longest to compute
 
 -- pages 63 to 0, each of which goes before those that are listed
 abbrev pub sixtyFour : List Mapping
-sixtyFour = itemsOf 64 (λ i. pageMapping (63 - i))
+sixtyFour = mappingsBy 64 (λ i. pageMapping (63 - i))
 
 abbrev pub mostItems : Row
 mostItems = answers (ask fresh (mapThese sixtyFour ∷ [])) gives answers (each (replicate 64 0) ∷ [])
@@ -30,7 +30,7 @@ fullWithin = answers (ask (listing 254) (mapThese overflowing ∷ [])) gives ans
 abbrev pub fullLeft : Row
 fullLeft =
     leaves (after (listing 254) (mapThese overflowing ∷ []))
-    gives tables (listOf (itemsOf 254 pageMapping ++ (mapping 1 0 0 1 ∷ mapping 1 1 0 1 ∷ []))) (replicate 256 0)
+    gives tables (listOf (mappingsBy 254 pageMapping ++ (mapping 1 0 0 1 ∷ mapping 1 1 0 1 ∷ []))) (replicate 256 0)
 
 -- ---- calls and states
 
@@ -73,7 +73,7 @@ lists =
     -- up to 64 items are taken; 65 get 12
     mostItems
     ∷ mostLeft
-    ∷ (answers (ask fresh (mapThese (itemsOf 65 pageMapping) ∷ [])) gives answers (refusesWhole 12 (unanswered 65) ∷ []))
+    ∷ (answers (ask fresh (mapThese (mappingsBy 65 pageMapping) ∷ [])) gives answers (refusesWhole 12 (unanswered 65) ∷ []))
     -- too few answers, too many, and one for no item: 12
     ∷ (answers (ask fresh (mapAll two (unanswered 1) ∷ mapAll two (unanswered 3) ∷ mapAll two [] ∷ mapAll [] (unanswered 1) ∷ [])) gives answers (refusesWhole 12 (unanswered 1) ∷ refusesWhole 12 (unanswered 3) ∷ refusesWhole 12 [] ∷ refusesWhole 12 (unanswered 1) ∷ []))
     -- the list gets full within: then 9, and 7 and 3 before it
@@ -97,5 +97,5 @@ lists =
     -- 12 before 2, and 1 before both, each for the whole
     ∷ (answers (ask broken (mapAll two (unanswered 1) ∷ [])) gives answers (refusesWhole 12 (unanswered 1) ∷ []))
     ∷ (answers (ask shortProtections (mapAll two (unanswered 1) ∷ mapThese two ∷ mapThese [] ∷ [])) gives answers (refusesWhole 1 (unanswered 1) ∷ refusesWhole 1 (unanswered 2) ∷ refusesWhole 1 [] ∷ []))
-    ∷ (answers (ask shortTags (mapThese (itemsOf 65 pageMapping) ∷ mapThese two ∷ [])) gives answers (refusesWhole 1 (unanswered 65) ∷ refusesWhole 1 (unanswered 2) ∷ []))
+    ∷ (answers (ask shortTags (mapThese (mappingsBy 65 pageMapping) ∷ mapThese two ∷ [])) gives answers (refusesWhole 1 (unanswered 65) ∷ refusesWhole 1 (unanswered 2) ∷ []))
     ∷ []

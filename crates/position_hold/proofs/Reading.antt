@@ -83,4 +83,4 @@ module _ (b : Board) (st : State) (m : Cacheless) (inv : Invariant b st m) (spac
 
   pub frame-lent : m .frame space page ≡ some f → pageFrame st space page ≡ f
   unfolding mappingOf
-  frame-lent e = behind (lookup (st .tables .list) space page) (sym (inv .listed space page) ∙ e)
+  frame-lent e = behind (lookup (st .tables .list) space page) (sym (inv .frames-listed space page) ∙ e)

@@ -62,10 +62,10 @@ module _ (b : Board) (reg : Regular b) (space page : ℕ) where
         tables-kept = l .tables-kept;
         store-kept = l .store-kept;
         in-space = r .in-space;
-        mapped = subst⁻¹ (λ (list : MappingList). unmappedCause list space page .applies ≡ false) (l .listed) (r .mapped);
+        mapped = subst⁻¹ (λ (list : MappingList). unmappedCause list space page .applies ≡ false) (l .list-left) (r .mapped);
         unbarred =
             subst⁻¹ (λ (list : MappingList). busyCause (accept b st (read space page k) .after .tables .records) (listedMapping list space page .frame) (table.read (colourOf b page)) .applies ≡ false)
-            (l .listed)
+            (l .list-left)
             (subst⁻¹ (λ (mark : ℕ). bars mark (table.read (colourOf b page)) ≡ false) (l .modelled .mark) (r .unbarred));
       }
 

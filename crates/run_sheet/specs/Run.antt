@@ -45,8 +45,8 @@ runFrom st = record { machine = st; text = []; flushes = 0; purges = 0 }
 -- ---- calls in their order
 
 -- a line is printed of each call and its answer
-abbrev pub told : Run → List ℕ → Result → Run
-told r line got =
+abbrev pub withCall : Run → List ℕ → Result → Run
+withCall r line got =
     record {
       machine = got .after;
       text = r .text ++ line;
@@ -56,7 +56,7 @@ told r line got =
 
 unfoldable pub advance : Board → (Single → Answer → List ℕ) → Single → Run → Run
 unfolding step
-advance b line call r = let got : Result = step b (r .machine) call in told r (line call (got .answer)) got
+advance b line call r = let got : Result = step b (r .machine) call in withCall r (line call (got .answer)) got
 
 -- the first n of the calls
 unfoldable pub advanceAll : Board → (ℕ → Single → Answer → List ℕ) → (ℕ → Single) → ℕ → Run → Run
