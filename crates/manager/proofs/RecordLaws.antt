@@ -25,21 +25,21 @@ module _ (rs : List ℕ) (f : ℕ) (r : FrameRecord) where
   unfolding recordAt putRecord
   recordAt-putRecord-same h =
       let a = f * recordWords in
-      let one = set rs a (r .held) in
-      let two = set one (a + 1) (r .stale) in
+      let one = set rs a (r .masks .held) in
+      let two = set one (a + 1) (r .masks .stale) in
       let three = set two (a + 2) (r .dirty) in
       let four = set three (a + 3) (r .busy) in
       let held =
       getD-set-other four (a + 4) a (r .«dirty_colour») 0 (omega arith)
       ∙ getD-set-other three (a + 3) a (r .busy) 0 (omega arith)
       ∙ getD-set-other two (a + 2) a (r .dirty) 0 (omega arith)
-      ∙ getD-set-other one (a + 1) a (r .stale) 0 (omega arith)
-      ∙ getD-set-same rs a (r .held) 0 (omega arith) in
+      ∙ getD-set-other one (a + 1) a (r .masks .stale) 0 (omega arith)
+      ∙ getD-set-same rs a (r .masks .held) 0 (omega arith) in
       let stale =
       getD-set-other four (a + 4) (a + 1) (r .«dirty_colour») 0 (omega arith)
       ∙ getD-set-other three (a + 3) (a + 1) (r .busy) 0 (omega arith)
       ∙ getD-set-other two (a + 2) (a + 1) (r .dirty) 0 (omega arith)
-      ∙ getD-set-same one (a + 1) (r .stale) 0 (simp length-set (omega arith)) in
+      ∙ getD-set-same one (a + 1) (r .masks .stale) 0 (simp length-set (omega arith)) in
       let dirty =
       getD-set-other four (a + 4) (a + 2) (r .«dirty_colour») 0 (omega arith)
       ∙ getD-set-other three (a + 3) (a + 2) (r .busy) 0 (omega arith)

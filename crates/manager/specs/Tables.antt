@@ -34,8 +34,7 @@ recordWords = 5
 unfoldable pub recordAt : List ℕ → ℕ → FrameRecord
 recordAt rs f =
     record {
-      held = getD rs (f * recordWords) 0;
-      stale = getD rs (f * recordWords + 1) 0;
+      masks = record { held = getD rs (f * recordWords) 0; stale = getD rs (f * recordWords + 1) 0 };
       dirty = getD rs (f * recordWords + 2) 0;
       busy = getD rs (f * recordWords + 3) 0;
       «dirty_colour» = getD rs (f * recordWords + 4) 0;
@@ -44,7 +43,7 @@ recordAt rs f =
 unfoldable pub putRecord : List ℕ → ℕ → FrameRecord → List ℕ
 putRecord rs f r =
     set
-    (set (set (set (set rs (f * recordWords) (r .held)) (f * recordWords + 1) (r .stale)) (f * recordWords + 2) (r .dirty)) (f * recordWords + 3) (r .busy))
+    (set (set (set (set rs (f * recordWords) (r .masks .held)) (f * recordWords + 1) (r .masks .stale)) (f * recordWords + 2) (r .dirty)) (f * recordWords + 3) (r .busy))
     (f * recordWords + 4)
     (r .«dirty_colour»)
 

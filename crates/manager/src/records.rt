@@ -8,6 +8,7 @@ use board::Board;
 use mapping::Mapping;
 use mapping::MappingList;
 use page_model::FrameRecord;
+use page_model::masks::Masks;
 
 // The words of a record: held, stale, dirty, busy, dirty colour.
 pub const RECORD_WORDS: usize = 5;
@@ -34,17 +35,23 @@ pub fn record_at(records: &[u32], frame: u8) -> FrameRecord
 {
     let at = frame as usize * RECORD_WORDS;
     if at + 4 < records.len() {
-        return FrameRecord {
+        let masks = Masks {
             held: records[at],
             stale: records[at + 1],
+        };
+        return FrameRecord {
+            masks,
             dirty: records[at + 2],
             busy: records[at + 3],
             dirty_colour: records[at + 4],
         };
     }
-    FrameRecord {
+    let masks = Masks {
         held: word_at(records, at),
         stale: word_at(records, at + 1),
+    };
+    FrameRecord {
+        masks,
         dirty: word_at(records, at + 2),
         busy: word_at(records, at + 3),
         dirty_colour: word_at(records, at + 4),
@@ -56,8 +63,8 @@ pub fn put_record(records: &mut [u32], frame: u8, record: FrameRecord)
     ensures { λ _. ⌜ now (records .exit) ≡ putRecord (now (records .entry)) frame «record» ⌝ }
 {
     let at = frame as usize * RECORD_WORDS;
-    put_word(records, at, record.held);
-    put_word(records, at + 1, record.stale);
+    put_word(records, at, record.masks.held);
+    put_word(records, at + 1, record.masks.stale);
     put_word(records, at + 2, record.dirty);
     put_word(records, at + 3, record.busy);
     put_word(records, at + 4, record.dirty_colour);

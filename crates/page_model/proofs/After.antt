@@ -30,9 +30,9 @@ no-dirty n step r kr e j k lj lk ej ek = absurd (false≢true (kept-next n r kr 
 one-dirty : (n : ℕ) (step : Step) (r : FrameRecord) → Keeps n r → OneDirty n (λ k. cellOf step r k .next)
 one-dirty n (read c) r kr j k lj lk ej ek =
     let next = kept-next n r kr (read c) in
-    let dj : (eqb c j && (bit (r .held) j && flag r)) ≡ true = next isDirty (λ o s h d. o && (h && d)) refl j lj ∙ ap isDirty ej in
-    let hk : (eqb c k || bit (r .held) k && not (flag r)) ≡ true = next isHeld (λ o s h d. o || h && not d) refl k lk ∙ ek in
-    sym (eqb-true c j (and-left _ _ dj)) ∙ eqb-true c k (own-left _ (bit (r .held) k) (and-right (bit (r .held) j) _ (and-right (eqb c j) _ dj)) hk)
+    let dj : (eqb c j && (bit (r .masks .held) j && flag r)) ≡ true = next isDirty (λ o s h d. o && (h && d)) refl j lj ∙ ap isDirty ej in
+    let hk : (eqb c k || bit (r .masks .held) k && not (flag r)) ≡ true = next isHeld (λ o s h d. o || h && not d) refl k lk ∙ ek in
+    sym (eqb-true c j (and-left _ _ dj)) ∙ eqb-true c k (own-left _ (bit (r .masks .held) k) (and-right (bit (r .masks .held) j) _ (and-right (eqb c j) _ dj)) hk)
 one-dirty n (write c) r kr j k lj lk ej ek =
     let next = kept-next n r kr (write c) in
     sym (eqb-true c j (next isDirty (λ o s h d. o) refl j lj ∙ ap isDirty ej)) ∙ eqb-true c k (next isHeld (λ o s h d. o) refl k lk ∙ ek)

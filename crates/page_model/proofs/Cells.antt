@@ -54,7 +54,7 @@ operationTest step f o s h d = f (rowOf step (roleIf o) (stateFrom s h d) .opera
 
 -- a test at colour k, where the step goes through c
 abbrev pub at : FrameRecord → ℕ → ℕ → Test → Bool
-at r c k p = p (eqb c k) (bit (r .stale) k) (bit (r .held) k) (flag r)
+at r c k p = p (eqb c k) (bit (r .masks .stale) k) (bit (r .masks .held) k) (flag r)
 
 pub at-law : (r : FrameRecord) (c k : ℕ) (given p q : Test) → Agree given p q → at r c k given ≡ true → at r c k p ≡ at r c k q
 at-law r c k given p q e = law4 given p q e _ _ _ _

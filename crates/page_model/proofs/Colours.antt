@@ -12,17 +12,17 @@ use Rattle.bits.proofs.Mask.{maskOf-cong, bit-past, bit-one, at-place, all-at, 
 use Rattle.bits.proofs.Tautology.{all4, equalIf, law4}
 use Rattle.page_model.specs.declared.FrameRecord.{FrameRecord}
 use Rattle.page_model.specs.declared.masks.Classes.{Classes}
-use Rattle.page_model.specs.declared.masks.Masks.{Masks}
 use Rattle.page_model.specs.declared.Op.{Op}
 use Rattle.page_model.specs.declared.Op.the-variants.{None, Flush, Purge}
 use Rattle.page_model.specs.Cases.{stateNumber, operationNumber, stepNumber, rowAt, caseOf, caseAt, markAt, operationAt}
 use Rattle.page_model.specs.Busy.{markAfter}
 use Rattle.page_model.specs.Masks.{inHeld, inStale, numberAt, moved}
-use Rattle.page_model.specs.Record.{stateFrom, stateOf, encode, isHeld, isDirty, isStale}
+use Rattle.page_model.specs.Record.{stateFrom, stateOf, isHeld, isDirty, isStale}
 use Rattle.page_model.specs.Step.{isFlush, isPurge, cellOf, recordAfter, operations, opList, firstTwo, stepped}
 use Rattle.page_model.specs.Table.{ColourState, empty, present, dirty, stale, Operation, none, flush, purge, Cell, _⇒_, own, other, Step, read, write, deviceRead, deviceWrite, deviceWritePart, beginRead, beginWrite, roleIf, ownOf, reach}
 use Rattle.page_model.proofs.Rules.{Keeps, flag, dirty-only, dirty-at}
 use Rattle.page_model.proofs.Cells.{Test, Agree, apart, row-cell, nextTest, operationTest, kept-next, kept-operation}
+use Rattle.page_model.proofs.Encoding.{encode-is}
 
 -- ---- the numbers
 
@@ -101,7 +101,7 @@ of-number stale x y = (refl, refl, refl, refl)
 -- a colour past the board's is empty, and only a transfer goes through it
 past-state : (n : ℕ) (r : FrameRecord) → Keeps n r → (k : ℕ) → n ≤ k → stateOf r k ≡ empty
 unfolding stateOf
-past-state n r kr k l = rw (bit-past n (r .stale) k (kr .stale-lt) l, bit-past n (r .held) k (kr .held-lt) l)
+past-state n r kr k l = rw (bit-past n (r .masks .stale) k (kr .stale-lt) l, bit-past n (r .masks .held) k (kr .held-lt) l)
 
 past-own : (n : ℕ) (r : FrameRecord) → Keeps n r → (s : Step) → reach s ≤ n → n ≤ ownOf s → ownCell (stepNumber s) (stateOf r (ownOf s)) ≡ none ⇒ empty
 past-own n r kr (read c) t l = absurd (omega arith)
@@ -199,10 +199,7 @@ module _ (n : ℕ) (r : FrameRecord) (kr : Keeps n r) (s : Step) (reaches : reac
   at-own : (f : Cell → Bool) (k : ℕ) → (f ownNow && eqb c k) ≡ (eqb c k && f (ownCell (stepNumber s) (stateOf r k)))
   at-own f k = sym (at-place (λ j. f (ownCell (stepNumber s) (stateOf r j))) c k)
 
-  -- the record's masks, and the number of the state that each class of its colours goes to
-  abbrev masks : Masks
-  masks = record { held = r .held; stale = r .stale }
-
+  -- the number of the state that each class of the record's colours goes to
   abbrev to : Classes
   to =
       record {
@@ -213,7 +210,7 @@ module _ (n : ℕ) (r : FrameRecord) (kr : Keeps n r) (s : Step) (reaches : reac
       }
 
   -- it is the one that each colour goes to by its own cell
-  number-at : (k : ℕ) → numberAt c to masks k ≡ stateNumber (cellOf s r k .next)
+  number-at : (k : ℕ) → numberAt c to (r .masks) k ≡ stateNumber (cellOf s r k .next)
   unfolding stateOf
   number-at k = go (eqb c k) refl ∙ sym (ap (λ (x : Cell). stateNumber (x .next)) (row-cell s r k))
     where
@@ -222,9 +219,9 @@ module _ (n : ℕ) (r : FrameRecord) (kr : Keeps n r) (s : Step) (reaches : reac
       others false true = refl
       others false false = refl
 
-      go : (o : Bool) → eqb c k ≡ o → cond o (to .own) (cond (bit (r .stale) k) (to .stale) (cond (bit (r .held) k) (to .held) (to .empty))) ≡ stateNumber (rowAt (stepNumber s) (roleIf o) (stateOf r k) .next)
+      go : (o : Bool) → eqb c k ≡ o → cond o (to .own) (cond (bit (r .masks .stale) k) (to .stale) (cond (bit (r .masks .held) k) (to .held) (to .empty))) ≡ stateNumber (rowAt (stepNumber s) (roleIf o) (stateOf r k) .next)
       go true e = ap (λ (j : ℕ). stateNumber (ownCell (stepNumber s) (stateOf r j) .next)) (eqb-true c k e)
-      go false e = others (bit (r .stale) k) (bit (r .held) k)
+      go false e = others (bit (r .masks .stale) k) (bit (r .masks .held) k)
 
   dirty-is : (k : ℕ) → k < n → isDirty (cellOf s r k .next) ≡ (isDirty (ownNow .next) && eqb c k)
   unfolding stateOf
@@ -234,25 +231,23 @@ module _ (n : ℕ) (r : FrameRecord) (kr : Keeps n r) (s : Step) (reaches : reac
   abbrev nextNow : FrameRecord
   nextNow =
       record {
-        held = moved n c to masks .held;
-        stale = moved n c to masks .stale;
+        masks = moved n c to (r .masks);
         dirty = cond (eqb (to .own) (stateNumber dirty)) 1 0;
         busy = markAfter s (r .busy);
         «dirty_colour» = cond (eqb (to .own) (stateNumber dirty)) c n;
       }
 
   step-record : nextNow ≡ recordAfter n s r
-  unfolding recordAfter encode moved
+  unfolding recordAfter moved
   step-record =
       let below = own-below (λ x. isDirty (x .next)) refl in
       let own = of-number (ownNow .next) c n in
-      λ i. record {
-        held = maskOf-cong n _ _ (λ k l. ap inHeld (number-at k) ∙ of-number (cellOf s r k .next) 0 0 .0) i;
-        stale = maskOf-cong n _ _ (λ k l. ap inStale (number-at k) ∙ of-number (cellOf s r k .next) 0 0 .1) i;
-        dirty = (own .3 ∙ ap digit (sym (any-one n c (isDirty (ownNow .next)) _ below dirty-is))) i;
-        busy = markAfter s (r .busy);
-        «dirty_colour» = (own .2 ∙ sym (first-one n c (isDirty (ownNow .next)) _ below dirty-is)) i;
-      }
+      encode-is n (markAfter s (r .busy)) (λ k. cellOf s r k .next) nextNow
+      (maskOf-cong n _ _ (λ k l. ap inHeld (number-at k) ∙ of-number (cellOf s r k .next) 0 0 .0))
+      (maskOf-cong n _ _ (λ k l. ap inStale (number-at k) ∙ of-number (cellOf s r k .next) 0 0 .1))
+      (own .3 ∙ ap digit (sym (any-one n c (isDirty (ownNow .next)) _ below dirty-is)))
+      refl
+      (own .2 ∙ sym (first-one n c (isDirty (ownNow .next)) _ below dirty-is))
 
   -- the operation on the dirty colour, if that is not the own colour
   abbrev onDirty : Operation
@@ -279,11 +274,11 @@ module _ (n : ℕ) (r : FrameRecord) (kr : Keeps n r) (s : Step) (reaches : reac
   unfolding stateOf
   in-order = go (flag r) refl
     where
-      go : (b : Bool) → flag r ≡ b → inOrder (cond (b && not (eqb (r .«dirty_colour») c)) (othersCell (stepNumber s) b .operation) none) (ownCell (stepNumber s) (stateFrom (bit (r .stale) c) (bit (r .held) c) b) .operation) ≡ true
+      go : (b : Bool) → flag r ≡ b → inOrder (cond (b && not (eqb (r .«dirty_colour») c)) (othersCell (stepNumber s) b .operation) none) (ownCell (stepNumber s) (stateFrom (bit (r .masks .stale) c) (bit (r .masks .held) c) b) .operation) ≡ true
       go true z =
-          let own-held : bit (r .held) c ≡ eqb (r .«dirty_colour») c = ap (λ (m : ℕ). bit m c) (dirty-only n r kr z .1) ∙ bit-one (r .«dirty_colour») c in
-          rw (← own-held) (orderly s (bit (r .stale) c) (bit (r .held) c) true)
-      go false z = orderly s (bit (r .stale) c) (bit (r .held) c) false
+          let own-held : bit (r .masks .held) c ≡ eqb (r .«dirty_colour») c = ap (λ (m : ℕ). bit m c) (dirty-only n r kr z .1) ∙ bit-one (r .«dirty_colour») c in
+          rw (← own-held) (orderly s (bit (r .masks .stale) c) (bit (r .masks .held) c) true)
+      go false z = orderly s (bit (r .masks .stale) c) (bit (r .masks .held) c) false
 
   picks : (f : Operation → Bool) → f none ≡ false → Agree apart (operationAfter f (stepNumber s)) (operationTest s f)
       → (k : ℕ) → k < n → f (cellOf s r k .operation) ≡ (f onDirty && eqb (r .«dirty_colour») k || f (ownNow .operation) && eqb c k)

@@ -9,6 +9,7 @@ use lib.Pow.{pow-pos}
 use Rattle.bits.specs.Mask.{bit, digit, maskOf, countOf, any, firstOf}
 use Rattle.bits.proofs.Mask.{mask-of, maskOf-lt, bit-maskOf, any-cong, any-none, any-false, any-of, any-at, first-cong, first-none, first-one, first-at, one-countOf, digit-lt, eqb-digit, bit-none}
 use Rattle.bits.proofs.Tautology.{and-right}
+use Rattle.page_model.specs.declared.FrameRecord.{FrameRecord}
 use Rattle.page_model.specs.Record.{stateFrom, stateOf, markFits, dirtyColourOf, encode, isHeld, isDirty, isStale, freed}
 use Rattle.page_model.specs.Step.{cellOf, recordAfter, operations}
 use Rattle.page_model.specs.Table.{ColourState, empty, present, dirty, stale}
@@ -16,19 +17,29 @@ use Rattle.page_model.specs.Theorems.{EncodeDecode, OneDirty, MarkFits, 
 use Rattle.page_model.proofs.Rules.{Keeps, keeps, kept, flag, flag-digit, dirty-only, dirty-at, no-dirty-colour, any-dirty, first-dirty}
 use Rattle.page_model.proofs.Cells.{kept-state, each-state}
 
+-- the record whose every part is the one that states and a mark encode to
+pub encode-is : (n mark : ℕ) (states : ℕ → ColourState) (r : FrameRecord)
+    → r .masks .held ≡ maskOf n (λ k. isHeld (states k))
+    → r .masks .stale ≡ maskOf n (λ k. isStale (states k))
+    → r .dirty ≡ digit (any n (λ k. isDirty (states k)))
+    → r .busy ≡ mark
+    → r .«dirty_colour» ≡ firstOf n (λ k. isDirty (states k))
+    → r ≡ encode n mark states
+unfolding encode
+encode-is n mark states r h t d b c = λ i. record { masks = record { held = h i; stale = t i }; dirty = d i; busy = b i; «dirty_colour» = c i }
+
 -- ---- a record that is decoded and encoded
 
 pub encode-decode : EncodeDecode
-unfolding encode
 encode-decode n r e =
     let kr = keeps n r e in
     let says = kept-state n r kr in
-    let h = mask-of n (r .held) _ (kr .held-lt) (says isHeld (λ o s h d. h) refl) in
-    let t = mask-of n (r .stale) _ (kr .stale-lt) (says isStale (λ o s h d. s) refl) in
+    let h = mask-of n (r .masks .held) _ (kr .held-lt) (says isHeld (λ o s h d. h) refl) in
+    let t = mask-of n (r .masks .stale) _ (kr .stale-lt) (says isStale (λ o s h d. s) refl) in
     let dirties = says isDirty (λ o s h d. d && h) refl in
     let d = flag-digit (kr .flag-le) ∙ ap digit (sym (any-dirty n r kr) ∙ any-cong n _ _ dirties) in
     let c = sym (first-dirty n r kr) ∙ first-cong n _ _ dirties in
-    λ i. record { held = sym h i; stale = sym t i; dirty = sym d i; busy = r .busy; «dirty_colour» = sym c i }
+    sym (encode-is n (r .busy) (stateOf r) r h t d refl c)
 
 -- what the mark tells of flag and held mask
 fits-le : (mark flag held : ℕ) → markFits mark flag held ≡ true → mark ≤ 2
@@ -42,12 +53,12 @@ kept-mark n r e =
     let kr = keeps n r e in
     let fits = kr .mark-fits in
     record {
-      is-mark = fits-le (r .busy) (r .dirty) (r .held) fits;
+      is-mark = fits-le (r .busy) (r .dirty) (r .masks .held) fits;
       none-dirty = λ m k l.
-          let z = eqb-true (r .dirty) 0 (ap (λ (x : ℕ). markFits x (r .dirty) (r .held)) (sym m) ∙ fits) in
-          sym (kept-state n r kr isDirty (λ o s h d. d && h) refl k l) ∙ ap (λ (x : ℕ). eqb x 1 && bit (r .held) k) z;
+          let z = eqb-true (r .dirty) 0 (ap (λ (x : ℕ). markFits x (r .dirty) (r .masks .held)) (sym m) ∙ fits) in
+          sym (kept-state n r kr isDirty (λ o s h d. d && h) refl k l) ∙ ap (λ (x : ℕ). eqb x 1 && bit (r .masks .held) k) z;
       none-held = λ m k l.
-          let z = eqb-true (r .held) 0 (ap (λ (x : ℕ). markFits x (r .dirty) (r .held)) (sym m) ∙ fits) in
+          let z = eqb-true (r .masks .held) 0 (ap (λ (x : ℕ). markFits x (r .dirty) (r .masks .held)) (sym m) ∙ fits) in
           sym (kept-state n r kr isHeld (λ o s h d. h) refl k l) ∙ ap (λ (x : ℕ). bit x k) z ∙ bit-none k;
     }
 

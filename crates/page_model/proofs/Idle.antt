@@ -2,42 +2,29 @@
 use mathlib.Core.Path.{_≡_, refl, sym, ap, ap₂, _∙_}
 use mathlib.Core.Bool.{Bool, true, false, _&&_, Bool·beq}
 use mathlib.Core.List.{_++_, map}
-use Prim.Native.Nat.{ℕ, _^_, _<_}
+use Prim.Native.Nat.{ℕ, _<_}
 use borrow.Author.Tests.{eqb-true}
 use lib.Dec.{eqb}
-use Rattle.bits.specs.Mask.{bit, digit, any, firstOf}
+use Rattle.bits.specs.Mask.{bit, digit}
 use Rattle.bits.proofs.Mask.{mask-of, bit-one, at-place, any-cong, first-cong, places-none}
 use Rattle.bits.proofs.Tautology.{beq-of, and-left, and-right}
 use Rattle.page_model.specs.declared.FrameRecord.{FrameRecord}
 use Rattle.page_model.specs.declared.Op.the-variants.{Flush, Purge}
 use Rattle.page_model.specs.Busy.{markAfter}
-use Rattle.page_model.specs.Record.{stateOf, encode, isHeld, isDirty, isStale}
+use Rattle.page_model.specs.Record.{stateOf, isHeld, isDirty, isStale}
 use Rattle.page_model.specs.Step.{isFlush, isPurge, cellOf, recordAfter, operations}
 use Rattle.page_model.specs.Table.{Step, read, write, ownOf}
 use Rattle.page_model.specs.Theorems.{Idle}
 use Rattle.page_model.proofs.Rules.{Keeps, flag, flag-digit, dirty-only, any-dirty, first-dirty}
 use Rattle.page_model.proofs.Cells.{Test, Agree, apart, nextTest, operationTest, at, next-law, operation-law, kept-state}
-
--- masks whose bits are the states after the step, the flag of whether one of these is dirty, and the first that is, make the record after it
-record-is : (n : ℕ) (s : Step) (r : FrameRecord) {h t d b c : ℕ} → h < 2 ^ n → t < 2 ^ n
-    → ((k : ℕ) → k < n → bit h k ≡ isHeld (cellOf s r k .next))
-    → ((k : ℕ) → k < n → bit t k ≡ isStale (cellOf s r k .next))
-    → d ≡ digit (any n (λ k. isDirty (cellOf s r k .next)))
-    → b ≡ markAfter s (r .busy)
-    → c ≡ firstOf n (λ k. isDirty (cellOf s r k .next))
-    → _≡_ {A = FrameRecord} (record { held = h; stale = t; dirty = d; busy = b; «dirty_colour» = c }) (recordAfter n s r)
-unfolding recordAfter encode
-record-is n s r lh lt eh et ed eb ec =
-    let eh′ = mask-of n _ (λ k. isHeld (cellOf s r k .next)) lh eh in
-    let et′ = mask-of n _ (λ k. isStale (cellOf s r k .next)) lt et in
-    λ i. record { held = eh′ i; stale = et′ i; dirty = ed i; busy = eb i; «dirty_colour» = ec i }
+use Rattle.page_model.proofs.Encoding.{encode-is}
 
 module _ (n : ℕ) (r : FrameRecord) (kr : Keeps n r) (c : ℕ) (lc : c < n) where
   -- a colour that is held is the dirty one, if one is
-  own-dirty : bit (r .held) c ≡ true → (k : ℕ) → (flag r && bit (r .held) k) ≡ (flag r && eqb c k)
+  own-dirty : bit (r .masks .held) c ≡ true → (k : ℕ) → (flag r && bit (r .masks .held) k) ≡ (flag r && eqb c k)
   own-dirty z k = go (flag r) refl
     where
-      go : (b : Bool) → flag r ≡ b → (b && bit (r .held) k) ≡ (b && eqb c k)
+      go : (b : Bool) → flag r ≡ b → (b && bit (r .masks .held) k) ≡ (b && eqb c k)
       go true e =
           let only = dirty-only n r kr e .1 in
           let own = eqb-true (r .«dirty_colour») c (sym (bit-one _ c) ∙ ap (λ (m : ℕ). bit m c) (sym only) ∙ z) in
@@ -48,9 +35,9 @@ module _ (n : ℕ) (r : FrameRecord) (kr : Keeps n r) (c : ℕ) (lc : c < n) whe
   abbrev ownHeld : Test
   ownHeld o s h d = apart o s h d && Bool·beq (o && h) o && Bool·beq (d && h) (d && o)
 
-  own-held : bit (r .held) c ≡ true → (k : ℕ) → k < n → at r c k ownHeld ≡ true
+  own-held : bit (r .masks .held) c ≡ true → (k : ℕ) → k < n → at r c k ownHeld ≡ true
   own-held z k l =
-      ap₂ _&&_ (ap₂ _&&_ (kr .apart k l) (beq-of _ _ (at-place (bit (r .held)) c k ∙ ap (λ (b : Bool). b && eqb c k) z))) (beq-of _ _ (own-dirty z k))
+      ap₂ _&&_ (ap₂ _&&_ (kr .apart k l) (beq-of _ _ (at-place (bit (r .masks .held)) c k ∙ ap (λ (b : Bool). b && eqb c k) z))) (beq-of _ _ (own-dirty z k))
 
   -- a row that keeps the states of colours of which given holds, where c is held
   idle-of : (step : Step) (given : Test) → (holds : (k : ℕ) → k < n → at r (ownOf step) k given ≡ true)
@@ -61,17 +48,17 @@ module _ (n : ℕ) (r : FrameRecord) (kr : Keeps n r) (c : ℕ) (lc : c < n) whe
       → Agree given (λ o s h d. false) (operationTest step isPurge)
       → r .busy ≡ markAfter step (r .busy)
       → Idle n step r
-  unfolding operations
+  unfolding operations recordAfter
   idle-of step given holds eh es ed ef ep eb =
       let next = next-law n r step given holds in
       let dirties = next isDirty (λ o s h d. d && h) ed in
       let operation = operation-law n r step given holds in (
         ap₂ _++_ (ap (map Flush) (places-none n _ (λ k l. sym (operation isFlush (λ o s h d. false) ef k l)))) (ap (map Purge) (places-none n _ (λ k l. sym (operation isPurge (λ o s h d. false) ep k l)))),
-        sym (record-is n step r (kr .held-lt) (kr .stale-lt) (next isHeld (λ o s h d. h) eh) (next isStale (λ o s h d. s) es)
+        sym (encode-is n _ _ r (mask-of n _ _ (kr .held-lt) (next isHeld (λ o s h d. h) eh)) (mask-of n _ _ (kr .stale-lt) (next isStale (λ o s h d. s) es))
             (flag-digit (kr .flag-le) ∙ ap digit (sym (any-dirty n r kr) ∙ any-cong n _ _ dirties)) eb (sym (first-dirty n r kr) ∙ first-cong n _ _ dirties)),
       )
 
-  pub read-idle : bit (r .held) c ≡ true → Idle n (read c) r
+  pub read-idle : bit (r .masks .held) c ≡ true → Idle n (read c) r
   read-idle z = idle-of (read c) ownHeld (own-held z) refl refl refl refl refl refl
 
   pub write-idle : isDirty (stateOf r c) ≡ true → Idle n (write c) r

@@ -10,7 +10,7 @@ use Rattle.bits.specs.Mask.{bit, withBit, maskOf}
 use Rattle.bits.proofs.Mask.{mask-of, maskOf-lt, bit-maskOf, bit-none, bit-and, bit-or, bit-xor, bit-with}
 use Rattle.page_model.specs.declared.masks.Masks.{Masks}
 use Rattle.page_model.specs.declared.masks.Classes.{Classes}
-use Rattle.page_model.specs.Masks.{inHeld, inStale, withClass, numberAt, moved}
+use Rattle.page_model.specs.Masks.{noMasks, inHeld, inStale, withClass, numberAt, moved}
 
 -- a mask if a test holds, and else the empty one
 bit-if : (b : Bool) (m k : ℕ) → bit (cond b m 0) k ≡ (bit m k && b)
@@ -76,6 +76,6 @@ module _ (n c : ℕ) (to : Classes) (m : Masks) where
       (or-lt n _ _ (if-lt n (p (to .own)) own own-lt) (pow-pos n)))))
       (λ k l. simp (bit-or, bit-if, bit-and, bit-xor, bit-with, bit-none) (rw (bit-maskOf n (λ j. true) k l) (one-class p to (eqb c k) (bit (m .stale) k) (bit (m .held) k))))
 
-  pub moved-is : withClass (withClass (withClass (withClass (record { held = 0; stale = 0 }) own (to .own)) stale (to .stale)) held (to .held)) empty (to .empty) ≡ moved n c to m
+  pub moved-is : withClass (withClass (withClass (withClass noMasks own (to .own)) stale (to .stale)) held (to .held)) empty (to .empty) ≡ moved n c to m
   unfolding moved
   moved-is = λ i. record { held = gathered inHeld i; stale = gathered inStale i }

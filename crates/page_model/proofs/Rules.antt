@@ -20,21 +20,21 @@ flag r = eqb (r .dirty) 1
 
 -- the parts of `keepsRules`
 pub record Keeps (n : ℕ) (r : FrameRecord) : Type 0 where
-  pub held-lt : r .held < 2 ^ n
-  pub stale-lt : r .stale < 2 ^ n
-  pub apart : (k : ℕ) → k < n → not (bit (r .held) k && bit (r .stale) k) ≡ true
+  pub held-lt : r .masks .held < 2 ^ n
+  pub stale-lt : r .masks .stale < 2 ^ n
+  pub apart : (k : ℕ) → k < n → not (bit (r .masks .held) k && bit (r .masks .stale) k) ≡ true
   pub flag-le : r .dirty ≤ 1
-  pub one-held : (not (flag r) || eqb (countOf n (bit (r .held))) 1) ≡ true
-  pub mark-fits : markFits (r .busy) (r .dirty) (r .held) ≡ true
+  pub one-held : (not (flag r) || eqb (countOf n (bit (r .masks .held))) 1) ≡ true
+  pub mark-fits : markFits (r .busy) (r .dirty) (r .masks .held) ≡ true
   pub dirty-colour-is : r .«dirty_colour» ≡ dirtyColourOf n r
 
 pub keeps : (n : ℕ) (r : FrameRecord) → keepsRules n r ≡ true → Keeps n r
 unfolding keepsRules
 keeps n r e =
     record {
-      held-lt = ltb-true (r .held) (2 ^ n) (search (and-left, and-right));
-      stale-lt = ltb-true (r .stale) (2 ^ n) (search (and-left, and-right));
-      apart = all-at n (λ k. not (bit (r .held) k && bit (r .stale) k)) (search (and-left, and-right));
+      held-lt = ltb-true (r .masks .held) (2 ^ n) (search (and-left, and-right));
+      stale-lt = ltb-true (r .masks .stale) (2 ^ n) (search (and-left, and-right));
+      apart = all-at n (λ k. not (bit (r .masks .held) k && bit (r .masks .stale) k)) (search (and-left, and-right));
       flag-le = leb-true (r .dirty) 1 (search (and-left, and-right));
       one-held = search (and-left, and-right);
       mark-fits = search (and-left, and-right);
@@ -52,18 +52,18 @@ kept n r k =
 
 -- the colours' rules by operations on whole masks
 pub rules-are : (n : ℕ) (r : FrameRecord) → coloursKeepRules n r
-    ≡ (ltb (bitOr (r .held) (r .stale)) (2 ^ n) && (eqb (bitAnd (r .held) (r .stale)) 0 && leb (r .dirty) 1 && (not (flag r) || eqb (ones (r .held)) 1)))
+    ≡ (ltb (bitOr (r .masks .held) (r .masks .stale)) (2 ^ n) && (eqb (bitAnd (r .masks .held) (r .masks .stale)) 0 && leb (r .dirty) 1 && (not (flag r) || eqb (ones (r .masks .held)) 1)))
 unfolding coloursKeepRules
-rules-are n r = go (ltb (r .held) (2 ^ n)) (ltb (r .stale) (2 ^ n)) refl refl
+rules-are n r = go (ltb (r .masks .held) (2 ^ n)) (ltb (r .masks .stale) (2 ^ n)) refl refl
   where
     Rules : Bool → Type 0
-    Rules fits = coloursKeepRules n r ≡ (fits && (eqb (bitAnd (r .held) (r .stale)) 0 && leb (r .dirty) 1 && (not (flag r) || eqb (ones (r .held)) 1)))
+    Rules fits = coloursKeepRules n r ≡ (fits && (eqb (bitAnd (r .masks .held) (r .masks .stale)) 0 && leb (r .dirty) 1 && (not (flag r) || eqb (ones (r .masks .held)) 1)))
 
-    go : (h s : Bool) → ltb (r .held) (2 ^ n) ≡ h → ltb (r .stale) (2 ^ n) ≡ s → Rules (ltb (bitOr (r .held) (r .stale)) (2 ^ n))
+    go : (h s : Bool) → ltb (r .masks .held) (2 ^ n) ≡ h → ltb (r .masks .stale) (2 ^ n) ≡ s → Rules (ltb (bitOr (r .masks .held) (r .masks .stale)) (2 ^ n))
     go true true eh es =
-        let lh = ltb-true (r .held) (2 ^ n) eh in
+        let lh = ltb-true (r .masks .held) (2 ^ n) eh in
         rw (or-within, eh, es)
-        (ap₂ _&&_ (ap (λ (b : Bool). b && leb (r .dirty) 1) (disjoint-all n (r .held) (r .stale) lh)) (ap (λ (m : ℕ). not (flag r) || eqb m 1) (sym (ones-bits n (r .held) lh))))
+        (ap₂ _&&_ (ap (λ (b : Bool). b && leb (r .dirty) 1) (disjoint-all n (r .masks .held) (r .masks .stale) lh)) (ap (λ (m : ℕ). not (flag r) || eqb m 1) (sym (ones-bits n (r .masks .held) lh))))
     go true false eh es = rw (or-within, eh, es)
     go false s eh es = rw (or-within, eh)
 
@@ -76,51 +76,51 @@ or-false-left true b z e = absurd (false≢true (sym z))
 or-false-left false b z e = e
 
 -- with the flag set the held mask is one bit, the first, whose place the trailing zeros are at any width that has room for it
-module _ (n : ℕ) (r : FrameRecord) (l : r .held < 2 ^ n) (one : (not (flag r) || eqb (countOf n (bit (r .held))) 1) ≡ true) (z : flag r ≡ true) where
-  only : (firstOf n (bit (r .held)) < n) × (r .held ≡ 2 ^ firstOf n (bit (r .held)))
+module _ (n : ℕ) (r : FrameRecord) (l : r .masks .held < 2 ^ n) (one : (not (flag r) || eqb (countOf n (bit (r .masks .held))) 1) ≡ true) (z : flag r ≡ true) where
+  only : (firstOf n (bit (r .masks .held)) < n) × (r .masks .held ≡ 2 ^ firstOf n (bit (r .masks .held)))
   only =
-      let count = ones-bits n (r .held) l ∙ eqb-true _ _ (or-false-left (not (flag r)) _ (ap not z) one) in
-      let d = only-bit n (r .held) l count in
-      let some : r .held ≡ 0 → ⊥ = λ e. let p = pow-pos (trailingZeros n (r .held)) in let same = d .1 in omega arith in
-      subst (λ (x : ℕ). (x < n) × (r .held ≡ 2 ^ x)) (first-zeros n n (r .held) (omega arith) l some) d
+      let count = ones-bits n (r .masks .held) l ∙ eqb-true _ _ (or-false-left (not (flag r)) _ (ap not z) one) in
+      let d = only-bit n (r .masks .held) l count in
+      let some : r .masks .held ≡ 0 → ⊥ = λ e. let p = pow-pos (trailingZeros n (r .masks .held)) in let same = d .1 in omega arith in
+      subst (λ (x : ℕ). (x < n) × (r .masks .held ≡ 2 ^ x)) (first-zeros n n (r .masks .held) (omega arith) l some) d
 
-  first-held : (w : ℕ) → n ≤ w → trailingZeros w (r .held) ≡ firstOf n (bit (r .held))
-  first-held w few = first-zeros n w (r .held) few l (λ e. let p = pow-pos (firstOf n (bit (r .held))) in let same = only .1 in omega arith)
+  first-held : (w : ℕ) → n ≤ w → trailingZeros w (r .masks .held) ≡ firstOf n (bit (r .masks .held))
+  first-held w few = first-zeros n w (r .masks .held) few l (λ e. let p = pow-pos (firstOf n (bit (r .masks .held))) in let same = only .1 in omega arith)
 
 -- so the first held colour is found there
-pub told-colour : (n w : ℕ) (r : FrameRecord) → n ≤ w → coloursKeepRules n r ≡ true → cond (flag r) (trailingZeros w (r .held)) n ≡ dirtyColourOf n r
+pub told-colour : (n w : ℕ) (r : FrameRecord) → n ≤ w → coloursKeepRules n r ≡ true → cond (flag r) (trailingZeros w (r .masks .held)) n ≡ dirtyColourOf n r
 unfolding coloursKeepRules dirtyColourOf
 told-colour n w r few e = go (flag r) refl
   where
-    go : (b : Bool) → flag r ≡ b → cond b (trailingZeros w (r .held)) n ≡ cond b (firstOf n (bit (r .held))) n
-    go true z = first-held n r (ltb-true (r .held) (2 ^ n) (search (and-left, and-right))) (search (and-left, and-right)) z w few
+    go : (b : Bool) → flag r ≡ b → cond b (trailingZeros w (r .masks .held)) n ≡ cond b (firstOf n (bit (r .masks .held))) n
+    go true z = first-held n r (ltb-true (r .masks .held) (2 ^ n) (search (and-left, and-right))) (search (and-left, and-right)) z w few
     go false z = refl
 
 module _ (n : ℕ) (r : FrameRecord) (k : Keeps n r) where
   -- the dirty colour of a record with the flag set is the only one held
-  pub dirty-only : flag r ≡ true → (r .«dirty_colour» < n) × (r .held ≡ 2 ^ r .«dirty_colour»)
+  pub dirty-only : flag r ≡ true → (r .«dirty_colour» < n) × (r .masks .held ≡ 2 ^ r .«dirty_colour»)
   unfolding dirtyColourOf
   dirty-only z =
-      let told : r .«dirty_colour» ≡ firstOf n (bit (r .held)) = k .dirty-colour-is ∙ ap (λ (b : Bool). cond b (firstOf n (bit (r .held))) n) z in
-      subst (λ (x : ℕ). (x < n) × (r .held ≡ 2 ^ x)) (sym told) (only n r (k .held-lt) (k .one-held) z)
+      let told : r .«dirty_colour» ≡ firstOf n (bit (r .masks .held)) = k .dirty-colour-is ∙ ap (λ (b : Bool). cond b (firstOf n (bit (r .masks .held))) n) z in
+      subst (λ (x : ℕ). (x < n) × (r .masks .held ≡ 2 ^ x)) (sym told) (only n r (k .held-lt) (k .one-held) z)
 
-  pub dirty-at : (j : ℕ) → (flag r && bit (r .held) j) ≡ (flag r && eqb (r .«dirty_colour») j)
+  pub dirty-at : (j : ℕ) → (flag r && bit (r .masks .held) j) ≡ (flag r && eqb (r .«dirty_colour») j)
   dirty-at j = go (flag r) refl
     where
-      go : (b : Bool) → flag r ≡ b → (b && bit (r .held) j) ≡ (b && eqb (r .«dirty_colour») j)
+      go : (b : Bool) → flag r ≡ b → (b && bit (r .masks .held) j) ≡ (b && eqb (r .«dirty_colour») j)
       go true z = ap (λ (m : ℕ). bit m j) (dirty-only z .1) ∙ bit-one _ j
       go false z = refl
 
   -- and of one without it there is none
   pub no-dirty-colour : flag r ≡ false → r .«dirty_colour» ≡ n
   unfolding dirtyColourOf
-  no-dirty-colour z = k .dirty-colour-is ∙ ap (λ (b : Bool). cond b (firstOf n (bit (r .held))) n) z
+  no-dirty-colour z = k .dirty-colour-is ∙ ap (λ (b : Bool). cond b (firstOf n (bit (r .masks .held))) n) z
 
   -- some colour is dirty if the flag is set, and the first one is the one written
-  pub any-dirty : any n (λ j. flag r && bit (r .held) j) ≡ flag r
+  pub any-dirty : any n (λ j. flag r && bit (r .masks .held) j) ≡ flag r
   any-dirty = any-one n (r .«dirty_colour») (flag r) _ (λ z. dirty-only z .0) (λ j l. dirty-at j)
 
-  pub first-dirty : firstOf n (λ j. flag r && bit (r .held) j) ≡ r .«dirty_colour»
+  pub first-dirty : firstOf n (λ j. flag r && bit (r .masks .held) j) ≡ r .«dirty_colour»
   first-dirty = first-one n (r .«dirty_colour») (flag r) _ (λ z. dirty-only z .0) (λ j l. dirty-at j) ∙ go (flag r) refl
     where
       go : (b : Bool) → flag r ≡ b → cond b (r .«dirty_colour») n ≡ r .«dirty_colour»

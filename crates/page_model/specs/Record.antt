@@ -1,11 +1,12 @@
 -- Document 01, "Frame records and mapping list", with request N6's busy mark and request N7's dirty colour: what a frame's record says of each
 -- colour, when it keeps the rules, and the record that states and a mark encode to. For any number n of colours.
 use mathlib.Core.Bool.{Bool, true, false, cond, not, _&&_, _||_}
-use Prim.Native.Nat.{ℕ, zero, suc, _^_}
-use lib.Dec.{eqb, leb, ltb}
-use Rattle.bits.specs.Mask.{bit, digit, maskOf, countOf, all, any, firstOf}
+use Prim.Native.Nat.{ℕ, zero, suc}
+use lib.Dec.{eqb, leb}
+use Rattle.bits.specs.Mask.{bit, digit, countOf, any, firstOf}
 use Rattle.page_model.specs.declared.FrameRecord.{FrameRecord}
 use Rattle.page_model.specs.Busy.{free}
+use Rattle.page_model.specs.Masks.{noMasks, masksOf, masksKeepRules}
 use Rattle.page_model.specs.Table.{ColourState, empty, present, dirty, stale}
 
 -- ---- decoding
@@ -18,17 +19,16 @@ stateFrom false true false = present
 stateFrom false false flag = empty
 
 unfoldable pub stateOf : FrameRecord → ℕ → ColourState
-stateOf r k = stateFrom (bit (r .stale) k) (bit (r .held) k) (eqb (r .dirty) 1)
+stateOf r k = stateFrom (bit (r .masks .stale) k) (bit (r .masks .held) k) (eqb (r .dirty) 1)
 
 -- ---- the rules
 
 -- No bit stands past the colours, none in both masks, the flag is 0 or 1, and with the flag set the held mask has exactly one bit.
 unfoldable pub coloursKeepRules : ℕ → FrameRecord → Bool
 coloursKeepRules n r =
-    ltb (r .held) (2 ^ n) && ltb (r .stale) (2 ^ n)
-    && all n (λ k. not (bit (r .held) k && bit (r .stale) k))
+    masksKeepRules n (r .masks)
     && leb (r .dirty) 1
-    && (not (eqb (r .dirty) 1) || eqb (countOf n (bit (r .held))) 1)
+    && (not (eqb (r .dirty) 1) || eqb (countOf n (bit (r .masks .held))) 1)
 
 -- A frame is free, a device reads it, with no colour dirty, or writes it, with none held or dirty: by mark, flag and held mask.
 abbrev pub markFits : ℕ → ℕ → ℕ → Bool
@@ -39,11 +39,11 @@ markFits (suc (suc (suc mark))) flag held = false
 
 -- The dirty colour that flag and held mask tell: with the flag set the place of the held bit, and without it n, for none.
 unfoldable pub dirtyColourOf : ℕ → FrameRecord → ℕ
-dirtyColourOf n r = cond (eqb (r .dirty) 1) (firstOf n (bit (r .held))) n
+dirtyColourOf n r = cond (eqb (r .dirty) 1) (firstOf n (bit (r .masks .held))) n
 
 unfoldable pub keepsRules : ℕ → FrameRecord → Bool
 unfolding coloursKeepRules dirtyColourOf
-keepsRules n r = coloursKeepRules n r && markFits (r .busy) (r .dirty) (r .held) && eqb (r .«dirty_colour») (dirtyColourOf n r)
+keepsRules n r = coloursKeepRules n r && markFits (r .busy) (r .dirty) (r .masks .held) && eqb (r .«dirty_colour») (dirtyColourOf n r)
 
 -- ---- encoding
 
@@ -69,8 +69,7 @@ isStale stale = true
 unfoldable pub encode : ℕ → ℕ → (ℕ → ColourState) → FrameRecord
 encode n mark states =
     record {
-      held = maskOf n (λ k. isHeld (states k));
-      stale = maskOf n (λ k. isStale (states k));
+      masks = masksOf n (λ k. isHeld (states k)) (λ k. isStale (states k));
       dirty = digit (any n (λ k. isDirty (states k)));
       busy = mark;
       «dirty_colour» = firstOf n (λ k. isDirty (states k));
@@ -78,8 +77,8 @@ encode n mark states =
 
 -- the record that every frame has at the start
 abbrev pub startRecord : ℕ → FrameRecord
-startRecord n = record { held = 0; stale = 0; dirty = 0; busy = free; «dirty_colour» = n }
+startRecord n = record { masks = noMasks; dirty = 0; busy = free; «dirty_colour» = n }
 
 -- the record once its transfer has ended
 abbrev pub freed : FrameRecord → FrameRecord
-freed r = record { held = r .held; stale = r .stale; dirty = r .dirty; busy = free; «dirty_colour» = r .«dirty_colour» }
+freed r = record { masks = r .masks; dirty = r .dirty; busy = free; «dirty_colour» = r .«dirty_colour» }

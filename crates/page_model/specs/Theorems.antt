@@ -55,7 +55,7 @@ DirtyColour = (n : ℕ) (r : FrameRecord) → keepsRules n r ≡ true → (r .«
 
 -- the other fields alone say each state, the operations of a step and the record after it: another dirty colour changes none
 abbrev pub withDirtyColour : FrameRecord → ℕ → FrameRecord
-withDirtyColour r c = record { held = r .held; stale = r .stale; dirty = r .dirty; busy = r .busy; «dirty_colour» = c }
+withDirtyColour r c = record { masks = r .masks; dirty = r .dirty; busy = r .busy; «dirty_colour» = c }
 
 abbrev pub DirtyColourAside : Type 0
 DirtyColourAside =

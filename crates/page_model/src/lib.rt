@@ -1,6 +1,6 @@
 // The page model: a frame's record, and what each step makes of it.
 pub mod busy;
-mod masks;
+pub mod masks;
 mod table;
 
 ghost use mathlib.Core.Path.{_≡_};
@@ -32,11 +32,10 @@ pub struct Ops {
     pub second: Op,
 }
 
-// What is known of a frame in the cache: bit c of a mask stands for colour c, and dirty is 0 or 1. The mark busy is 0 where the frame is free, 1
-// while a device reads it and 2 while a device writes it. The dirty colour is the number of colours where none is dirty.
+// What is known of a frame in the cache: the masks of its held and its stale colours, and dirty, 0 or 1. The mark busy is 0 where the frame is free,
+// 1 while a device reads it and 2 while a device writes it. The dirty colour is the number of colours where none is dirty.
 pub struct FrameRecord {
-    pub held: u32,
-    pub stale: u32,
+    pub masks: Masks,
     pub dirty: u32,
     pub busy: u32,
     pub dirty_colour: u32,
@@ -54,7 +53,7 @@ impl FrameRecord {
         requires { ⌜ colours ≤ width ⌝ }
         ensures { λ r. ⌜ r ≡ keepsRules colours self ⌝ }
     {
-        if !busy::mark_fits(self.busy, self.dirty, self.held) {
+        if !busy::mark_fits(self.busy, self.dirty, self.masks.held) {
             return false;
         }
         if !self.colours_keep_rules(colours) {
@@ -68,24 +67,24 @@ impl FrameRecord {
         requires { ⌜ colours ≤ width ⌝ }
         ensures { λ r. ⌜ r ≡ coloursKeepRules colours self ⌝ }
     {
-        if !bits::within(self.held | self.stale, colours) {
+        if !bits::within(self.masks.held | self.masks.stale, colours) {
             return false;
         }
-        if self.held & self.stale != 0 {
+        if self.masks.held & self.masks.stale != 0 {
             return false;
         }
         if self.dirty == 0 {
             return true;
         }
-        self.dirty == 1 && u32::count_ones(self.held) == 1
+        self.dirty == 1 && u32::count_ones(self.masks.held) == 1
     }
 
     // The dirty colour that flag and held mask tell: with the flag set the first held one, and without it none, by its number.
     fn told_colour(self, none: u32) -> u32
-        ensures { λ r. ⌜ r ≡ cond (eqb (self .dirty) 1) (trailingZeros width (self .held)) none ⌝ }
+        ensures { λ r. ⌜ r ≡ cond (eqb (self .dirty) 1) (trailingZeros width (self .masks .held)) none ⌝ }
     {
         if self.dirty == 1 {
-            u32::trailing_zeros(self.held)
+            u32::trailing_zeros(self.masks.held)
         } else {
             none
         }
@@ -153,9 +152,9 @@ impl FrameRecord {
     pub fn end(self) -> FrameRecord
         ensures { λ r. ⌜ r ≡ freed self ⌝ }
     {
+        let masks = self.masks;
         FrameRecord {
-            held: self.held,
-            stale: self.stale,
+            masks,
             dirty: self.dirty,
             busy: busy::FREE,
             dirty_colour: self.dirty_colour,
@@ -181,7 +180,7 @@ impl FrameRecord {
         requires { ⌜ colour < width ⌝ }
         ensures { λ r. ⌜ r ≡ isHeld (stateOf self colour) ⌝ }
     {
-        bits::bit(self.held, colour) & !bits::bit(self.stale, colour)
+        bits::bit(self.masks.held, colour) & !bits::bit(self.masks.stale, colour)
     }
 
     // Whether a colour is dirty, in any record.
@@ -209,16 +208,12 @@ impl FrameRecord {
             stale: stale.1,
             empty: empty.1,
         };
-        let masks = Masks {
-            held: self.held,
-            stale: self.stale,
-        };
+        let masks = self.masks;
         let after = masks.moved(colours, colour, to);
         let dirty_colour = self.dirty_colour as usize;
         let dirty = own.1 == table::DIRTY;
         let next = FrameRecord {
-            held: after.held,
-            stale: after.stale,
+            masks: after,
             dirty: pick(dirty, 1, 0),
             busy: busy::mark_at(step, self.busy),
             dirty_colour: pick(dirty, colour as u32, colours as u32),
@@ -245,10 +240,10 @@ impl FrameRecord {
         requires { ⌜ colour < width ⌝ }
         ensures { λ r. ⌜ r ≡ stateNumber (stateOf self colour) ⌝ }
     {
-        if bits::bit(self.stale, colour) {
+        if bits::bit(self.masks.stale, colour) {
             return table::STALE;
         }
-        if bits::bit(self.held, colour) {
+        if bits::bit(self.masks.held, colour) {
             if self.dirty == 1 {
                 table::DIRTY
             } else {

@@ -13,7 +13,7 @@ use Rattle.page_model.proofs.FrameRecord.keeps_rules.Statement.{stateme
 use Rattle.page_model.proofs.FrameRecord.keeps_rules.Tie as tie
 
 -- the rules as the three parts that are tested in turn
-rules-are : (n : ℕ) (r : FrameRecord) {colours mark : Bool} → coloursKeepRules n r ≡ colours → markFits (r .busy) (r .dirty) (r .held) ≡ mark
+rules-are : (n : ℕ) (r : FrameRecord) {colours mark : Bool} → coloursKeepRules n r ≡ colours → markFits (r .busy) (r .dirty) (r .masks .held) ≡ mark
     → (colours && mark && eqb (r .«dirty_colour») (dirtyColourOf n r)) ≡ keepsRules n r
 unfolding keepsRules
 rules-are n r ec em = λ i. sym ec i && sym em i && eqb (r .«dirty_colour») (dirtyColourOf n r)

@@ -21,7 +21,7 @@ returns c s step own reaches rules =
     let at-mark = at-colour .before in
     let at-dirty = at-mark .before in
     let at-moved = at-dirty .before .before .before in
-    let at-empty = at-moved .before in
+    let at-empty = at-moved .before .before in
     let at-stale = at-empty .before in
     let at-held = at-stale .before in
     let at-own = at-held .before .before in
@@ -33,13 +33,13 @@ returns c s step own reaches rules =
     let stale-case = at-stale .case-at3 .ensures ∙ ap (λ (k : ℕ). caseAt k false (stateNumber stale)) step ∙ case-cell (stepNumber s) false stale in
     let empty-case = at-empty .case-at4 .ensures ∙ ap (λ (k : ℕ). caseAt k false (stateNumber empty)) step ∙ case-cell (stepNumber s) false empty in
     let after = at-moved .moved .ensures
-    ∙ (λ i. moved (a .colours) (own i) (record { own = own-case i .1; held = held-case i .1; stale = stale-case i .1; empty = empty-case i .1 }) (record { held = r .held; stale = r .stale })) in
+    ∙ (λ i. moved (a .colours) (own i) (record { own = own-case i .1; held = held-case i .1; stale = stale-case i .1; empty = empty-case i .1 }) (r .masks)) in
     let flag = at-dirty .pick .ensures ∙ (λ i. cond (eqb (own-case i .1) (stateNumber dirty)) 1 0) in
     let mark = at-mark .mark-at .ensures ∙ ap (λ (k : ℕ). markAt k (r .busy)) step ∙ mark-number s (r .busy) in
     let dirty-colour = at-colour .pick2 .ensures ∙ (λ i. cond (eqb (own-case i .1) (stateNumber dirty)) (own i) (a .colours)) in
     rw (c .first-two .ensures)
     (step-is (a .colours) r kr s reaches
-    (λ i. record { held = after i .held; stale = after i .stale; dirty = flag i; busy = mark i; «dirty_colour» = dirty-colour i })
+    (λ i. record { masks = after i; dirty = flag i; busy = mark i; «dirty_colour» = dirty-colour i })
     (at-elsewhere .elsewhere .ensures ∙ (λ i. cond (eqb (r .«dirty_colour») (own i)) None (operationAt (held-case i .0) (r .«dirty_colour»))))
     (c .before .operation .ensures ∙ (λ i. operationAt (own-case i .0) (own i))))
 
