@@ -62,7 +62,7 @@ mark-after n (read c) r e f =
       none-dirty = λ m k l.
           sym (kept-next n r (keeps n r e) (read c) isDirty (λ o s h d. o && (h && d)) refl k l)
           ∙ ap (λ (b : Bool). eqb c k && b)
-          (at-law r 0 k apart (λ o s h d. h && d) (stateTest isDirty) refl (keeps n r e .apart k l) ∙ before .none-dirty m k l)
+          (at-law r 0 k apart (λ o s h d. h && d) (stateTest isDirty) refl (keeps n r e .masks .apart k l) ∙ before .none-dirty m k l)
           ∙ and-false (eqb c k);
       none-held = λ m. absurd (writes m);
     }

@@ -75,14 +75,14 @@ module _ (n : ℕ) (r : FrameRecord) (step : Step) (given : Test) (holds : (k : 
 -- the same of a record that keeps the rules
 module _ (n : ℕ) (r : FrameRecord) (kr : Keeps n r) where
   pub kept-state : (f : ColourState → Bool) (p : Test) → Agree apart p (stateTest f) → (k : ℕ) → k < n → at r 0 k p ≡ f (stateOf r k)
-  kept-state f p e k l = state-law r k apart f p e (kr .apart k l)
+  kept-state f p e k l = state-law r k apart f p e (kr .masks .apart k l)
 
   pub kept-next : (step : Step) (f : ColourState → Bool) (p : Test) → Agree apart p (nextTest step f) → (k : ℕ) → k < n → at r (ownOf step) k p ≡ f (cellOf step r k .next)
-  kept-next step = next-law n r step apart (kr .apart)
+  kept-next step = next-law n r step apart (kr .masks .apart)
 
   pub kept-operation : (step : Step) (f : Operation → Bool) (p : Test) → Agree apart p (operationTest step f) → (k : ℕ) → k < n
       → at r (ownOf step) k p ≡ f (cellOf step r k .operation)
-  kept-operation step = operation-law n r step apart (kr .apart)
+  kept-operation step = operation-law n r step apart (kr .masks .apart)
 
 -- what computes to true at the four states holds of each
 pub each-state : (p : ColourState → Bool) → (p empty && p present && p dirty && p stale) ≡ true → (s : ColourState) → p s ≡ true

@@ -8,7 +8,7 @@ use native.Mathlib.Omega.{arith}
 use borrow.Author.Tests.{eqb-true, eqb-false, eq-eqb, ne-eqb}
 use lib.Dec.{eqb}
 use Rattle.bits.specs.Mask.{bit, digit, all, placesOf}
-use Rattle.bits.proofs.Mask.{maskOf-cong, bit-past, bit-one, at-place, all-at, any-one, first-one, places-none, places-one}
+use Rattle.bits.proofs.Mask.{bit-past, bit-one, at-place, all-at, any-one, first-one, places-none, places-one}
 use Rattle.bits.proofs.Tautology.{all4, equalIf, law4}
 use Rattle.page_model.specs.declared.FrameRecord.{FrameRecord}
 use Rattle.page_model.specs.declared.masks.Classes.{Classes}
@@ -23,6 +23,7 @@ use Rattle.page_model.specs.Table.{ColourState, empty, present, dirty, s
 use Rattle.page_model.proofs.Rules.{Keeps, flag, dirty-only, dirty-at}
 use Rattle.page_model.proofs.Cells.{Test, Agree, apart, row-cell, nextTest, operationTest, kept-next, kept-operation}
 use Rattle.page_model.proofs.Encoding.{encode-is}
+use Rattle.page_model.proofs.Moving.{masksOf-cong}
 
 -- ---- the numbers
 
@@ -101,7 +102,7 @@ of-number stale x y = (refl, refl, refl, refl)
 -- a colour past the board's is empty, and only a transfer goes through it
 past-state : (n : ℕ) (r : FrameRecord) → Keeps n r → (k : ℕ) → n ≤ k → stateOf r k ≡ empty
 unfolding stateOf
-past-state n r kr k l = rw (bit-past n (r .masks .stale) k (kr .stale-lt) l, bit-past n (r .masks .held) k (kr .held-lt) l)
+past-state n r kr k l = rw (bit-past n (r .masks .stale) k (kr .masks .stale-lt) l, bit-past n (r .masks .held) k (kr .masks .held-lt) l)
 
 past-own : (n : ℕ) (r : FrameRecord) → Keeps n r → (s : Step) → reach s ≤ n → n ≤ ownOf s → ownCell (stepNumber s) (stateOf r (ownOf s)) ≡ none ⇒ empty
 past-own n r kr (read c) t l = absurd (omega arith)
@@ -227,27 +228,23 @@ module _ (n : ℕ) (r : FrameRecord) (kr : Keeps n r) (s : Step) (reaches : reac
   unfolding stateOf
   dirty-is k l = sym (kept-next n r kr s isDirty (dirtyAfter (stepNumber s)) (dirty-after s) k l) ∙ sym (at-own (λ x. isDirty (x .next)) k)
 
-  -- the record that the code makes of them
-  abbrev nextNow : FrameRecord
-  nextNow =
-      record {
-        masks = moved n c to (r .masks);
-        dirty = cond (eqb (to .own) (stateNumber dirty)) 1 0;
-        busy = markAfter s (r .busy);
-        «dirty_colour» = cond (eqb (to .own) (stateNumber dirty)) c n;
-      }
-
-  step-record : nextNow ≡ recordAfter n s r
+  -- the record that the code makes of them, by its parts
+  pub step-record : (next : FrameRecord)
+      → next .masks ≡ moved n c to (r .masks)
+      → next .dirty ≡ cond (eqb (to .own) (stateNumber dirty)) 1 0
+      → next .busy ≡ markAfter s (r .busy)
+      → next .«dirty_colour» ≡ cond (eqb (to .own) (stateNumber dirty)) c n
+      → next ≡ recordAfter n s r
   unfolding recordAfter moved
-  step-record =
+  step-record next masks flag mark colour =
       let below = own-below (λ x. isDirty (x .next)) refl in
       let own = of-number (ownNow .next) c n in
-      encode-is n (markAfter s (r .busy)) (λ k. cellOf s r k .next) nextNow
-      (maskOf-cong n _ _ (λ k l. ap inHeld (number-at k) ∙ of-number (cellOf s r k .next) 0 0 .0))
-      (maskOf-cong n _ _ (λ k l. ap inStale (number-at k) ∙ of-number (cellOf s r k .next) 0 0 .1))
-      (own .3 ∙ ap digit (sym (any-one n c (isDirty (ownNow .next)) _ below dirty-is)))
-      refl
-      (own .2 ∙ sym (first-one n c (isDirty (ownNow .next)) _ below dirty-is))
+      encode-is n (markAfter s (r .busy)) (λ k. cellOf s r k .next) next
+      (masks
+      ∙ masksOf-cong n _ _ _ _ (λ k l. ap inHeld (number-at k) ∙ of-number (cellOf s r k .next) 0 0 .0) (λ k l. ap inStale (number-at k) ∙ of-number (cellOf s r k .next) 0 0 .1))
+      (flag ∙ own .3 ∙ ap digit (sym (any-one n c (isDirty (ownNow .next)) _ below dirty-is)))
+      mark
+      (colour ∙ own .2 ∙ sym (first-one n c (isDirty (ownNow .next)) _ below dirty-is))
 
   -- the operation on the dirty colour, if that is not the own colour
   abbrev onDirty : Operation
@@ -299,10 +296,10 @@ module _ (n : ℕ) (r : FrameRecord) (kr : Keeps n r) (s : Step) (reaches : reac
       (picks isFlush refl (flush-after s)) (picks isPurge refl (purge-after s))
 
   pub step-is : {next : FrameRecord} {first second : Op}
-      → next ≡ nextNow
+      → next ≡ recordAfter n s r
       → first ≡ cond (eqb (r .«dirty_colour») c) None (operationAt (operationNumber (othersNow .operation)) (r .«dirty_colour»))
       → second ≡ operationAt (operationNumber (ownNow .operation)) c
       → record { next = next; ops = firstTwo (opList first ++ opList second) } ≡ stepped n s r
   step-is next first second =
       let ops = ap₂ (λ (a b : Op). opList a ++ opList b) first second ∙ step-operations in
-      λ i. record { next = (next ∙ step-record) i; ops = firstTwo (ops i) }
+      λ i. record { next = next i; ops = firstTwo (ops i) }

@@ -7,26 +7,27 @@ use borrow.Author.Tests.{eq-eqb, ne-eqb, eqb-true}
 use lib.Dec.{eqb}
 use lib.Pow.{pow-pos}
 use Rattle.bits.specs.Mask.{bit, digit, maskOf, countOf, any, firstOf}
-use Rattle.bits.proofs.Mask.{mask-of, maskOf-lt, bit-maskOf, any-cong, any-none, any-false, any-of, any-at, first-cong, first-none, first-one, first-at, one-countOf, digit-lt, eqb-digit, bit-none}
+use Rattle.bits.proofs.Mask.{mask-of, bit-maskOf, any-cong, any-none, any-false, any-of, any-at, first-cong, first-none, first-one, first-at, one-countOf, digit-lt, eqb-digit, bit-none}
 use Rattle.bits.proofs.Tautology.{and-right}
 use Rattle.page_model.specs.declared.FrameRecord.{FrameRecord}
+use Rattle.page_model.specs.Masks.{masksOf}
 use Rattle.page_model.specs.Record.{stateFrom, stateOf, markFits, dirtyColourOf, encode, isHeld, isDirty, isStale, freed}
 use Rattle.page_model.specs.Step.{cellOf, recordAfter, operations}
 use Rattle.page_model.specs.Table.{ColourState, empty, present, dirty, stale}
 use Rattle.page_model.specs.Theorems.{EncodeDecode, OneDirty, MarkFits, DecodeEncode, KeptMark, FreedRecord, DirtyColour, DirtyColourAside}
 use Rattle.page_model.proofs.Rules.{Keeps, keeps, kept, flag, flag-digit, dirty-only, dirty-at, no-dirty-colour, any-dirty, first-dirty}
 use Rattle.page_model.proofs.Cells.{kept-state, each-state}
+use Rattle.page_model.proofs.Moving.{masksOf-keep, masksOf-is}
 
 -- the record whose every part is the one that states and a mark encode to
 pub encode-is : (n mark : ℕ) (states : ℕ → ColourState) (r : FrameRecord)
-    → r .masks .held ≡ maskOf n (λ k. isHeld (states k))
-    → r .masks .stale ≡ maskOf n (λ k. isStale (states k))
+    → r .masks ≡ masksOf n (λ k. isHeld (states k)) (λ k. isStale (states k))
     → r .dirty ≡ digit (any n (λ k. isDirty (states k)))
     → r .busy ≡ mark
     → r .«dirty_colour» ≡ firstOf n (λ k. isDirty (states k))
     → r ≡ encode n mark states
 unfolding encode
-encode-is n mark states r h t d b c = λ i. record { masks = record { held = h i; stale = t i }; dirty = d i; busy = b i; «dirty_colour» = c i }
+encode-is n mark states r m d b c = λ i. record { masks = m i; dirty = d i; busy = b i; «dirty_colour» = c i }
 
 -- ---- a record that is decoded and encoded
 
@@ -34,12 +35,11 @@ pub encode-decode : EncodeDecode
 encode-decode n r e =
     let kr = keeps n r e in
     let says = kept-state n r kr in
-    let h = mask-of n (r .masks .held) _ (kr .held-lt) (says isHeld (λ o s h d. h) refl) in
-    let t = mask-of n (r .masks .stale) _ (kr .stale-lt) (says isStale (λ o s h d. s) refl) in
+    let m = masksOf-is n _ _ (r .masks) (kr .masks) (says isHeld (λ o s h d. h) refl) (says isStale (λ o s h d. s) refl) in
     let dirties = says isDirty (λ o s h d. d && h) refl in
     let d = flag-digit (kr .flag-le) ∙ ap digit (sym (any-dirty n r kr) ∙ any-cong n _ _ dirties) in
     let c = sym (first-dirty n r kr) ∙ first-cong n _ _ dirties in
-    sym (encode-is n (r .busy) (stateOf r) r h t d refl c)
+    sym (encode-is n (r .busy) (stateOf r) r m d refl c)
 
 -- what the mark tells of flag and held mask
 fits-le : (mark flag held : ℕ) → markFits mark flag held ≡ true → mark ≤ 2
@@ -68,9 +68,7 @@ freed-record n r e =
     let kr = keeps n r e in (
       kept n (freed r)
           (record {
-            held-lt = kr .held-lt;
-            stale-lt = kr .stale-lt;
-            apart = kr .apart;
+            masks = kr .masks;
             flag-le = kr .flag-le;
             one-held = kr .one-held;
             mark-fits = refl;
@@ -129,9 +127,7 @@ module _ (n : ℕ) (states : ℕ → ColourState) (one : OneDirty n states) wher
   unfolding encode dirtyColourOf
   encode-keeps mark fits =
       record {
-        held-lt = maskOf-lt n _;
-        stale-lt = maskOf-lt n _;
-        apart = λ k l. ap not (ap₂ _&&_ (bit-maskOf n _ k l) (bit-maskOf n _ k l)) ∙ each-state (λ s. not (isHeld s && isStale s)) refl (states k);
+        masks = masksOf-keep n _ _ (λ k l. each-state (λ s. not (isHeld s && isStale s)) refl (states k));
         flag-le = omega (arith, digit-lt (any n (λ k. isDirty (states k))));
         one-held = single (any n (λ k. isDirty (states k))) refl;
         mark-fits = marked mark fits;

@@ -6,7 +6,7 @@ use Prim.Native.Nat.{ℕ, _<_}
 use borrow.Author.Tests.{eqb-true}
 use lib.Dec.{eqb}
 use Rattle.bits.specs.Mask.{bit, digit}
-use Rattle.bits.proofs.Mask.{mask-of, bit-one, at-place, any-cong, first-cong, places-none}
+use Rattle.bits.proofs.Mask.{bit-one, at-place, any-cong, first-cong, places-none}
 use Rattle.bits.proofs.Tautology.{beq-of, and-left, and-right}
 use Rattle.page_model.specs.declared.FrameRecord.{FrameRecord}
 use Rattle.page_model.specs.declared.Op.the-variants.{Flush, Purge}
@@ -18,6 +18,7 @@ use Rattle.page_model.specs.Theorems.{Idle}
 use Rattle.page_model.proofs.Rules.{Keeps, flag, flag-digit, dirty-only, any-dirty, first-dirty}
 use Rattle.page_model.proofs.Cells.{Test, Agree, apart, nextTest, operationTest, at, next-law, operation-law, kept-state}
 use Rattle.page_model.proofs.Encoding.{encode-is}
+use Rattle.page_model.proofs.Moving.{masksOf-is}
 
 module _ (n : ℕ) (r : FrameRecord) (kr : Keeps n r) (c : ℕ) (lc : c < n) where
   -- a colour that is held is the dirty one, if one is
@@ -37,7 +38,7 @@ module _ (n : ℕ) (r : FrameRecord) (kr : Keeps n r) (c : ℕ) (lc : c < n) whe
 
   own-held : bit (r .masks .held) c ≡ true → (k : ℕ) → k < n → at r c k ownHeld ≡ true
   own-held z k l =
-      ap₂ _&&_ (ap₂ _&&_ (kr .apart k l) (beq-of _ _ (at-place (bit (r .masks .held)) c k ∙ ap (λ (b : Bool). b && eqb c k) z))) (beq-of _ _ (own-dirty z k))
+      ap₂ _&&_ (ap₂ _&&_ (kr .masks .apart k l) (beq-of _ _ (at-place (bit (r .masks .held)) c k ∙ ap (λ (b : Bool). b && eqb c k) z))) (beq-of _ _ (own-dirty z k))
 
   -- a row that keeps the states of colours of which given holds, where c is held
   idle-of : (step : Step) (given : Test) → (holds : (k : ℕ) → k < n → at r (ownOf step) k given ≡ true)
@@ -54,7 +55,7 @@ module _ (n : ℕ) (r : FrameRecord) (kr : Keeps n r) (c : ℕ) (lc : c < n) whe
       let dirties = next isDirty (λ o s h d. d && h) ed in
       let operation = operation-law n r step given holds in (
         ap₂ _++_ (ap (map Flush) (places-none n _ (λ k l. sym (operation isFlush (λ o s h d. false) ef k l)))) (ap (map Purge) (places-none n _ (λ k l. sym (operation isPurge (λ o s h d. false) ep k l)))),
-        sym (encode-is n _ _ r (mask-of n _ _ (kr .held-lt) (next isHeld (λ o s h d. h) eh)) (mask-of n _ _ (kr .stale-lt) (next isStale (λ o s h d. s) es))
+        sym (encode-is n _ _ r (masksOf-is n _ _ (r .masks) (kr .masks) (next isHeld (λ o s h d. h) eh) (next isStale (λ o s h d. s) es))
             (flag-digit (kr .flag-le) ∙ ap digit (sym (any-dirty n r kr) ∙ any-cong n _ _ dirties)) eb (sym (first-dirty n r kr) ∙ first-cong n _ _ dirties)),
       )
 

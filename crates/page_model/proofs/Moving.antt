@@ -1,16 +1,56 @@
--- Masks moved class by class, as the code does it, are the masks of the states that the colours went to.
-use mathlib.Core.Path.{_≡_, sym, _∙_}
+-- The laws of two masks: when they keep the rules, which tests they are the masks of, and that moved class by class, as the code does it, they
+-- are those of the states that the colours went to.
+use mathlib.Core.Path.{_≡_, sym, ap, ap₂, _∙_}
 use mathlib.Core.Bool.{Bool, true, false, not, _&&_, _||_, cond, or-false, and-false, and-true}
 use Prim.Native.Nat.{ℕ, _^_, _<_}
 use native.Mathlib.Omega.{arith}
+use borrow.Author.Tests.{ltb-true, lt-ltb}
 use lib.Bits.{bitAnd, bitOr, bitXor, or-lt, xor-lt, and-le-l}
 use lib.Dec.{eqb}
 use lib.Pow.{pow-pos}
 use Rattle.bits.specs.Mask.{bit, withBit, maskOf}
-use Rattle.bits.proofs.Mask.{mask-of, maskOf-lt, bit-maskOf, bit-none, bit-and, bit-or, bit-xor, bit-with}
+use Rattle.bits.proofs.Mask.{all-at, all-of, mask-of, maskOf-lt, maskOf-cong, bit-maskOf, bit-none, bit-and, bit-or, bit-xor, bit-with}
+use Rattle.bits.proofs.Tautology.{and-left, and-right}
 use Rattle.page_model.specs.declared.masks.Masks.{Masks}
 use Rattle.page_model.specs.declared.masks.Classes.{Classes}
-use Rattle.page_model.specs.Masks.{noMasks, inHeld, inStale, withClass, numberAt, moved}
+use Rattle.page_model.specs.Masks.{noMasks, masksOf, masksKeepRules, inHeld, inStale, withClass, numberAt, moved}
+
+-- ---- the rules
+
+-- the parts of `masksKeepRules`
+pub record MasksKeep (n : ℕ) (m : Masks) : Type 0 where
+  pub held-lt : m .held < 2 ^ n
+  pub stale-lt : m .stale < 2 ^ n
+  pub apart : (k : ℕ) → k < n → not (bit (m .held) k && bit (m .stale) k) ≡ true
+
+pub masks-keep : (n : ℕ) (m : Masks) → masksKeepRules n m ≡ true → MasksKeep n m
+masks-keep n m e =
+    record {
+      held-lt = ltb-true (m .held) (2 ^ n) (search (and-left, and-right));
+      stale-lt = ltb-true (m .stale) (2 ^ n) (search (and-left, and-right));
+      apart = all-at n (λ k. not (bit (m .held) k && bit (m .stale) k)) (search (and-left, and-right));
+    }
+
+pub masks-kept : (n : ℕ) (m : Masks) → MasksKeep n m → masksKeepRules n m ≡ true
+masks-kept n m k = ap₂ _&&_ (ap₂ _&&_ (lt-ltb _ _ (k .held-lt)) (lt-ltb _ _ (k .stale-lt))) (all-of n _ (k .apart))
+
+pub noMasks-keep : (n : ℕ) → MasksKeep n noMasks
+noMasks-keep n = record { held-lt = pow-pos n; stale-lt = pow-pos n; apart = λ k l. ap not (ap₂ _&&_ (bit-none k) (bit-none k)) }
+
+-- ---- the masks of two tests
+
+module _ (n : ℕ) (h s : ℕ → Bool) where
+  pub masksOf-keep : ((k : ℕ) → k < n → not (h k && s k) ≡ true) → MasksKeep n (masksOf n h s)
+  masksOf-keep e =
+      record { held-lt = maskOf-lt n h; stale-lt = maskOf-lt n s; apart = λ k l. ap not (ap₂ _&&_ (bit-maskOf n h k l) (bit-maskOf n s k l)) ∙ e k l }
+
+  pub masksOf-is : (m : Masks) → MasksKeep n m → ((k : ℕ) → k < n → bit (m .held) k ≡ h k) → ((k : ℕ) → k < n → bit (m .stale) k ≡ s k) → m ≡ masksOf n h s
+  masksOf-is m k eh es = λ i. record { held = mask-of n (m .held) h (k .held-lt) eh i; stale = mask-of n (m .stale) s (k .stale-lt) es i }
+
+  pub masksOf-cong : (h′ s′ : ℕ → Bool) → ((k : ℕ) → k < n → h k ≡ h′ k) → ((k : ℕ) → k < n → s k ≡ s′ k) → masksOf n h s ≡ masksOf n h′ s′
+  masksOf-cong h′ s′ eh es = λ i. record { held = maskOf-cong n h h′ eh i; stale = maskOf-cong n s s′ es i }
+
+-- ---- masks that are moved
 
 -- a mask if a test holds, and else the empty one
 bit-if : (b : Bool) (m k : ℕ) → bit (cond b m 0) k ≡ (bit m k && b)

@@ -3,16 +3,17 @@ use mathlib.Core.Path.{_≡_, refl, sym, ap, ap₂, _∙_, subst}
 use mathlib.Core.Bool.{Bool, true, false, cond, not, _&&_, _||_, false≢true}
 use Prim.Native.Nat.{ℕ, _^_, _≤_, _<_}
 use native.Mathlib.Omega.{arith}
-use borrow.Author.Tests.{ltb-true, lt-ltb, leb-true, le-leb, eqb-true, eq-eqb}
+use borrow.Author.Tests.{ltb-true, leb-true, le-leb, eqb-true, eq-eqb}
 use lib.Bits.{bitAnd, bitOr}
 use lib.Count.{ones, trailingZeros}
 use lib.Dec.{eqb, leb, ltb}
 use lib.Pow.{pow-pos}
 use Rattle.bits.specs.Mask.{bit, digit, countOf, any, firstOf}
-use Rattle.bits.proofs.Mask.{all-at, all-of, any-one, first-one, ones-bits, only-bit, first-zeros, bit-one, digit-eqb, disjoint-all, or-within}
+use Rattle.bits.proofs.Mask.{any-one, first-one, ones-bits, only-bit, first-zeros, bit-one, digit-eqb, disjoint-all, or-within}
 use Rattle.bits.proofs.Tautology.{and-left, and-right}
 use Rattle.page_model.specs.declared.FrameRecord.{FrameRecord}
 use Rattle.page_model.specs.Record.{coloursKeepRules, markFits, dirtyColourOf, keepsRules}
+use Rattle.page_model.proofs.Moving.{MasksKeep, masks-keep, masks-kept}
 
 -- the flag as a test
 abbrev pub flag : FrameRecord → Bool
@@ -20,9 +21,7 @@ flag r = eqb (r .dirty) 1
 
 -- the parts of `keepsRules`
 pub record Keeps (n : ℕ) (r : FrameRecord) : Type 0 where
-  pub held-lt : r .masks .held < 2 ^ n
-  pub stale-lt : r .masks .stale < 2 ^ n
-  pub apart : (k : ℕ) → k < n → not (bit (r .masks .held) k && bit (r .masks .stale) k) ≡ true
+  pub masks : MasksKeep n (r .masks)
   pub flag-le : r .dirty ≤ 1
   pub one-held : (not (flag r) || eqb (countOf n (bit (r .masks .held))) 1) ≡ true
   pub mark-fits : markFits (r .busy) (r .dirty) (r .masks .held) ≡ true
@@ -32,9 +31,7 @@ pub keeps : (n : ℕ) (r : FrameRecord) → keepsRules n r ≡ true → Keeps n 
 unfolding keepsRules
 keeps n r e =
     record {
-      held-lt = ltb-true (r .masks .held) (2 ^ n) (search (and-left, and-right));
-      stale-lt = ltb-true (r .masks .stale) (2 ^ n) (search (and-left, and-right));
-      apart = all-at n (λ k. not (bit (r .masks .held) k && bit (r .masks .stale) k)) (search (and-left, and-right));
+      masks = masks-keep n (r .masks) (search (and-left, and-right));
       flag-le = leb-true (r .dirty) 1 (search (and-left, and-right));
       one-held = search (and-left, and-right);
       mark-fits = search (and-left, and-right);
@@ -44,11 +41,7 @@ keeps n r e =
 pub kept : (n : ℕ) (r : FrameRecord) → Keeps n r → keepsRules n r ≡ true
 unfolding keepsRules
 kept n r k =
-    ap₂ _&&_
-    (ap₂ _&&_
-    (ap₂ _&&_ (ap₂ _&&_ (ap₂ _&&_ (ap₂ _&&_ (lt-ltb _ _ (k .held-lt)) (lt-ltb _ _ (k .stale-lt))) (all-of n _ (k .apart))) (le-leb _ _ (k .flag-le))) (k .one-held))
-    (k .mark-fits))
-    (eq-eqb _ _ (k .dirty-colour-is))
+    ap₂ _&&_ (ap₂ _&&_ (ap₂ _&&_ (ap₂ _&&_ (masks-kept n (r .masks) (k .masks)) (le-leb _ _ (k .flag-le))) (k .one-held)) (k .mark-fits)) (eq-eqb _ _ (k .dirty-colour-is))
 
 -- the colours' rules by operations on whole masks
 pub rules-are : (n : ℕ) (r : FrameRecord) → coloursKeepRules n r
@@ -102,7 +95,7 @@ module _ (n : ℕ) (r : FrameRecord) (k : Keeps n r) where
   unfolding dirtyColourOf
   dirty-only z =
       let told : r .«dirty_colour» ≡ firstOf n (bit (r .masks .held)) = k .dirty-colour-is ∙ ap (λ (b : Bool). cond b (firstOf n (bit (r .masks .held))) n) z in
-      subst (λ (x : ℕ). (x < n) × (r .masks .held ≡ 2 ^ x)) (sym told) (only n r (k .held-lt) (k .one-held) z)
+      subst (λ (x : ℕ). (x < n) × (r .masks .held ≡ 2 ^ x)) (sym told) (only n r (k .masks .held-lt) (k .one-held) z)
 
   pub dirty-at : (j : ℕ) → (flag r && bit (r .masks .held) j) ≡ (flag r && eqb (r .«dirty_colour») j)
   dirty-at j = go (flag r) refl

@@ -10,7 +10,7 @@ use Rattle.page_model.specs.Record.{stateOf}
 use Rattle.page_model.specs.Masks.{moved}
 use Rattle.page_model.specs.Table.{empty, dirty, stale}
 use Rattle.page_model.proofs.Rules.{keeps}
-use Rattle.page_model.proofs.Colours.{case-cell, mark-number, step-is}
+use Rattle.page_model.proofs.Colours.{case-cell, mark-number, step-record, step-is}
 use Rattle.page_model.proofs.FrameRecord.step.Statement.{statement}
 use Rattle.page_model.proofs.FrameRecord.step.Tie as tie
 
@@ -39,7 +39,7 @@ returns c s step own reaches rules =
     let dirty-colour = at-colour .pick2 .ensures ∙ (λ i. cond (eqb (own-case i .1) (stateNumber dirty)) (own i) (a .colours)) in
     rw (c .first-two .ensures)
     (step-is (a .colours) r kr s reaches
-    (λ i. record { masks = after i; dirty = flag i; busy = mark i; «dirty_colour» = dirty-colour i })
+    (step-record (a .colours) r kr s reaches _ after flag mark dirty-colour)
     (at-elsewhere .elsewhere .ensures ∙ (λ i. cond (eqb (r .«dirty_colour») (own i)) None (operationAt (held-case i .0) (r .«dirty_colour»))))
     (c .before .operation .ensures ∙ (λ i. operationAt (own-case i .0) (own i))))
 
