@@ -14,7 +14,7 @@ use Rattle.page_model.specs.declared.Op.the-variants.{None}
 use Rattle.page_model.specs.declared.Ops.{Ops}
 use Rattle.manager.specs.Answers.{refused, accepted}
 use Rattle.manager.specs.Calls.{noOps}
-use Rattle.manager.specs.Tables.{tables, putRecord}
+use Rattle.manager.specs.Tables.{tables, startRecords}
 use Rattle.cache.specs.Store.{store}
 use Rattle.machine.specs.Call.{perform}
 use Rattle.machine.specs.State as machine
@@ -187,10 +187,10 @@ pagesMapped n = record { items = mappingsBy capacity (itemAt n); count = n }
 abbrev pub listing : ℕ → State
 listing n = withList (pagesMapped n) fresh
 
--- the start with these held and stale masks, flag, busy mark and dirty colour in the record of frame 0
+-- the start with these words as the record of frame 0: held and stale masks, flag, busy mark and dirty colour
 abbrev pub recorded : ℕ → ℕ → ℕ → ℕ → ℕ → State
 recorded held stale dirty busy colour =
-    withRecords (putRecord (fresh .tables .records) 0 (record { held = held; stale = stale; dirty = dirty; busy = busy; «dirty_colour» = colour })) fresh
+    withRecords (held ∷ (stale ∷ (dirty ∷ (busy ∷ (colour ∷ startRecords 63 8))))) fresh
 
 -- the first line of the cache with this tag, and word 77 in it
 abbrev pub tagged : ℕ → State
