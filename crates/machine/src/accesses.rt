@@ -38,7 +38,8 @@ pub fn read(
         (call.read space page offset) ⌝ }
 {
     let own = plans::access_refusal(BOARD01, memory, words, tags, BOARD01.page, offset);
-    let managers = plan_access(BOARD01, list, records, protections, space, page, false);
+    let seen = mapping::look(BOARD01, list, space, page);
+    let managers = plan_access(BOARD01, seen, records, protections, space, page, false);
     let plan = plans::with_step(own, managers);
     let Plan::Step(change) = plan else {
         return Loaded::Refused(plans::refusal_of(plan));
@@ -81,7 +82,8 @@ pub fn write(
         (call.write space page offset word) ⌝ }
 {
     let own = plans::access_refusal(BOARD01, memory, words, tags, BOARD01.page, offset);
-    let managers = plan_access(BOARD01, list, records, protections, space, page, true);
+    let seen = mapping::look(BOARD01, list, space, page);
+    let managers = plan_access(BOARD01, seen, records, protections, space, page, true);
     let plan = plans::with_step(own, managers);
     let Plan::Step(change) = plan else {
         return Answer::Refused(plans::refusal_of(plan));

@@ -114,7 +114,8 @@ pub fn read(
     ensures { λ r. ⌜ result (outcome r) (tables list (now (records .exit)) (now (protections .exit)))
         ≡ readCall board01 (tables list (now (records .entry)) (now (protections .entry))) space page ⌝ }
 {
-    let plan = plan_access(BOARD01, list, records, protections, space, page, false);
+    let seen = mapping::look(BOARD01, list, space, page);
+    let plan = plan_access(BOARD01, seen, records, protections, space, page, false);
     carry_out(COLOURS, list, records, protections, plan)
 }
 
@@ -129,7 +130,8 @@ pub fn write(
     ensures { λ r. ⌜ result (outcome r) (tables list (now (records .exit)) (now (protections .exit)))
         ≡ writeCall board01 (tables list (now (records .entry)) (now (protections .entry))) space page ⌝ }
 {
-    let plan = plan_access(BOARD01, list, records, protections, space, page, true);
+    let seen = mapping::look(BOARD01, list, space, page);
+    let plan = plan_access(BOARD01, seen, records, protections, space, page, true);
     carry_out(COLOURS, list, records, protections, plan)
 }
 

@@ -1,8 +1,12 @@
 // What each call with operations, and each change of the list, would do: a refusal, or the step of one frame's record, or a place in the list. A plan changes nothing.
 ghost use mathlib.Core.Path.{_≡_};
 ghost use mathlib.Core.Bool.{cond};
+ghost use lib.ListN.{length};
 ghost use Rattle.board.specs.Board.{Regular};
 ghost use Rattle.page_model.specs.Table.{deviceRead};
+ghost use Rattle.mapping.specs.declared.MappingList as any;
+ghost use Rattle.mapping.specs.Entry.{capacity};
+ghost use Rattle.mapping.specs.Look.{look};
 ghost use Rattle.manager.specs.Calls.{planMap, planUnmap, planned, planAccess, planTransfer, beginStep, planDeviceWritePart};
 ghost use Rattle.manager.specs.Tables.{tables};
 use super::Change;
@@ -17,6 +21,7 @@ use super::refusals::transfer_refusal;
 use board::Board;
 use mapping::Mapping;
 use mapping::MappingList;
+use mapping::Seen;
 use page_model::Stepped;
 
 // Whether a mapping can be listed, and where.
@@ -58,10 +63,11 @@ pub fn plan_unmap(
     ListPlan::Place(seen.place)
 }
 
-// What an access of the processor, a write or a read, makes of the page's frame.
+// What an access of the processor, a write or a read, makes of the page's frame, where seen is what a look at the list told of the page. The list
+// itself is not handed on: that would copy it once more.
 pub fn plan_access(
     board: Board,
-    list: MappingList,
+    seen: Seen,
     records: &[u32],
     protections: &[u8],
     space: u8,
@@ -69,9 +75,9 @@ pub fn plan_access(
     writes: bool,
 ) -> Plan
     requires { ⌜ Regular board ⌝ }
-    ensures { λ r. ⌜ r ≡ planAccess board (tables list (now (records .entry)) (now (protections .entry))) space page writes ⌝ }
+    ensures { λ r. ⌜ ((list : any.MappingList) → length (list .items) ≡ capacity → seen ≡ look board list space page
+        → r ≡ planAccess board (tables list (now (records .entry)) (now (protections .entry))) space page writes) ⌝ }
 {
-    let seen = mapping::look(board, list, space, page);
     let refusal = access_refusal(board, seen, records, protections, space, page, writes);
     if refusal != 0 {
         return Plan::Refused(refusal);

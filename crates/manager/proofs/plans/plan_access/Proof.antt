@@ -2,46 +2,39 @@
 use mathlib.Core.Path.{_∙_}
 use borrow.Author.Needs.{needs}
 use Rattle.board.specs.Board.{colourOf}
-use Rattle.mapping.proofs.Laws.{items-length}
 use Rattle.manager.proofs.PlanLaws.{access-refused, access-rules, access-planned}
 use Rattle.manager.proofs.plans.plan_access.Statement.{statement}
 use Rattle.manager.proofs.plans.plan_access.Tie as tie
 
 returns : tie.Need-returns
-returns c =
-    let looked = c .before .before in
-    let s = looked .before .before .before in
-    let a = s .args in
-    access-refused (a .board) (a .list) _ _ (a .space) (a .page) (a .writes) (looked .look .ensures) (items-length (a .list) _ (s .good .1 .0)) (c .before .access-refusal .ensures) (c .if1 .taken)
+returns c l long looked =
+    let a = c .before .before .before .before .args in
+    access-refused (a .board) l _ _ (a .space) (a .page) (a .writes) looked long (c .before .access-refusal .ensures) (c .if1 .taken)
 
 returns-2 : tie.Need-returns-2
-returns-2 c =
+returns-2 c l long looked =
     let at = c .before .before .before .before in
     let past = at .before .before in
-    let looked = past .before .before in
-    let s = looked .before .before .before in
-    let a = s .args in
-    let long = items-length (a .list) _ (s .good .1 .0) in
-    let kept = access-rules (a .board) (a .list) _ _ (a .space) (a .page) (a .writes) (looked .look .ensures) long (past .before .access-refusal .ensures) (past .if1 .left) (at .record-at .ensures) in
+    let a = past .before .before .before .before .args in
+    let told = past .before .access-refusal .ensures in
+    let kept = access-rules (a .board) l _ _ (a .space) (a .page) (a .writes) looked long told (past .if1 .left) (at .record-at .ensures) in
     c .step-of .ensures
-    ∙ access-planned (a .board) (a .list) _ _ (a .space) (a .page) (a .writes) (looked .look .ensures) long (past .before .access-refusal .ensures) (past .if1 .left) (at .record-at .ensures)
+    ∙ access-planned (a .board) l _ _ (a .space) (a .page) (a .writes) looked long told (past .if1 .left) (at .record-at .ensures)
     (c .before .before .before .if2 .taken) (at .before .colour-of .ensures .0) (c .before .before .is-busy .ensures) (c .before .write .ensures kept)
 
 returns-3 : tie.Need-returns-3
-returns-3 c =
+returns-3 c l long looked =
     let at = c .before .before .before .before in
     let past = at .before .before in
-    let looked = past .before .before in
-    let s = looked .before .before .before in
-    let a = s .args in
-    let long = items-length (a .list) _ (s .good .1 .0) in
-    let kept = access-rules (a .board) (a .list) _ _ (a .space) (a .page) (a .writes) (looked .look .ensures) long (past .before .access-refusal .ensures) (past .if1 .left) (at .record-at .ensures) in
+    let a = past .before .before .before .before .args in
+    let told = past .before .access-refusal .ensures in
+    let kept = access-rules (a .board) l _ _ (a .space) (a .page) (a .writes) looked long told (past .if1 .left) (at .record-at .ensures) in
     c .step-of2 .ensures
-    ∙ access-planned (a .board) (a .list) _ _ (a .space) (a .page) (a .writes) (looked .look .ensures) long (past .before .access-refusal .ensures) (past .if1 .left) (at .record-at .ensures)
+    ∙ access-planned (a .board) l _ _ (a .space) (a .page) (a .writes) looked long told (past .if1 .left) (at .record-at .ensures)
     (c .before .before .before .if2 .left) (at .before .colour-of .ensures .0) (c .before .before .bars-read .ensures (colourOf (a .board) (a .page))) (c .before .read .ensures kept)
 
 pub plan-access-spec : {M : Type 1} → statement M
 plan-access-spec =
     tie.close
-    (tie.spec (λ c κs. search needs) (λ c κs. search needs) returns (λ c κs. search needs) (λ c κs. search needs) (λ c κs. search needs) (λ c κs. search needs) (λ c κs. search needs) returns-2
+    (tie.spec (λ c κs. search needs) returns (λ c κs. search needs) (λ c κs. search needs) (λ c κs. search needs) (λ c κs. search needs) (λ c κs. search needs) returns-2
     (λ c κs. search needs) (λ c κs. search needs) (λ c κs. search needs) returns-3)
