@@ -8,7 +8,7 @@ use lib.Dec.{eqb, leb, ltb}
 use lib.ListN.{length, getD}
 use Rattle.board.specs.declared.Board.{Board}
 use Rattle.board.specs.Board.{lineOf}
-use Rattle.cache.specs.Store.{Store, WellFormed, tagAt, wordAt, memoryWord}
+use Rattle.cache.specs.Store.{Store, WellFormedStore, tagAt, wordAt, memoryWord}
 use Rattle.cache.specs.Tag.{dirtyTag}
 
 -- the words that a dirty line of frame f covers are current there, and every other word is current in memory
@@ -18,7 +18,7 @@ pub record Current (b : Board) (f : ℕ) (current : ℕ → ℕ) (s : Store) : T
 
 -- an operation loses no current word of any frame
 abbrev pub LosesNone : Board → (Store → Store) → Type 0
-LosesNone b op = (f : ℕ) (current : ℕ → ℕ) (s : Store) → WellFormed b s → Current b f current s → Current b f current (op s)
+LosesNone b op = (f : ℕ) (current : ℕ → ℕ) (s : Store) → WellFormedStore b s → Current b f current s → Current b f current (op s)
 
 -- the current words after a write of v at offset o
 abbrev pub written : ℕ → ℕ → (ℕ → ℕ) → ℕ → ℕ

@@ -17,7 +17,7 @@ abbrev pub store : List ℕ → List ℕ → List ℕ → Store
 store memory words tags = record { memory = memory; words = words; tags = tags }
 
 -- a store of the board's lengths, whose tags keep the rules
-pub record WellFormed (b : Board) (s : Store) : Type 0 where
+pub record WellFormedStore (b : Board) (s : Store) : Type 0 where
   pub memory-length : length (s .memory) ≡ memoryWords b
   pub words-length : length (s .words) ≡ cacheWords b
   pub tags-length : length (s .tags) ≡ lines b

@@ -7,7 +7,7 @@ use board::Board;
 ghost use mathlib.Core.Path.{_≡_};
 ghost use Prim.Native.Nat.{_<_};
 ghost use Rattle.board.specs.Board.{Regular, lines, lineOf};
-ghost use Rattle.cache.specs.Store.{store, WellFormed};
+ghost use Rattle.cache.specs.Store.{store, WellFormedStore};
 ghost use Rattle.cache.specs.Cache.{replace, access, readWord, putWord, writeWord};
 
 // Reads the word, after the access that it takes.
@@ -20,7 +20,7 @@ pub fn read_word(
     colour: usize,
     offset: usize,
 ) -> u32
-    requires { ⌜ WellFormed board (store (now memory) (now words) (now tags)) × (frame < board .frames) × (colour < board .colours) × (offset < board .page) × Regular board ⌝ }
+    requires { ⌜ WellFormedStore board (store (now memory) (now words) (now tags)) × (frame < board .frames) × (colour < board .colours) × (offset < board .page) × Regular board ⌝ }
     ensures word { λ r. ⌜ r ≡ readWord board frame colour offset (store (now (memory .entry)) (now (words .entry)) (now (tags .entry))) ⌝ }
     ensures state { λ _. ⌜ store (now (memory .exit)) (now (words .exit)) (now (tags .exit)) ≡ access board frame colour offset (store (now (memory .entry)) (now (words .entry)) (now (tags .entry))) ⌝ }
 {
@@ -40,7 +40,7 @@ pub fn write_word(
     offset: usize,
     word: u32,
 )
-    requires { ⌜ WellFormed board (store (now memory) (now words) (now tags)) × (frame < board .frames) × (colour < board .colours) × (offset < board .page) × Regular board ⌝ }
+    requires { ⌜ WellFormedStore board (store (now memory) (now words) (now tags)) × (frame < board .frames) × (colour < board .colours) × (offset < board .page) × Regular board ⌝ }
     ensures { λ _. ⌜ store (now (memory .exit)) (now (words .exit)) (now (tags .exit)) ≡ writeWord board frame colour offset word (store (now (memory .entry)) (now (words .entry)) (now (tags .entry))) ⌝ }
 {
     access(board, memory, words, tags, frame, colour, offset);
@@ -60,7 +60,7 @@ pub fn access(
     colour: usize,
     offset: usize,
 )
-    requires { ⌜ WellFormed board (store (now memory) (now words) (now tags)) × (frame < board .frames) × (colour < board .colours) × (offset < board .page) × Regular board ⌝ }
+    requires { ⌜ WellFormedStore board (store (now memory) (now words) (now tags)) × (frame < board .frames) × (colour < board .colours) × (offset < board .page) × Regular board ⌝ }
     ensures { λ _. ⌜ store (now (memory .exit)) (now (words .exit)) (now (tags .exit)) ≡ access board frame colour offset (store (now (memory .entry)) (now (words .entry)) (now (tags .entry))) ⌝ }
 {
     let line = board::line_of(board, colour, offset);
@@ -78,7 +78,7 @@ fn replace(
     frame: usize,
     line: usize,
 )
-    requires { ⌜ WellFormed board (store (now memory) (now words) (now tags)) × (frame < board .frames) × (line < lines board) × Regular board ⌝ }
+    requires { ⌜ WellFormedStore board (store (now memory) (now words) (now tags)) × (frame < board .frames) × (line < lines board) × Regular board ⌝ }
     ensures { λ _. ⌜ store (now (memory .exit)) (now (words .exit)) (now (tags .exit)) ≡ replace board frame line (store (now (memory .entry)) (now (words .entry)) (now (tags .entry))) ⌝ }
 {
     write_back(board, memory, words, tags, line);

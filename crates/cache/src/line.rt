@@ -10,12 +10,12 @@ ghost use mathlib.Core.List.{List};
 ghost use Prim.Native.Nat.{ℕ, _<_};
 ghost use lib.ListN.{length};
 ghost use Rattle.board.specs.Board.{Regular, lines, memoryWords, cacheWords};
-ghost use Rattle.cache.specs.Store.{store, WellFormed};
+ghost use Rattle.cache.specs.Store.{store, WellFormedStore};
 ghost use Rattle.cache.specs.Cache.{copyOut, writeBack, evict, fill};
 
 // Writes a line back to memory if its tag is dirty.
 pub fn write_back(board: Board, memory: &mut [u32], words: &[u32], tags: &[u8], line: usize)
-    requires { ⌜ WellFormed board (store (now memory) (now words) (now tags)) × (line < lines board) × Regular board ⌝ }
+    requires { ⌜ WellFormedStore board (store (now memory) (now words) (now tags)) × (line < lines board) × Regular board ⌝ }
     ensures { λ _. ⌜ store (now (memory .exit)) (now (words .entry)) (now (tags .entry)) ≡ writeBack board line (store (now (memory .entry)) (now (words .entry)) (now (tags .entry))) ⌝ }
 {
     let tag = number(tags[line]);
@@ -26,7 +26,7 @@ pub fn write_back(board: Board, memory: &mut [u32], words: &[u32], tags: &[u8], 
 
 // Writes a line back if its tag is dirty, and empties it.
 pub fn evict(board: Board, memory: &mut [u32], words: &[u32], tags: &mut [u8], line: usize)
-    requires { ⌜ WellFormed board (store (now memory) (now words) (now tags)) × (line < lines board) × Regular board ⌝ }
+    requires { ⌜ WellFormedStore board (store (now memory) (now words) (now tags)) × (line < lines board) × Regular board ⌝ }
     ensures { λ _. ⌜ store (now (memory .exit)) (now (words .entry)) (now (tags .exit)) ≡ evict board line (store (now (memory .entry)) (now (words .entry)) (now (tags .entry))) ⌝ }
 {
     write_back(board, memory, words, tags, line);
@@ -42,7 +42,7 @@ pub fn fill(
     frame: usize,
     line: usize,
 )
-    requires { ⌜ WellFormed board (store (now memory) (now words) (now tags)) × (frame < board .frames) × (line < lines board) × Regular board ⌝ }
+    requires { ⌜ WellFormedStore board (store (now memory) (now words) (now tags)) × (frame < board .frames) × (line < lines board) × Regular board ⌝ }
     ensures { λ _. ⌜ store (now (memory .entry)) (now (words .exit)) (now (tags .exit)) ≡ fill board frame line (store (now (memory .entry)) (now (words .entry)) (now (tags .entry))) ⌝ }
 {
     let from = board::memory_at(board, frame, board::line_offset(board, line));

@@ -8,7 +8,7 @@ ghost use mathlib.Core.List.{List};
 ghost use Prim.Native.Nat.{ℕ, _<_};
 ghost use lib.ListN.{length};
 ghost use Rattle.board.specs.Board.{Regular, lines};
-ghost use Rattle.cache.specs.Store.{store, WellFormed};
+ghost use Rattle.cache.specs.Store.{store, WellFormedStore};
 ghost use Rattle.cache.specs.Cache.{flushLine, purgeLine, flush, purge};
 
 // Writes back each dirty line of a frame in a colour, and empties every line that names the frame there.
@@ -20,7 +20,7 @@ pub fn flush(
     frame: usize,
     colour: usize,
 )
-    requires { ⌜ WellFormed board (store (now memory) (now words) (now tags)) × (frame < board .frames) × (colour < board .colours) × Regular board ⌝ }
+    requires { ⌜ WellFormedStore board (store (now memory) (now words) (now tags)) × (frame < board .frames) × (colour < board .colours) × Regular board ⌝ }
     ensures { λ _. ⌜ store (now (memory .exit)) (now (words .entry)) (now (tags .exit)) ≡ flush board frame colour (store (now (memory .entry)) (now (words .entry)) (now (tags .entry))) ⌝ }
 {
     let lines = board::page_lines(board);
@@ -60,7 +60,7 @@ fn flush_line(
     frame: usize,
     line: usize,
 )
-    requires { ⌜ WellFormed board (store (now memory) (now words) (now tags)) × (frame < board .frames) × (line < lines board) × Regular board ⌝ }
+    requires { ⌜ WellFormedStore board (store (now memory) (now words) (now tags)) × (frame < board .frames) × (line < lines board) × Regular board ⌝ }
     ensures { λ _. ⌜ store (now (memory .exit)) (now (words .entry)) (now (tags .exit)) ≡ flushLine board frame line (store (now (memory .entry)) (now (words .entry)) (now (tags .entry))) ⌝ }
 {
     if names(tags[line], frame) {

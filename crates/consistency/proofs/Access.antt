@@ -10,7 +10,7 @@ use Rattle.board.specs.Board.{Regular, lineOf, lineColour}
 use Rattle.board.proofs.Geometry.{lineOf-colour}
 use Rattle.page_model.specs.Record.{isHeld}
 use Rattle.page_model.specs.Table.{ColourState, empty, dirty}
-use Rattle.cache.specs.Store.{Store, WellFormed, tagAt, wordAt, memoryWord}
+use Rattle.cache.specs.Store.{Store, WellFormedStore, tagAt, wordAt, memoryWord}
 use Rattle.cache.specs.Tag.{cleanTag, dirtyTag, names}
 use Rattle.cache.specs.Cache.{access}
 use Rattle.cache.proofs.Laws.Tag.{names-dirty, names-one}
@@ -22,7 +22,7 @@ use Rattle.consistency.proofs.Agrees.{Agrees, untouched-agrees}
 pub same-colour : (b : Board) (reg : Regular b) (d p c o : ℕ) → p < b .page → o < b .page → lineOf b d p ≡ lineOf b c o → d ≡ c
 same-colour b reg d p c o hp ho e = sym (lineOf-colour b reg d p hp) ∙ ap (lineColour b) e ∙ lineOf-colour b reg c o ho
 
-module _ (b : Board) (reg : Regular b) (f c o : ℕ) (hf : f < b .frames) (hc : c < b .colours) (ho : o < b .page) (s : Store) (wf : WellFormed b s) where
+module _ (b : Board) (reg : Regular b) (f c o : ℕ) (hf : f < b .frames) (hc : c < b .colours) (ho : o < b .page) (s : Store) (wf : WellFormedStore b s) where
   -- ---- another frame: the line no longer names it, and the others are as they were
 
   module _ (g : ℕ) (hg : g < b .frames) (ne : g ≢ f) where

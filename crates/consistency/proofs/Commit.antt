@@ -19,7 +19,7 @@ use Rattle.manager.specs.Calls.{changeOf, commitChange}
 use Rattle.manager.specs.Tables.{Tables, tables, recordAt, putRecord, recordsKeepRules, refill}
 use Rattle.manager.proofs.Laws.{length-tabulate}
 use Rattle.manager.proofs.RecordLaws.{length-putRecord, recordAt-putRecord-same, recordAt-putRecord-other, putRecord-rules}
-use Rattle.cache.specs.Store.{Store, WellFormed}
+use Rattle.cache.specs.Store.{Store, WellFormedStore}
 use Rattle.machine.specs.State.{State, state}
 use Rattle.consistency.specs.Cacheless.{Cacheless}
 use Rattle.consistency.proofs.Agrees.{Agrees}
@@ -44,7 +44,7 @@ weaker-self s = each-state (λ s. weaker s s) refl s
 
 module _ (b : Board) (st : State) (m : Cacheless) (inv : Invariant b st m) where
   -- the invariant after a call that changes neither list nor records, if every frame's states agree with the store
-  pub refill-invariant : (s : Store) (words : ℕ → ℕ → ℕ) → WellFormed b s → ((f : ℕ) → f < b .frames → Agrees b f (stateOf (recordAt (st .tables .records) f)) (words f) s)
+  pub refill-invariant : (s : Store) (words : ℕ → ℕ → ℕ) → WellFormedStore b s → ((f : ℕ) → f < b .frames → Agrees b f (stateOf (recordAt (st .tables .records) f)) (words f) s)
       → Invariant b (state (refill b (st .tables)) s) (record { word = words; frame = m .frame })
   unfolding refill
   refill-invariant s words kept agrees = record { sound = refill-sound b (st .tables) (inv .sound); kept = kept; agrees = agrees; frames-listed = inv .frames-listed }
@@ -76,7 +76,7 @@ module _ (b : Board) (st : State) (m : Cacheless) (inv : Invariant b st m) where
           })
 
       -- the invariant, if f's states in that record and the other frames' as they were agree with the store
-      module _ (s : Store) (words : ℕ → ℕ → ℕ) (kept : WellFormed b s) (own : Agrees b f (stateOf next) (words f) s)
+      module _ (s : Store) (words : ℕ → ℕ → ℕ) (kept : WellFormedStore b s) (own : Agrees b f (stateOf next) (words f) s)
           (others : (g : ℕ) → g < b .frames → g ≢ f → Agrees b g (stateOf (recordAt (st .tables .records) g)) (words g) s) where
         agrees-after : (g : ℕ) → g < b .frames → Dec (g ≡ f) → Agrees b g (stateOf (recordAt put g)) (words g) s
         agrees-after g hg (no ne) = subst⁻¹ (λ (x : FrameRecord). Agrees b g (stateOf x) (words g) s) (at-other g ne) (others g hg ne)
@@ -95,7 +95,7 @@ module _ (b : Board) (st : State) (m : Cacheless) (inv : Invariant b st m) where
 
     -- ---- a step of f's record, which its mark does not bar
 
-    module _ (step : Step) (free : bars (recordAt (st .tables .records) f .busy) step ≡ false) (s : Store) (words : ℕ → ℕ → ℕ) (kept : WellFormed b s)
+    module _ (step : Step) (free : bars (recordAt (st .tables .records) f .busy) step ≡ false) (s : Store) (words : ℕ → ℕ → ℕ) (kept : WellFormedStore b s)
         (own : Agrees b f (statesAfter step (recordAt (st .tables .records) f)) (words f) s)
         (others : (g : ℕ) → g < b .frames → g ≢ f → Agrees b g (stateOf (recordAt (st .tables .records) g)) (words g) s) where
       pub commit-invariant : Invariant b (state (commitChange b (st .tables) f (changeOf b (st .tables) f step .next)) s) (record { word = words; frame = m .frame })

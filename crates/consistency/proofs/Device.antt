@@ -20,7 +20,7 @@ use Rattle.manager.specs.Tables.{recordAt, tabulate}
 use Rattle.manager.proofs.Laws.{is-tabulate}
 use Rattle.cache.specs.Cache as hardware
 use Rattle.cache.specs.Current.{received}
-use Rattle.cache.specs.Store.{Store, WellFormed, tagAt, memoryWord}
+use Rattle.cache.specs.Store.{Store, WellFormedStore, tagAt, memoryWord}
 use Rattle.cache.specs.Tag.{dirtyTag}
 use Rattle.cache.proofs.Laws.Device.{deviceRead-length, deviceRead-word, deviceWrite-kept, deviceWrite-tags, deviceWrite-words}
 use Rattle.cache.proofs.Current.Device.{device-current-other, device-current-same}
@@ -45,7 +45,7 @@ module _ (b : Board) (reg : Regular b) (st : State) (m : Cacheless) (inv : Invar
   cleaned : Store
   cleaned = ordered b f table.deviceRead (recordAt (st .tables .records) f) (st .store)
 
-  cleaned-kept : WellFormed b cleaned
+  cleaned-kept : WellFormedStore b cleaned
   unfolding cleaned
   cleaned-kept = ordered-kept b reg f hf (st .store) (inv .kept) table.deviceRead (recordAt (st .tables .records) f) (inv .sound .record-rules f hf)
 
@@ -78,7 +78,7 @@ module _ (b : Board) (reg : Regular b) (st : State) (m : Cacheless) (inv : Invar
     swept : Store
     swept = ordered b f step (recordAt (st .tables .records) f) (st .store)
 
-    swept-kept : WellFormed b swept
+    swept-kept : WellFormedStore b swept
     unfolding swept
     swept-kept = ordered-kept b reg f hf (st .store) (inv .kept) step (recordAt (st .tables .records) f) (inv .sound .record-rules f hf)
 

@@ -15,7 +15,7 @@ use Rattle.mapping.proofs.Laws.{rules-keepsRules}
 use Rattle.manager.specs.Refusals.{firstRefusal}
 use Rattle.manager.specs.Tables.{Tables, recordsKeepRules, lengthsRight, rulesKept}
 use Rattle.manager.proofs.CauseLaws.{lengths-right, rules-kept}
-use Rattle.cache.specs.Store.{Store, WellFormed, tagAt}
+use Rattle.cache.specs.Store.{Store, WellFormedStore, tagAt}
 use Rattle.cache.specs.Tag.{emptyTag}
 use Rattle.cache.proofs.Laws.Evict.{evict-tag-same, evict-tag-other}
 use Rattle.machine.specs.Call.{callCauses, perform}
@@ -41,7 +41,7 @@ sound-records b t s = all-of _ _ (s .record-rules)
 sound-rules : (b : Board) (t : Tables) → Sound b t → rulesKept b t ≡ true
 sound-rules b t s = rules-kept b t (rules-keepsRules b (t .list) (s .list-rules)) (sound-records b t s)
 
-store-lengths : (b : Board) (s : Store) → WellFormed b s → storeLengths b s ≡ true
+store-lengths : (b : Board) (s : Store) → WellFormedStore b s → storeLengths b s ≡ true
 store-lengths b s w = store.lengths-right b s (w .memory-length) (w .words-length) (w .tags-length)
 
 module _ (b : Board) (reg : Regular b) (m : Cacheless) where

@@ -11,7 +11,7 @@ use Rattle.mapping.specs.Entry.{capacity}
 use Rattle.mapping.specs.Facts.{Rules}
 use Rattle.mapping.specs.Lookup.{mappingOf}
 use Rattle.manager.specs.Tables.{Tables, recordWords, recordAt}
-use Rattle.cache.specs.Store.{WellFormed}
+use Rattle.cache.specs.Store.{WellFormedStore}
 use Rattle.machine.specs.State.{State, Single, single}
 use Rattle.machine.specs.Step.{accept}
 use Rattle.consistency.specs.Cacheless.{Cacheless, afterAccepted}
@@ -33,7 +33,7 @@ frameIn (some m) = some (m .frame)
 
 pub record Invariant (b : Board) (st : State) (m : Cacheless) : Type 0 where
   pub sound : Sound b (st .tables)
-  pub kept : WellFormed b (st .store)
+  pub kept : WellFormedStore b (st .store)
   pub agrees : (f : ℕ) → f < b .frames → Agrees b f (stateOf (recordAt (st .tables .records) f)) (m .word f) (st .store)
   pub frames-listed : (space page : ℕ) → m .frame space page ≡ frameIn (mappingOf (st .tables .list) space page)
 

@@ -11,7 +11,7 @@ use Rattle.page_model.specs.declared.Op.the-variants.{None, Flush, Purge}
 use Rattle.page_model.specs.Step.{OpBelow}
 use Rattle.page_model.specs.Table.{ColourState, dirty}
 use Rattle.manager.specs.Answers.{operationOn}
-use Rattle.cache.specs.Store.{Store, WellFormed, tagAt}
+use Rattle.cache.specs.Store.{Store, WellFormedStore, tagAt}
 use Rattle.cache.specs.Tag.{names}
 use Rattle.cache.specs.Cache as hardware
 use Rattle.cache.specs.Current.{Current}
@@ -34,8 +34,8 @@ SparesDirty None states = Unit {0}
 SparesDirty (Flush c) states = Unit {0}
 SparesDirty (Purge c) states = states c ≢ dirty
 
-module _ (b : Board) (reg : Regular b) (f : ℕ) (hf : f < b .frames) (s : Store) (wf : WellFormed b s) where
-  pub operate-kept : (op : Op) → OpBelow (b .colours) op → WellFormed b (operate b (operationOn f op) s)
+module _ (b : Board) (reg : Regular b) (f : ℕ) (hf : f < b .frames) (s : Store) (wf : WellFormedStore b s) where
+  pub operate-kept : (op : Op) → OpBelow (b .colours) op → WellFormedStore b (operate b (operationOn f op) s)
   unfolding operate
   operate-kept None h = wf
   operate-kept (Flush c) h = flush-kept b reg f c hf h s wf

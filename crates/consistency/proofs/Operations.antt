@@ -11,7 +11,7 @@ use Rattle.page_model.specs.Step.{OpBelow, cellOf, stepped}
 use Rattle.page_model.specs.Table.{ColourState, Step}
 use Rattle.page_model.proofs.Theorems.{operations-below}
 use Rattle.manager.specs.Answers.{operationOn, accepted}
-use Rattle.cache.specs.Store.{Store, WellFormed}
+use Rattle.cache.specs.Store.{Store, WellFormedStore}
 use Rattle.machine.specs.Step.{operate, carryOut}
 use Rattle.consistency.proofs.Agrees.{Tagged, Agrees}
 use Rattle.consistency.proofs.Cleared.{first, second, bothCleared, after-weaker, spares-first, spares-second}
@@ -27,7 +27,7 @@ ordered b f step r s = carryOut b (accepted f (stepped (b .colours) step r .ops)
 abbrev pub statesAfter : Step → FrameRecord → ℕ → ColourState
 statesAfter step r k = cellOf step r k .next
 
-module _ (b : Board) (reg : Regular b) (f : ℕ) (hf : f < b .frames) (s : Store) (wf : WellFormed b s) (step : Step) (r : FrameRecord)
+module _ (b : Board) (reg : Regular b) (f : ℕ) (hf : f < b .frames) (s : Store) (wf : WellFormedStore b s) (step : Step) (r : FrameRecord)
     (rules : keepsRules (b .colours) r ≡ true) where
   first-below : OpBelow (b .colours) (first (b .colours) step r)
   first-below = operations-below (b .colours) step r .1
@@ -39,11 +39,11 @@ module _ (b : Board) (reg : Regular b) (f : ℕ) (hf : f < b .frames) (s : Store
   between : Store
   between = operate b (operationOn f (first (b .colours) step r)) s
 
-  between-kept : WellFormed b between
+  between-kept : WellFormedStore b between
   unfolding between
   between-kept = operate-kept b reg f hf s wf (first (b .colours) step r) first-below
 
-  pub ordered-kept : WellFormed b (ordered b f step r s)
+  pub ordered-kept : WellFormedStore b (ordered b f step r s)
   unfolding carryOut between
   ordered-kept = operate-kept b reg f hf between between-kept (second (b .colours) step r) second-below
 

@@ -18,7 +18,7 @@ use Rattle.manager.specs.Refusals.{firstRefusal}
 use Rattle.manager.specs.Tables.{recordAt}
 use Rattle.cache.specs.Cache as hardware
 use Rattle.cache.specs.Current.{written}
-use Rattle.cache.specs.Store.{Store, WellFormed}
+use Rattle.cache.specs.Store.{Store, WellFormedStore}
 use Rattle.cache.proofs.Laws.Access.{access-kept, writeWord-kept}
 use Rattle.machine.specs.Refusals.{causes}
 use Rattle.machine.specs.State.{State, pageFrame, state, read, write}
@@ -48,7 +48,7 @@ module _ (b : Board) (reg : Regular b) (st : State) (m : Cacheless) (inv : Invar
   now step = ordered b f step (recordAt (st .tables .records) f) (st .store)
 
   module _ (step : Step) where
-    now-kept : WellFormed b (now step)
+    now-kept : WellFormedStore b (now step)
     unfolding now
     now-kept = ordered-kept b reg f hf (st .store) (inv .kept) step (recordAt (st .tables .records) f) (inv .sound .record-rules f hf)
 

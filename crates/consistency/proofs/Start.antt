@@ -13,7 +13,7 @@ use Rattle.page_model.proofs.Theorems.{start-record}
 use Rattle.mapping.specs.Entry.{capacity}
 use Rattle.mapping.proofs.Laws.{empty-length, empty-rules, mappingOf-empty}
 use Rattle.manager.proofs.RecordLaws.{length-startRecords, recordAt-start}
-use Rattle.cache.specs.Store.{store, WellFormed}
+use Rattle.cache.specs.Store.{store, WellFormedStore}
 use Rattle.cache.specs.Tag.{emptyTag, names}
 use Rattle.cache.proofs.Laws.Tag.{names-dirty, names-not-empty, rules-all, rules-empty}
 use Rattle.consistency.specs.Cacheless.{startCacheless}
@@ -26,7 +26,7 @@ module _ (b : Board) (reg : Regular b) (memory words protections : List ℕ) (fu
   tag-zero : (n : ℕ) → n < lines b → getD (replicate (lines b) 0) n 0 ≡ emptyTag
   tag-zero n h = getD-replicate (lines b) n 0 0 h
 
-  start-kept : WellFormed b (store memory words (replicate (lines b) 0))
+  start-kept : WellFormedStore b (store memory words (replicate (lines b) 0))
   start-kept =
       record {
         memory-length = full;

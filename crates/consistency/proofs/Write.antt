@@ -10,7 +10,7 @@ use Rattle.board.specs.declared.Board.{Board}
 use Rattle.board.specs.Board.{Regular, lineOf}
 use Rattle.page_model.specs.Record.{isHeld}
 use Rattle.page_model.specs.Table.{ColourState, empty, dirty}
-use Rattle.cache.specs.Store.{Store, WellFormed, tagAt, wordAt}
+use Rattle.cache.specs.Store.{Store, WellFormedStore, tagAt, wordAt}
 use Rattle.cache.specs.Tag.{dirtyTag, names}
 use Rattle.cache.specs.Cache.{access, writeWord}
 use Rattle.cache.specs.Current.{written}
@@ -20,7 +20,7 @@ use Rattle.cache.proofs.Current.Write.{write-current-other, write-current-same}
 use Rattle.consistency.proofs.Agrees.{Agrees, untouched-agrees}
 use Rattle.consistency.proofs.Access.{same-colour, access-words}
 
-module _ (b : Board) (reg : Regular b) (f c o : ℕ) (hf : f < b .frames) (hc : c < b .colours) (ho : o < b .page) (s : Store) (wf : WellFormed b s) (v : ℕ) where
+module _ (b : Board) (reg : Regular b) (f c o : ℕ) (hf : f < b .frames) (hc : c < b .colours) (ho : o < b .page) (s : Store) (wf : WellFormedStore b s) (v : ℕ) where
   -- ---- another frame
 
   module _ (g : ℕ) (hg : g < b .frames) (ne : g ≢ f) where

@@ -13,11 +13,11 @@ use Rattle.mapping.proofs.Laws.{batch-of-items}
 use Rattle.manager.specs.Answers.{accepted, numberOf}
 use Rattle.manager.specs.Batch as manager
 use Rattle.manager.specs.Batch.{itemAt, mapItem, tablesAfter, BatchResult, batchResult, mapAllCauses, wholeResult, mapAllCall}
-use Rattle.manager.specs.Calls.{Result, result, noOps}
+use Rattle.manager.specs.Calls.{Result, callResult, noOps}
 use Rattle.manager.specs.Refusals.{firstRefusal}
 use Rattle.manager.specs.Tables.{Tables, lengthsRight, tabulate}
 use Rattle.manager.proofs.LentItems.{long-refused, lent-refusal, lent-items}
-use Rattle.cache.specs.Store.{WellFormed}
+use Rattle.cache.specs.Store.{WellFormedStore}
 use Rattle.machine.specs.Call.{mapOf, afterItems, itemAnswer, callCauses, perform}
 use Rattle.machine.specs.Refusals.{storeLengths}
 use Rattle.machine.specs.State.{State, single, mapAll}
@@ -32,7 +32,7 @@ use Rattle.demands.proofs.Manager.{single-agrees}
 abbrev made : Board → Tables → List Mapping → BatchResult
 made b t items = batchResult (accepted 0 noOps) (tabulate (length items) (manager.answerAt b t items)) (tablesAfter b t items (length items))
 
-module _ (b : Board) (st : State) (wf : WellFormed b (st .store)) (items : List Mapping) where
+module _ (b : Board) (st : State) (wf : WellFormedStore b (st .store)) (items : List Mapping) where
   -- ---- the items in turn
 
   -- the tables go along with the machine's, whose memory and cache stay
@@ -41,10 +41,10 @@ module _ (b : Board) (st : State) (wf : WellFormed b (st .store)) (items : List 
 
   item-agrees : (k : ℕ) → InStep k
       → mapItem b (tablesAfter b (st .tables) items k) (itemAt items k)
-      ≡ result (step b (afterItems b st items k) (mapOf (itemAt items k)) .answer .outcome) (step b (afterItems b st items k) (mapOf (itemAt items k)) .after .tables)
+      ≡ callResult (step b (afterItems b st items k) (mapOf (itemAt items k)) .answer .outcome) (step b (afterItems b st items k) (mapOf (itemAt items k)) .after .tables)
   item-agrees k p =
       ap (λ (t : Tables). mapItem b t (itemAt items k)) (p .0)
-      ∙ single-agrees b (afterItems b st items k) (mapOf (itemAt items k)) (subst⁻¹ (WellFormed b) (p .1) wf)
+      ∙ single-agrees b (afterItems b st items k) (mapOf (itemAt items k)) (subst⁻¹ (WellFormedStore b) (p .1) wf)
 
   in-step : (k : ℕ) → InStep k
   unfolding tablesAfter afterItems

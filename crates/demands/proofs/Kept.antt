@@ -89,22 +89,22 @@ module _ (b : Board) (st : State) where
 -- ---- memory and cache
 
 -- the store after an effect's orders
-effect-ordered : (b : Board) → Regular b → (st : State) → WellFormedTables b (st .tables) → hardware.WellFormed b (st .store)
-    → (x : Effect) → Tested b (st .tables .records) x → hardware.WellFormed b (carryOut b (outcomeOf b (st .tables .records) x) (st .store))
+effect-ordered : (b : Board) → Regular b → (st : State) → WellFormedTables b (st .tables) → hardware.WellFormedStore b (st .store)
+    → (x : Effect) → Tested b (st .tables .records) x → hardware.WellFormedStore b (carryOut b (outcomeOf b (st .tables .records) x) (st .store))
 unfolding carryOut operate
 effect-ordered b reg st w kept (steps f s) r = ordered-kept b reg f (r .0) (st .store) kept s (recordAt (st .tables .records) f) (record-rules b (st .tables) (w .1) f (r .0))
 effect-ordered b reg st w kept (ends f) r = kept
 effect-ordered b reg st w kept nothing r = kept
 
 module _ (b : Board) (reg : Regular b) (st : State) where
-  pub store-after : (call : Single) → firstRefusal (causes b st call) ≡ 0 → hardware.WellFormed b (accept b st call .after .store)
+  pub store-after : (call : Single) → firstRefusal (causes b st call) ≡ 0 → hardware.WellFormedStore b (accept b st call .after .store)
   unfolding accept causes
   store-after call e =
       go call e (carryOut b (outcomeOf b (st .tables .records) (effectOf b st call)) (st .store))
       (effect-ordered b reg st (tables-lent b st call e) (store-clear b st call e) (effectOf b st call) (effect-tested b st call e))
     where
       -- the access, in the store that the orders leave
-      go : (call : Single) → firstRefusal (causes b st call) ≡ 0 → (s : hardware.Store) → hardware.WellFormed b s → hardware.WellFormed b (accessOf b st call s .store)
+      go : (call : Single) → firstRefusal (causes b st call) ≡ 0 → (s : hardware.Store) → hardware.WellFormedStore b s → hardware.WellFormedStore b (accessOf b st call s .store)
       go (map space page frame rights) e s w = w
       go (unmap space page) e s w = w
       go (read space page offset) e s w =

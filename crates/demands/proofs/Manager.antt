@@ -12,10 +12,10 @@ use Rattle.page_model.specs.Busy.{reading, writing}
 use Rattle.page_model.specs.Table as table
 use Rattle.mapping.specs.Lookup.{lookup, placeOf, placeFor}
 use Rattle.manager.specs.Answers.{refused}
-use Rattle.manager.specs.Calls.{Result, result, changeOf, writeStep, planned, placed, stepResult, listResult, commitMap, commitUnmap, plainResult, endedTables}
+use Rattle.manager.specs.Calls.{Result, callResult, changeOf, writeStep, planned, placed, stepResult, listResult, commitMap, commitUnmap, plainResult, endedTables}
 use Rattle.manager.specs.Refusals.{Cause, firstRefusal, placeIn, refusalPlace, inOrder, offsetCause, tableCauses, mapCauses, pageCauses, readCauses, writeCauses, transferCauses, partCauses, wordCauses, endCauses}
 use Rattle.manager.specs.Tables.{refill}
-use Rattle.cache.specs.Store.{WellFormed}
+use Rattle.cache.specs.Store.{WellFormedStore}
 use Rattle.machine.specs.Plans.{storeCauses, earlier}
 use Rattle.machine.specs.Refusals.{bufferRight, ownCauses, causes}
 use Rattle.machine.specs.State.{State, pageFrame, Single, map, unmap, read, write, deviceRead, deviceWrite, deviceWritePart, evict, beginRead, beginWrite, bringWord, takeWord, endTransfer, single}
@@ -28,14 +28,14 @@ use Rattle.demands.specs.Manager.{Agrees, ManagerCall}
 
 module _ (b : Board) (st : State) (call : Single) where
   -- a call that is its refusal, which leaves the tables, or what the machine's accepted call answers and leaves in them
-  agrees : (r : ℕ → Result) → r 0 ≡ result (accept b st call .answer .outcome) (accept b st call .after .tables)
-      → ((n : ℕ) → r (suc n) ≡ result (refused (suc n)) (st .tables)) → (n : ℕ) → firstRefusal (causes b st call) ≡ n → Agrees b st call (r n)
-  agrees r taken left zero e = taken ∙ ap (λ (x : state-of.Result). result (x .answer .outcome) (x .after .tables)) (step-accepted b st call e)
+  agrees : (r : ℕ → Result) → r 0 ≡ callResult (accept b st call .answer .outcome) (accept b st call .after .tables)
+      → ((n : ℕ) → r (suc n) ≡ callResult (refused (suc n)) (st .tables)) → (n : ℕ) → firstRefusal (causes b st call) ≡ n → Agrees b st call (r n)
+  agrees r taken left zero e = taken ∙ ap (λ (x : state-of.Result). callResult (x .answer .outcome) (x .after .tables)) (step-accepted b st call e)
   agrees r taken left (suc n) e =
-      left n ∙ ap (λ (x : state-of.Result). result (x .answer .outcome) (x .after .tables)) (step-refused b st call (suc n) (e, λ z. omega arith))
+      left n ∙ ap (λ (x : state-of.Result). callResult (x .answer .outcome) (x .after .tables)) (step-refused b st call (suc n) (e, λ z. omega arith))
 
   -- Where no cause of the machine's own, `mine`, applies, the first is the manager's, of which the first two are those of the tables.
-  managers-first : WellFormed b (st .store) → bufferRight b call ≡ true → (mine managers : List Cause) → inOrder ownPlace mine ≡ true → inOrder ownPlace (drop 2 managers) ≡ true
+  managers-first : WellFormedStore b (st .store) → bufferRight b call ≡ true → (mine managers : List Cause) → inOrder ownPlace mine ≡ true → inOrder ownPlace (drop 2 managers) ≡ true
       → ownCauses b st call ≡ merge mine (drop 2 managers) → firstRefusal mine ≡ 0 → tableCauses b (st .tables) ++ drop 2 managers ≡ managers
       → firstRefusal (causes b st call) ≡ firstRefusal managers
   unfolding firstRefusal storeCauses earlier
@@ -53,7 +53,7 @@ offset-clear b offset h = rw (lt-leb (b .page) offset h)
 abbrev stepping : Board → State → ℕ → table.Step → ℕ → Result
 stepping b st frame s n = stepResult b (st .tables) (planned n (changeOf b (st .tables) frame s))
 
-pub single-agrees : (b : Board) (st : State) (call : Single) → WellFormed b (st .store) → ManagerCall b st (single call)
+pub single-agrees : (b : Board) (st : State) (call : Single) → WellFormedStore b (st .store) → ManagerCall b st (single call)
 unfolding accept ownCauses inOrder refusalPlace placeIn firstRefusal mapCauses pageCauses readCauses writeCauses transferCauses partCauses wordCauses endCauses
 single-agrees b st (map space page frame rights) wf =
     agrees b st (map space page frame rights)

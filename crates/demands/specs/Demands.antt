@@ -79,7 +79,7 @@ Modelled b before after o nothing = (o ≡ accepted 0 noOps) × (after .records 
 -- what an accepted single call leaves, and answers
 pub record Left (b : Board) (st : State) (call : Single) (after : State) (a : Answer) : Type 0 where
   pub tables-kept : WellFormedTables b (after .tables)
-  pub store-kept : hardware-store.WellFormed b (after .store)
+  pub store-kept : hardware-store.WellFormedStore b (after .store)
   pub modelled : Modelled b (st .tables) (after .tables) (a .outcome) (effectOf b st call)
   pub list-left : after .tables .list ≡ listAfter (st .tables .list) call
   pub made : accessed (a .word) (a .buffer) (after .store) ≡ accessOf b st call (carryOut b (a .outcome) (st .store))

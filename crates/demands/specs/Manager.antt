@@ -8,15 +8,15 @@ use Rattle.board.specs.declared.Board.{Board}
 use Rattle.mapping.specs.declared.Mapping.{Mapping}
 use Rattle.mapping.specs.Batch.{batchOf, itemsOf}
 use Rattle.manager.specs.Batch.{BatchResult, batchResult, mapAllCall}
-use Rattle.manager.specs.Calls.{Result, result, mapCall, unmapCall, readCall, writeCall, deviceReadCall, deviceWriteCall, deviceWritePartCall, beginReadCall, beginWriteCall, bringWordCall, takeWordCall, endTransferCall}
+use Rattle.manager.specs.Calls.{Result, callResult, mapCall, unmapCall, readCall, writeCall, deviceReadCall, deviceWriteCall, deviceWritePartCall, beginReadCall, beginWriteCall, bringWordCall, takeWordCall, endTransferCall}
 use Rattle.manager.specs.Tables.{Tables}
-use Rattle.cache.specs.Store.{WellFormed}
+use Rattle.cache.specs.Store.{WellFormedStore}
 use Rattle.machine.specs.Call.{perform}
 use Rattle.machine.specs.State.{State, Single, map, unmap, read, write, deviceRead, deviceWrite, deviceWritePart, evict, beginRead, beginWrite, bringWord, takeWord, endTransfer, Call, single, mapAll}
 use Rattle.machine.specs.Step.{step}
 
 abbrev pub Agrees : Board → State → Single → Result → Type 0
-Agrees b st call r = r ≡ result (step b st call .answer .outcome) (step b st call .after .tables)
+Agrees b st call r = r ≡ callResult (step b st call .answer .outcome) (step b st call .after .tables)
 
 -- a list of mappings, also in the answers to its items
 abbrev pub BatchAgrees : Board → State → Call → BatchResult → Type 0
@@ -42,7 +42,7 @@ ManagerCall b st (single (endTransfer frame)) = Agrees b st (endTransfer frame) 
 ManagerCall b st (mapAll items answers) = BatchAgrees b st (mapAll items answers) (mapAllCall b (st .tables) items answers)
 
 abbrev pub ManagerAgrees : Board → Type 0
-ManagerAgrees b = (st : State) (call : Call) → WellFormed b (st .store) → ManagerCall b st call
+ManagerAgrees b = (st : State) (call : Call) → WellFormedStore b (st .store) → ManagerCall b st call
 
 -- A kernel lends its own list of mappings: the batch that `mapping::lent::batch` makes of it is that list to the call, also where it is too long.
 abbrev pub LentList : Type 0

@@ -83,26 +83,26 @@ module _ (b : Board) (st : State) (call : Single) where
   own-first e = sym (refusal-rest (lentCauses b st call) (ownCauses b st call) refl e)
 
 lent-rules : (n : ℕ) → n ≤ capacity → (manager-tables.rulesKept board01 (listing n .tables) && tag.tagsKeepRules board01 (listing n .store .tags)) ≡ true
-unfolding manager-tables.rulesKept manager-tables.recordsKeepRules manager-tables.recordAt manager-tables.startRecords mask.all mask.bit mask.countOf mask.firstOf frame-record.coloursKeepRules frame-record.dirtyColourOf frame-record.keepsRules run.startWith run.start board.lines board.pageLines tag.tagsKeepRules
+unfolding manager-tables.rulesKept manager-tables.recordsKeepRules manager-tables.recordAt manager-tables.startRecords mask.all mask.bit mask.countOf mask.firstOf frame-record.coloursKeepRules frame-record.dirtyColourOf frame-record.keepsRules run.startWith run.sheetStart board.lines board.pageLines tag.tagsKeepRules
 lent-rules n room = rw (rules-keepsRules board01 (pagesMapped n) (pages-rules n room))
 
 lent-none : (n : ℕ) → n ≤ capacity → (call : Single) → bufferRight board01 call ≡ true → firstRefusal (lentCauses board01 (listing n) call) ≡ 0
-unfolding manager-tables.lengthsRight machine-refusals.storeLengths run.startWith run.start board.lines board.pageLines board.memoryWords board.cacheWords mappingsBy
+unfolding manager-tables.lengthsRight machine-refusals.storeLengths run.startWith run.sheetStart board.lines board.pageLines board.memoryWords board.cacheWords mappingsBy
 lent-none n room call e = lent-clear board01 (listing n) call e (lent-rules n room)
 
 first-of : (n : ℕ) → n ≤ capacity → (call : Single) → bufferRight board01 call ≡ true → firstRefusal (causes board01 (listing n) call) ≡ firstRefusal (ownCauses board01 (listing n) call)
 first-of n room call e = own-first board01 (listing n) call (lent-none n room call e)
 
 own-255 : firstRefusal (ownCauses board01 (listing 255) (map 1 0 0 1)) ≡ 0
-unfolding ownCauses firstRefusal list-lookup.lookup list-lookup.firstOf entry.isAt mappingsBy
+unfolding ownCauses firstRefusal list-lookup.lookup list-lookup.firstFound entry.isAt mappingsBy
 own-255 = refl
 
 own-fresh : firstRefusal (ownCauses board01 (listing 256) (map 1 0 0 1)) ≡ 9
-unfolding ownCauses firstRefusal list-lookup.lookup list-lookup.firstOf entry.isAt mappingsBy
+unfolding ownCauses firstRefusal list-lookup.lookup list-lookup.firstFound entry.isAt mappingsBy
 own-fresh = refl
 
 own-mapped : firstRefusal (ownCauses board01 (listing 256) (map 0 255 0 1)) ≡ 7
-unfolding ownCauses firstRefusal list-lookup.lookup list-lookup.firstOf entry.isAt mappingsBy
+unfolding ownCauses firstRefusal list-lookup.lookup list-lookup.firstFound entry.isAt mappingsBy
 own-mapped = refl
 
 -- ---- the rows

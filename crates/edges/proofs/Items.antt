@@ -11,7 +11,7 @@ use Rattle.mapping.specs.Entry.{zeroMapping}
 use Rattle.manager.specs.Answers.{accepted}
 use Rattle.manager.specs.Batch.{itemAt, batchResult, wholeResult}
 use Rattle.manager.specs.Calls.{noOps}
-use Rattle.manager.specs.Inserted.{mappingRefusal, listedBy, listAfter, refusalAt, relisted, listedAll, wholeRefusal, batchMade}
+use Rattle.manager.specs.Inserted.{mappingRefusal, listedBy, listAfterItems, refusalAt, relisted, listedAll, wholeRefusal, batchMade}
 use Rattle.manager.specs.Refusals.{firstRefusal}
 use Rattle.manager.specs.Tables.{tabulate}
 use Rattle.machine.specs.Call.{mapOf, perform}
@@ -35,8 +35,8 @@ listWith b l [] = l
 listWith b l (m ∷ ms) = listWith b (next b l m) ms
 
 -- the first item mapped, the others are those of a list by itself
-later : (b : Board) (l : MappingList) (m : Mapping) (ms : List Mapping) (k : ℕ) → listAfter b l (m ∷ ms) (suc k) ≡ listAfter b (next b l m) ms k
-unfolding listAfter
+later : (b : Board) (l : MappingList) (m : Mapping) (ms : List Mapping) (k : ℕ) → listAfterItems b l (m ∷ ms) (suc k) ≡ listAfterItems b (next b l m) ms k
+unfolding listAfterItems
 later b l m ms zero = refl
 later b l m ms (suc k) = ap (λ (x : MappingList). next b x (itemAt ms k)) (later b l m ms k)
 
@@ -47,8 +47,8 @@ refusals-are b l (m ∷ ms) =
     (λ i. mappingRefusal b l m ∷ tabulate (length ms) (λ k. mappingRefusal b (later b l m ms k i) (itemAt ms k)))
     ∙ ap (λ (ns : List ℕ). mappingRefusal b l m ∷ ns) (refusals-are b (next b l m) ms)
 
-list-is : (b : Board) (l : MappingList) (ms : List Mapping) → listAfter b l ms (length ms) ≡ listWith b l ms
-unfolding listAfter listWith
+list-is : (b : Board) (l : MappingList) (ms : List Mapping) → listAfterItems b l ms (length ms) ≡ listWith b l ms
+unfolding listAfterItems listWith
 list-is b l [] = refl
 list-is b l (m ∷ ms) = later b l m ms (length ms) ∙ list-is b (next b l m) ms
 

@@ -20,7 +20,7 @@ use Rattle.machine.specs.Call.{perform}
 use Rattle.machine.specs.State as machine
 use Rattle.machine.specs.State.{State, state, Call, single, mapAll, Answer, Result}
 use Rattle.machine.specs.Step.{answer}
-use Rattle.run_sheet.specs.Run.{start}
+use Rattle.run_sheet.specs.Run.{sheetStart}
 use Rattle.edges.specs.Rows as seen
 use Rattle.edges.specs.Rows.{Seen}
 
@@ -144,13 +144,13 @@ refusesWhole n lent = answer (refused n) none lent
 abbrev pub leaves : State → Seen
 leaves st = seen.tables (st .tables .list) (st .tables .protections)
 
-abbrev pub listed : List Mapping → List ℕ → Seen
-listed mappings protections = seen.tables (listOf mappings) (protections ++ replicate (capacity - length protections) 0)
+abbrev pub listedWith : List Mapping → List ℕ → Seen
+listedWith mappings protections = seen.tables (listOf mappings) (protections ++ replicate (capacity - length protections) 0)
 
 -- ---- states
 
 abbrev pub fresh : State
-fresh = start board01
+fresh = sheetStart board01
 
 -- the state with other mappings, records or cache
 abbrev pub withList : MappingList → State → State

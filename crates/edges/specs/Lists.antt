@@ -5,7 +5,7 @@ use Prim.Native.Nat.{_-_}
 use lib.ListN.{replicate}
 use Rattle.mapping.specs.declared.Mapping.{Mapping}
 use Rattle.machine.specs.State.{State, Call, mapAll}
-use Rattle.edges.specs.Calls.{after, ask, mapThese, each, refusesWhole, unanswered, fresh, listing, recorded, tagged, withCache, wroteLast, mapping, pageMapping, mappingsBy, pagesMapped, listOf, holding, unfilled, leaves, listed}
+use Rattle.edges.specs.Calls.{after, ask, mapThese, each, refusesWhole, unanswered, fresh, listing, recorded, tagged, withCache, wroteLast, mapping, pageMapping, mappingsBy, pagesMapped, listOf, holding, unfilled, leaves, listedWith}
 use Rattle.edges.specs.Rows.{answers, tables, Row, _gives_}
 
 -- ---- the rows of long lists, which take the longest to compute
@@ -81,14 +81,14 @@ lists =
     ∷ fullLeft
     -- a double within the list gets 7, and the next item goes to its place; made again, all get 7
     ∷ (answers (ask wroteLast (double ∷ double ∷ [])) gives answers (each (0 ∷ 7 ∷ 0 ∷ []) ∷ each (7 ∷ 7 ∷ 7 ∷ []) ∷ []))
-    ∷ (leaves (after wroteLast (double ∷ [])) gives listed (mapping 0 1 5 2 ∷ mapping 0 2 5 2 ∷ mapping 0 10 5 1 ∷ []) (0 ∷ 2 ∷ 1 ∷ []))
+    ∷ (leaves (after wroteLast (double ∷ [])) gives listedWith (mapping 0 1 5 2 ∷ mapping 0 2 5 2 ∷ mapping 0 10 5 1 ∷ []) (0 ∷ 2 ∷ 1 ∷ []))
     -- each item by its own cause
     ∷ (answers (ask fresh (numbered ∷ [])) gives answers (each (3 ∷ 3 ∷ 4 ∷ 5 ∷ 5 ∷ 0 ∷ []) ∷ []))
-    ∷ (leaves (after fresh (numbered ∷ [])) gives listed (mapping 15 1023 63 2 ∷ []) (0 ∷ []))
+    ∷ (leaves (after fresh (numbered ∷ [])) gives listedWith (mapping 15 1023 63 2 ∷ []) (0 ∷ []))
     -- no item, or none accepted: the protections stay as they were lent; with one accepted all are filled
     ∷ (answers (ask onePage (mapThese [] ∷ noneTaken ∷ [])) gives answers (each [] ∷ each (7 ∷ 3 ∷ []) ∷ []))
     ∷ (leaves (after onePage (mapThese [] ∷ noneTaken ∷ [])) gives tables (listOf (mapping 0 1 5 1 ∷ [])) unfilled)
-    ∷ (leaves (after onePage (mapThese (mapping 0 1 6 2 ∷ mapping 0 0 5 1 ∷ []) ∷ [])) gives listed (mapping 0 0 5 1 ∷ mapping 0 1 5 1 ∷ []) (0 ∷ 0 ∷ []))
+    ∷ (leaves (after onePage (mapThese (mapping 0 1 6 2 ∷ mapping 0 0 5 1 ∷ []) ∷ [])) gives listedWith (mapping 0 0 5 1 ∷ mapping 0 1 5 1 ∷ []) (0 ∷ 0 ∷ []))
     -- a broken list, record or tag: 2 for each item and not for the whole, and before 3
     ∷ (answers (ask broken (mapThese two ∷ mapThese [] ∷ [])) gives answers (each (2 ∷ 2 ∷ []) ∷ each [] ∷ []))
     ∷ (leaves (after broken (mapThese two ∷ [])) gives tables (listOf (mapping 0 9 5 1 ∷ mapping 0 1 5 1 ∷ [])) unfilled)

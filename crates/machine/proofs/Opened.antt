@@ -25,7 +25,7 @@ unfolding board.lines board.cacheWords board.memoryWords board.colourOf frame-re
 records-opened = tt
 
 list-opened : Unit {0}
-unfolding entry.inRange entry.isZero entry.isAt entry.isBefore list-rules.allInRange list-rules.risesAt list-rules.rising list-rules.restZero list-rules.keepsRules list-lookup.firstOf list-lookup.lookup list-lookup.mappingOf list-lookup.placeFor list-change.empty list-change.insertAt list-change.remove
+unfolding entry.inRange entry.isZero entry.isAt entry.isBefore list-rules.allInRange list-rules.risesAt list-rules.rising list-rules.restZero list-rules.keepsRules list-lookup.firstFound list-lookup.lookup list-lookup.mappingOf list-lookup.placeFor list-change.empty list-change.insertAt list-change.remove
 list-opened = tt
 
 tables-opened : Unit {0}

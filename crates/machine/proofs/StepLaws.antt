@@ -28,7 +28,7 @@ use Rattle.manager.specs.Refusals.{firstRefusal, placeIn, refusalPlace, inOrder
 use Rattle.manager.specs.Tables.{Tables, tables, lengthsRight, rulesKept, recordAt}
 use Rattle.manager.proofs.CauseLaws.{appliesIn, cleared-in, mapped-range}
 use Rattle.manager.proofs.FirstRefusal.{in-order-numbered}
-use Rattle.cache.specs.Store.{Store, WellFormed}
+use Rattle.cache.specs.Store.{Store, WellFormedStore}
 use Rattle.cache.specs.Tag.{tagsKeepRules}
 use Rattle.machine.specs.Ready.{OperationsReady, AccessReady, TransferReady, PartReady}
 use Rattle.machine.specs.Refusals.{storeLengths, bufferRight, causes}
@@ -107,7 +107,7 @@ module _ (b : Board) (st : State) (call : Single) where
   unfolding causes
   rules-clear e = not-false _ (cleared 2 e)
 
-  pub store-clear : firstRefusal (causes b st call) ≡ 0 → WellFormed b (st .store)
+  pub store-clear : firstRefusal (causes b st call) ≡ 0 → WellFormedStore b (st .store)
   store-clear e =
       well-formed b (st .store)
       (and-right (lengthsRight b (st .tables)) _ (and-left _ (bufferRight b call) (lengths-clear e)))
@@ -184,7 +184,7 @@ module _ (b : Board) (st : State) (call : Single) (f : ℕ) (s : table.Step) (is
       let r = step-requires {change = change} reg p in
       (r .0, r .1, r .2, r .3, buffer-length b st call buffer (b .page) tested (planned-step _ _ change p .0), reg)
 
-pub evict-ready : (b : Board) (st : State) (line : ℕ) → firstRefusal (causes b st (evict line)) ≡ 0 → WellFormed b (st .store) × (line < lines b)
+pub evict-ready : (b : Board) (st : State) (line : ℕ) → firstRefusal (causes b st (evict line)) ≡ 0 → WellFormedStore b (st .store) × (line < lines b)
 unfolding causes
 evict-ready b st line e = (store-clear b st (evict line) e, leb-false (lines b) line (cleared b st (evict line) 6 e))
 

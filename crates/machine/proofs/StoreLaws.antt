@@ -13,7 +13,7 @@ use Rattle.page_model.specs.declared.Op.the-variants.{None, Flush, Purge}
 use Rattle.page_model.specs.declared.Ops.{Ops}
 use Rattle.page_model.specs.Step.{OpBelow}
 use Rattle.manager.specs.Answers.{operationOn, accepted}
-use Rattle.cache.specs.Store.{Store, WellFormed}
+use Rattle.cache.specs.Store.{Store, WellFormedStore}
 use Rattle.cache.specs.Tag.{tagsKeepRules}
 use Rattle.cache.proofs.Laws.Operations.{flush-kept, purge-kept}
 use Rattle.machine.specs.Ready.{AccessReady}
@@ -38,7 +38,7 @@ module _ (b : Board) (s : Store) where
   lengths-right m w t = ap₂ _&&_ (ap₂ _&&_ (eq-eqb _ _ m) (eq-eqb _ _ w)) (eq-eqb _ _ t)
 
   -- a store of its lengths whose tags keep the rules
-  pub well-formed : storeLengths b s ≡ true → tagsKeepRules b (s .tags) ≡ true → WellFormed b s
+  pub well-formed : storeLengths b s ≡ true → tagsKeepRules b (s .tags) ≡ true → WellFormedStore b s
   unfolding storeLengths
   well-formed l r =
       record {
@@ -51,8 +51,8 @@ module _ (b : Board) (s : Store) where
 -- ---- a frame's operations, and the access after them
 
 -- an operation on a frame leaves a store of its lengths, whose tags keep the rules
-pub operate-kept : (b : Board) → Regular b → (f : ℕ) → f < b .frames → (op : Op) → OpBelow (b .colours) op → (s : Store) → WellFormed b s
-    → WellFormed b (operate b (operationOn f op) s)
+pub operate-kept : (b : Board) → Regular b → (f : ℕ) → f < b .frames → (op : Op) → OpBelow (b .colours) op → (s : Store) → WellFormedStore b s
+    → WellFormedStore b (operate b (operationOn f op) s)
 unfolding operate
 operate-kept b reg f hf None below s wf = wf
 operate-kept b reg f hf (Flush c) below s wf = flush-kept b reg f c hf below s wf
@@ -60,12 +60,12 @@ operate-kept b reg f hf (Purge c) below s wf = purge-kept b reg f c below s wf
 
 -- and so do two
 pub carryOut-kept : (b : Board) → Regular b → (f : ℕ) → f < b .frames → (ops : Ops) → OpBelow (b .colours) (ops .first) → OpBelow (b .colours) (ops .second)
-    → (s : Store) → WellFormed b s → WellFormed b (carryOut b (accepted f ops) s)
+    → (s : Store) → WellFormedStore b s → WellFormedStore b (carryOut b (accepted f ops) s)
 unfolding carryOut
 carryOut-kept b reg f hf ops first second s wf = operate-kept b reg f hf (ops .second) second _ (operate-kept b reg f hf (ops .first) first s wf)
 
 -- so an access may follow them
 pub access-follows : (b : Board) (f : ℕ) (ops : Ops) (colour offset : ℕ) {s s′ : Store} → AccessReady b s f ops colour offset → s′ ≡ carryOut b (accepted f ops) s
-    → WellFormed b s′ × (f < b .frames) × (colour < b .colours) × (offset < b .page) × Regular b
+    → WellFormedStore b s′ × (f < b .frames) × (colour < b .colours) × (offset < b .page) × Regular b
 access-follows b f ops colour offset r e =
-    (subst⁻¹ (WellFormed b) e (carryOut-kept b (r .6) f (r .1) ops (r .2) (r .3) _ (r .0)), r .1, r .4, r .5, r .6)
+    (subst⁻¹ (WellFormedStore b) e (carryOut-kept b (r .6) f (r .1) ops (r .2) (r .3) _ (r .0)), r .1, r .4, r .5, r .6)

@@ -8,26 +8,26 @@ use Rattle.board.specs.declared.Board.{Board}
 use Rattle.board.specs.Board.{Regular}
 use Rattle.page_model.specs.declared.Ops.{Ops}
 use Rattle.page_model.specs.Step.{OpBelow}
-use Rattle.cache.specs.Store.{Store, WellFormed}
+use Rattle.cache.specs.Store.{Store, WellFormedStore}
 
 -- the operations on a frame
 abbrev pub OperationsReady : Board → Store → ℕ → Ops → Type 0
-OperationsReady b s f ops = WellFormed b s × (f < b .frames) × OpBelow (b .colours) (ops .first) × OpBelow (b .colours) (ops .second) × Regular b
+OperationsReady b s f ops = WellFormedStore b s × (f < b .frames) × OpBelow (b .colours) (ops .first) × OpBelow (b .colours) (ops .second) × Regular b
 
 -- and an access after them
 abbrev pub AccessReady : Board → Store → ℕ → Ops → ℕ → ℕ → Type 0
 AccessReady b s f ops colour offset =
-    WellFormed b s × (f < b .frames) × OpBelow (b .colours) (ops .first) × OpBelow (b .colours) (ops .second) × (colour < b .colours) × (offset < b .page)
+    WellFormedStore b s × (f < b .frames) × OpBelow (b .colours) (ops .first) × OpBelow (b .colours) (ops .second) × (colour < b .colours) × (offset < b .page)
     × Regular b
 
 -- or a device's read
 abbrev pub TransferReady : Board → Store → ℕ → Ops → List ℕ → Type 0
 TransferReady b s f ops buffer =
-    WellFormed b s × (f < b .frames) × OpBelow (b .colours) (ops .first) × OpBelow (b .colours) (ops .second) × (length buffer ≡ b .page) × Regular b
+    WellFormedStore b s × (f < b .frames) × OpBelow (b .colours) (ops .first) × OpBelow (b .colours) (ops .second) × (length buffer ≡ b .page) × Regular b
 
 -- or its write of some words from offset first on, all in the page
 abbrev pub PartReady : Board → Store → ℕ → Ops → ℕ → List ℕ → Type 0
 PartReady b s f ops first buffer =
-    WellFormed b s × (f < b .frames) × OpBelow (b .colours) (ops .first) × OpBelow (b .colours) (ops .second) × (0 < length buffer)
+    WellFormedStore b s × (f < b .frames) × OpBelow (b .colours) (ops .first) × OpBelow (b .colours) (ops .second) × (0 < length buffer)
     × (first + length buffer ≤ b .page)
     × Regular b

@@ -5,7 +5,7 @@ ghost use Rattle.board.specs.Board.{Regular};
 ghost use Rattle.page_model.specs.Step.{OpBelow};
 ghost use Rattle.manager.specs.Answers.{operationOn, accepted};
 ghost use Rattle.cache.specs.Cache.{readWord, access, writeWord, deviceRead, deviceWrite};
-ghost use Rattle.cache.specs.Store.{store, WellFormed};
+ghost use Rattle.cache.specs.Store.{store, WellFormedStore};
 ghost use Rattle.machine.specs.Ready.{OperationsReady, AccessReady, TransferReady, PartReady};
 ghost use Rattle.machine.specs.Step.{operate, carryOut};
 use board::Board;
@@ -14,7 +14,7 @@ use page_model::Ops;
 
 // Carries out one operation on a frame.
 fn operate(board: Board, memory: &mut [u32], words: &[u32], tags: &mut [u8], frame: usize, op: Op)
-    requires { ⌜ WellFormed board (store (now memory) (now words) (now tags)) × (frame < board .frames) × OpBelow (board .colours) op × Regular board ⌝ }
+    requires { ⌜ WellFormedStore board (store (now memory) (now words) (now tags)) × (frame < board .frames) × OpBelow (board .colours) op × Regular board ⌝ }
     ensures { λ _. ⌜ store (now (memory .exit)) (now (words .entry)) (now (tags .exit))
         ≡ operate board (operationOn frame op) (store (now (memory .entry)) (now (words .entry)) (now (tags .entry))) ⌝ }
 {

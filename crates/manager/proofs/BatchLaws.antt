@@ -13,7 +13,7 @@ use Rattle.mapping.specs.declared.MappingList.{MappingList}
 use Rattle.mapping.specs.Batch.{batchSize}
 use Rattle.mapping.specs.Change.{insert}
 use Rattle.manager.specs.Answers.{Outcome, refused, accepted}
-use Rattle.manager.specs.Inserted.{mappingRefusal, listedBy, listAfter, refusalAt, relisted, listedAll, wholeRefusal, batchMade}
+use Rattle.manager.specs.Inserted.{mappingRefusal, listedBy, listAfterItems, refusalAt, relisted, listedAll, wholeRefusal, batchMade}
 use Rattle.manager.specs.Batch.{itemAt, BatchResult, batchResult, wholeResult}
 use Rattle.manager.specs.Calls.{noOps}
 use Rattle.manager.specs.Refusals.{_if_, batchCause}
@@ -31,7 +31,7 @@ pub listed-refused : (n : ℕ) (l : MappingList) (m : Mapping) → (n ≡ 0 → 
 listed-refused zero l m h = absurd (h refl)
 listed-refused (suc n) l m h = refl
 
-module _ (b : Board) (l : MappingList) (items : List Mapping) (k : ℕ) {before : MappingList} {m : Mapping} {n : ℕ} (list : before ≡ listAfter b l items k)
+module _ (b : Board) (l : MappingList) (items : List Mapping) (k : ℕ) {before : MappingList} {m : Mapping} {n : ℕ} (list : before ≡ listAfterItems b l items k)
     (item : m ≡ itemAt items k) (refusal : n ≡ mappingRefusal b before m) where
   -- its refusal
   pub refusal-more : n ≡ refusalAt b l items k
@@ -39,11 +39,11 @@ module _ (b : Board) (l : MappingList) (items : List Mapping) (k : ℕ) {before 
   refusal-more = refusal ∙ ap₂ (mappingRefusal b) list item
 
   -- and the list with it
-  pub list-more : {after : MappingList} → after ≡ listedBy n before m → after ≡ listAfter b l items (k + 1)
-  unfolding listAfter refusalAt
+  pub list-more : {after : MappingList} → after ≡ listedBy n before m → after ≡ listAfterItems b l items (k + 1)
+  unfolding listAfterItems refusalAt
   list-more {after} e =
       let next : k + 1 ≡ suc k = omega arith in
-      e ∙ (λ i. listedBy (refusal-more i) (list i) (item i)) ∙ ap (listAfter b l items) (sym next)
+      e ∙ (λ i. listedBy (refusal-more i) (list i) (item i)) ∙ ap (listAfterItems b l items) (sym next)
 
 -- ---- the whole
 
@@ -95,6 +95,6 @@ module _ (b : Board) (lent : ℕ) (t : Tables) (items : List Mapping) (answers :
 
     -- the items are listed
     pub made-listed : {o : Outcome} {given : List ℕ} {after : Tables} → lent ≡ 0 → o ≡ accepted 0 noOps → given ≡ tabulate (length items) (refusalAt b (t .list) items)
-        → after ≡ relisted b t (listAfter b (t .list) items (length items)) → batchResult o given after ≡ batchMade b lent t items answers
+        → after ≡ relisted b t (listAfterItems b (t .list) items (length items)) → batchResult o given after ≡ batchMade b lent t items answers
     unfolding listedAll
     made-listed z eo eg et = (λ i. batchResult (eo i) (eg i) (et i)) ∙ made-by (ap (λ (n : ℕ). listedAll b n t items) (sym z))

@@ -21,7 +21,7 @@ use Rattle.mapping.specs.Look.{find, look}
 use Rattle.mapping.specs.Lookup.{listedMapping}
 use Rattle.manager.specs.declared.Change.{Change}
 use Rattle.manager.specs.declared.Plan.the-variants as step-plan
-use Rattle.manager.specs.Calls.{planned, changeOf, planAccess, result, noOps, plainResult}
+use Rattle.manager.specs.Calls.{planned, changeOf, planAccess, callResult, noOps, plainResult}
 use Rattle.manager.specs.Answers as answer
 use Rattle.manager.specs.Answers.{Outcome, accepted}
 use Rattle.manager.specs.Refusals.{Cause, _if_, firstRefusal, busyCause, tableCauses, pageCauses, readCauses, writeCauses, toldTables, toldAccess}
@@ -97,12 +97,12 @@ module _ (b : Board) (l : MappingList) (rs ps : List ℕ) (space page : ℕ) (wr
 
 -- ---- a call without orders
 
-pub plain-refused : (n : ℕ) (t next : Tables) {k : ℕ} → k ≡ n → (k ≡ 0 → ⊥) → result (answer.refused k) t ≡ plainResult n t next
+pub plain-refused : (n : ℕ) (t next : Tables) {k : ℕ} → k ≡ n → (k ≡ 0 → ⊥) → callResult (answer.refused k) t ≡ plainResult n t next
 plain-refused n t next {k} e h = go k h ∙ ap (λ (m : ℕ). plainResult m t next) e
   where
-    go : (k : ℕ) → (k ≡ 0 → ⊥) → result (answer.refused k) t ≡ plainResult k t next
+    go : (k : ℕ) → (k ≡ 0 → ⊥) → callResult (answer.refused k) t ≡ plainResult k t next
     go zero h = absurd (h refl)
     go (suc k) h = refl
 
-pub plain-made : (n : ℕ) (t next : Tables) {o : Outcome} {u : Tables} → n ≡ 0 → o ≡ accepted 0 noOps → u ≡ next → result o u ≡ plainResult n t next
-plain-made n t next e eo eu = ap₂ result eo eu ∙ ap (λ (m : ℕ). plainResult m t next) (sym e)
+pub plain-made : (n : ℕ) (t next : Tables) {o : Outcome} {u : Tables} → n ≡ 0 → o ≡ accepted 0 noOps → u ≡ next → callResult o u ≡ plainResult n t next
+plain-made n t next e eo eu = ap₂ callResult eo eu ∙ ap (λ (m : ℕ). plainResult m t next) (sym e)

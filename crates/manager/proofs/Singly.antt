@@ -14,7 +14,7 @@ use Rattle.mapping.specs.Change.{insert}
 use Rattle.mapping.specs.Lookup.{placeFor}
 use Rattle.mapping.proofs.Laws.{inserted-count}
 use Rattle.manager.specs.Answers.{accepted, numberOf}
-use Rattle.manager.specs.Inserted.{mappingRefusal, listedBy, listAfter, refusalAt, relisted, listedAll, batchMade}
+use Rattle.manager.specs.Inserted.{mappingRefusal, listedBy, listAfterItems, refusalAt, relisted, listedAll, batchMade}
 use Rattle.manager.specs.Batch.{itemAt, BatchResult, batchResult, wholeResult, tablesAfter, answerAt, mapAllCall}
 use Rattle.manager.specs.Calls.{noOps, commitMap, placed, listResult}
 use Rattle.manager.specs.Refusals.{Cause, _if_, firstRefusal, tableCauses, mapCauses, mappingCauses, batchCause}
@@ -103,13 +103,13 @@ module _ (b : Board) (lent : Tables → ℕ) (items : List Mapping) (after : ℕ
     module _ (clear : lent (after 0) ≡ 0) where
       -- after k items
       pub record Listed (k : ℕ) : Type 0 where
-        pub tables-are : after k ≡ relisted b (after 0) (listAfter b (after 0 .list) items k)
+        pub tables-are : after k ≡ relisted b (after 0) (listAfterItems b (after 0 .list) items k)
         pub still-clear : lent (after k) ≡ 0
-        pub no-fewer : after 0 .list .count ≤ listAfter b (after 0 .list) items k .count
+        pub no-fewer : after 0 .list .count ≤ listAfterItems b (after 0 .list) items k .count
 
       module _ (k : ℕ) (h : Listed k) where
         abbrev list : MappingList
-        list = listAfter b (after 0 .list) items k
+        list = listAfterItems b (after 0 .list) items k
 
         abbrev item : Mapping
         item = itemAt items k
@@ -131,12 +131,12 @@ module _ (b : Board) (lent : Tables → ℕ) (items : List Mapping) (after : ℕ
         answer-is = refusal-is ∙ ap (λ (l : MappingList). mappingRefusal b l item) list-is
 
         more : (n : ℕ) → answer k ≡ n → Listed (suc k)
-        unfolding listAfter refusalAt refill
+        unfolding listAfterItems refusalAt refill
         more zero e =
             let taken = next k ∙ ap (λ (x : ℕ). takenBy b x (after k) item) e in
             let w = kept (after k) (h .still-clear) in
             let free = sym refusal-is ∙ e in
-            let list-next : insert list item ≡ listAfter b (after 0 .list) items (suc k) = ap (λ (x : ℕ). listedBy x list item) (sym e ∙ answer-is) in
+            let list-next : insert list item ≡ listAfterItems b (after 0 .list) items (suc k) = ap (λ (x : ℕ). listedBy x list item) (sym e ∙ answer-is) in
             let count = subst (λ (l : MappingList). insert l item .count ≡ suc (l .count)) list-is (one-count b (after k) w item free) in
             let most = h .no-fewer in
             record {
@@ -150,7 +150,7 @@ module _ (b : Board) (lent : Tables → ℕ) (items : List Mapping) (after : ℕ
             }
         more (suc n) e =
             let taken = next k ∙ ap (λ (x : ℕ). takenBy b x (after k) item) e in
-            let list-next : list ≡ listAfter b (after 0 .list) items (suc k) = ap (λ (x : ℕ). listedBy x list item) (sym e ∙ answer-is) in
+            let list-next : list ≡ listAfterItems b (after 0 .list) items (suc k) = ap (λ (x : ℕ). listedBy x list item) (sym e ∙ answer-is) in
             record {
               tables-are = taken ∙ h .tables-are ∙ ap (relisted b (after 0)) list-next;
               still-clear = ap lent taken ∙ h .still-clear;
@@ -158,7 +158,7 @@ module _ (b : Board) (lent : Tables → ℕ) (items : List Mapping) (after : ℕ
             }
 
       pub listed : (k : ℕ) → Listed k
-      unfolding listAfter
+      unfolding listAfterItems
       listed zero = record { tables-are = relisted-same b (after 0) (after 0 .list) refl; still-clear = clear; no-fewer = omega arith }
       listed (suc k) = more k (listed k) (answer k) refl
 

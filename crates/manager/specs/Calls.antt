@@ -92,8 +92,8 @@ pub record Result : Type 0 where
   pub answer : Outcome
   pub after : Tables
 
-abbrev pub result : Outcome → Tables → Result
-result o t = record { answer = o; after = t }
+abbrev pub callResult : Outcome → Tables → Result
+callResult o t = record { answer = o; after = t }
 
 -- no order
 abbrev pub noOps : Ops
@@ -101,12 +101,12 @@ noOps = record { first = None; second = None }
 
 -- a refusal leaves the tables as they were
 abbrev pub stepResult : Board → Tables → Plan → Result
-stepResult b t (step-plan.Refused n) = result (refused n) t
-stepResult b t (step-plan.Step change) = result (accepted (change .frame) (change .ops)) (commitChange b t (change .frame) (change .next))
+stepResult b t (step-plan.Refused n) = callResult (refused n) t
+stepResult b t (step-plan.Step change) = callResult (accepted (change .frame) (change .ops)) (commitChange b t (change .frame) (change .next))
 
 abbrev pub listResult : Tables → (ℕ → Tables) → ListPlan → Result
-listResult t next (list-plan.Refused n) = result (refused n) t
-listResult t next (list-plan.Place place) = result (accepted 0 noOps) (next place)
+listResult t next (list-plan.Refused n) = callResult (refused n) t
+listResult t next (list-plan.Place place) = callResult (accepted 0 noOps) (next place)
 
 abbrev pub readCall : Board → Tables → ℕ → ℕ → Result
 readCall b t space page = stepResult b t (planRead b t space page)
@@ -131,8 +131,8 @@ beginWriteCall b t frame = stepResult b t (planTransfer b t frame beginWrite)
 
 -- a call without orders: its refusal, or the tables after it
 abbrev pub plainResult : ℕ → Tables → Tables → Result
-plainResult zero t next = result (accepted 0 noOps) next
-plainResult (suc n) t next = result (refused (suc n)) t
+plainResult zero t next = callResult (accepted 0 noOps) next
+plainResult (suc n) t next = callResult (refused (suc n)) t
 
 -- a word changes no record: the protections are filled, since every accepted call leaves them so
 abbrev pub moveWordCall : Board → Tables → ℕ → ℕ → ℕ → Result

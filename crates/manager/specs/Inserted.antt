@@ -27,15 +27,15 @@ listedBy zero l m = insert l m
 listedBy (suc n) l m = l
 
 -- the list after the first k items
-unfoldable pub listAfter : Board → MappingList → List Mapping → ℕ → MappingList
+unfoldable pub listAfterItems : Board → MappingList → List Mapping → ℕ → MappingList
 unfolding mappingRefusal
-listAfter b l items zero = l
-listAfter b l items (suc k) = listedBy (mappingRefusal b (listAfter b l items k) (itemAt items k)) (listAfter b l items k) (itemAt items k)
+listAfterItems b l items zero = l
+listAfterItems b l items (suc k) = listedBy (mappingRefusal b (listAfterItems b l items k) (itemAt items k)) (listAfterItems b l items k) (itemAt items k)
 
 -- the refusal of item k, or 0
 unfoldable pub refusalAt : Board → MappingList → List Mapping → ℕ → ℕ
-unfolding listAfter
-refusalAt b l items k = mappingRefusal b (listAfter b l items k) (itemAt items k)
+unfolding listAfterItems
+refusalAt b l items k = mappingRefusal b (listAfterItems b l items k) (itemAt items k)
 
 -- ---- the tables
 
@@ -48,7 +48,7 @@ relisted b t l =
 unfoldable pub listedAll : Board → ℕ → Tables → List Mapping → BatchResult
 unfolding refusalAt
 listedAll b zero t items =
-    batchResult (accepted 0 noOps) (tabulate (length items) (refusalAt b (t .list) items)) (relisted b t (listAfter b (t .list) items (length items)))
+    batchResult (accepted 0 noOps) (tabulate (length items) (refusalAt b (t .list) items)) (relisted b t (listAfterItems b (t .list) items (length items)))
 listedAll b (suc lent) t items = batchResult (accepted 0 noOps) (tabulate (length items) (λ k. suc lent)) t
 
 -- the refusal of the whole, of so many items and answers: lengths in what is lent, or 12

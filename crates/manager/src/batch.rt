@@ -7,7 +7,7 @@ ghost use Rattle.board.specs.Board.{Regular};
 ghost use Rattle.mapping.specs.Batch.{batchSize, itemsOf};
 ghost use Rattle.mapping.specs.Rules.{keepsRules};
 ghost use Rattle.manager.specs.Answers.{outcome};
-ghost use Rattle.manager.specs.Inserted.{listAfter, refusalAt, wholeRefusal, batchMade};
+ghost use Rattle.manager.specs.Inserted.{listAfterItems, refusalAt, wholeRefusal, batchMade};
 ghost use Rattle.manager.specs.Batch.{batchResult};
 ghost use Rattle.manager.specs.Tables.{tables, tabulate};
 use super::Listed;
@@ -76,7 +76,7 @@ fn answer_each(answers: &mut [u8], number: u8)
 // Inserts each item that is not refused, and answers each.
 fn insert_all(board: Board, list: MappingList, batch: Batch, answers: &mut [u8]) -> MappingList
     requires { ⌜ (length (now answers) ≡ batch .count) × (batch .count ≤ batchSize) × (keepsRules board list ≡ true) ⌝ }
-    ensures { λ r. ⌜ (r ≡ listAfter board list (itemsOf batch) (batch .count)) × (now (answers .exit) ≡ tabulate (batch .count) (refusalAt board list (itemsOf batch))) ⌝ }
+    ensures { λ r. ⌜ (r ≡ listAfterItems board list (itemsOf batch) (batch .count)) × (now (answers .exit) ≡ tabulate (batch .count) (refusalAt board list (itemsOf batch))) ⌝ }
 {
     let mut next = list;
     let mut i = 0;

@@ -6,7 +6,7 @@ ghost use Rattle.mapping.specs.Batch.{itemsOf};
 ghost use Rattle.manager.specs.Answers.{outcome};
 ghost use Rattle.manager.specs.Batch.{batchResult, mapAllCall};
 ghost use Rattle.manager.specs.Tables.{tables, tabulate, startWord};
-ghost use Rattle.manager.specs.Calls.{result, mapCall, unmapCall, readCall, writeCall, deviceReadCall, deviceWriteCall, deviceWritePartCall, beginReadCall, beginWriteCall, moveWordCall, bringWordCall, takeWordCall, endTransferCall};
+ghost use Rattle.manager.specs.Calls.{callResult, mapCall, unmapCall, readCall, writeCall, deviceReadCall, deviceWriteCall, deviceWritePartCall, beginReadCall, beginWriteCall, moveWordCall, bringWordCall, takeWordCall, endTransferCall};
 use super::Answer;
 use super::ListPlan;
 use super::Listed;
@@ -46,7 +46,7 @@ pub fn start(records: &mut [u32])
 
 // Gives a page of a space its frame.
 pub fn map(list: MappingList, records: &[u32], protections: &mut [u8], m: Mapping) -> Listed
-    ensures { λ r. ⌜ result (outcome (r .answer)) (tables (r .list) (now (records .entry)) (now (protections .exit)))
+    ensures { λ r. ⌜ callResult (outcome (r .answer)) (tables (r .list) (now (records .entry)) (now (protections .exit)))
         ≡ mapCall board01 (tables list (now (records .entry)) (now (protections .entry))) (m .space) (m .page) (m .frame) (m .rights) ⌝ }
 {
     let plan = plan_map(BOARD01, list, records, protections, m);
@@ -87,7 +87,7 @@ pub fn unmap(
     space: u8,
     page: u16,
 ) -> Listed
-    ensures { λ r. ⌜ result (outcome (r .answer)) (tables (r .list) (now (records .entry)) (now (protections .exit)))
+    ensures { λ r. ⌜ callResult (outcome (r .answer)) (tables (r .list) (now (records .entry)) (now (protections .exit)))
         ≡ unmapCall board01 (tables list (now (records .entry)) (now (protections .entry))) space page ⌝ }
 {
     let plan = plan_unmap(BOARD01, list, records, protections, space, page);
@@ -111,7 +111,7 @@ pub fn read(
     space: u8,
     page: u16,
 ) -> Answer
-    ensures { λ r. ⌜ result (outcome r) (tables list (now (records .exit)) (now (protections .exit)))
+    ensures { λ r. ⌜ callResult (outcome r) (tables list (now (records .exit)) (now (protections .exit)))
         ≡ readCall board01 (tables list (now (records .entry)) (now (protections .entry))) space page ⌝ }
 {
     let seen = mapping::look(BOARD01, list, space, page);
@@ -127,7 +127,7 @@ pub fn write(
     space: u8,
     page: u16,
 ) -> Answer
-    ensures { λ r. ⌜ result (outcome r) (tables list (now (records .exit)) (now (protections .exit)))
+    ensures { λ r. ⌜ callResult (outcome r) (tables list (now (records .exit)) (now (protections .exit)))
         ≡ writeCall board01 (tables list (now (records .entry)) (now (protections .entry))) space page ⌝ }
 {
     let seen = mapping::look(BOARD01, list, space, page);
@@ -142,7 +142,7 @@ pub fn device_read(
     protections: &mut [u8],
     frame: u8,
 ) -> Answer
-    ensures { λ r. ⌜ result (outcome r) (tables list (now (records .exit)) (now (protections .exit)))
+    ensures { λ r. ⌜ callResult (outcome r) (tables list (now (records .exit)) (now (protections .exit)))
         ≡ deviceReadCall board01 (tables list (now (records .entry)) (now (protections .entry))) frame ⌝ }
 {
     let plan = plan_device_read(BOARD01, list, records, protections, frame);
@@ -156,7 +156,7 @@ pub fn device_write(
     protections: &mut [u8],
     frame: u8,
 ) -> Answer
-    ensures { λ r. ⌜ result (outcome r) (tables list (now (records .exit)) (now (protections .exit)))
+    ensures { λ r. ⌜ callResult (outcome r) (tables list (now (records .exit)) (now (protections .exit)))
         ≡ deviceWriteCall board01 (tables list (now (records .entry)) (now (protections .entry))) frame ⌝ }
 {
     device_write_part(list, records, protections, frame, 0, BOARD01.page)
@@ -171,7 +171,7 @@ pub fn device_write_part(
     first: usize,
     number: usize,
 ) -> Answer
-    ensures { λ r. ⌜ result (outcome r) (tables list (now (records .exit)) (now (protections .exit)))
+    ensures { λ r. ⌜ callResult (outcome r) (tables list (now (records .exit)) (now (protections .exit)))
         ≡ deviceWritePartCall board01 (tables list (now (records .entry)) (now (protections .entry))) frame first number ⌝ }
 {
     let plan = plan_device_write_part(BOARD01, list, records, protections, frame, first, number);
@@ -185,7 +185,7 @@ pub fn begin_read(
     protections: &mut [u8],
     frame: u8,
 ) -> Answer
-    ensures { λ r. ⌜ result (outcome r) (tables list (now (records .exit)) (now (protections .exit)))
+    ensures { λ r. ⌜ callResult (outcome r) (tables list (now (records .exit)) (now (protections .exit)))
         ≡ beginReadCall board01 (tables list (now (records .entry)) (now (protections .entry))) frame ⌝ }
 {
     let plan = plan_begin(BOARD01, list, records, protections, frame, false);
@@ -199,7 +199,7 @@ pub fn begin_write(
     protections: &mut [u8],
     frame: u8,
 ) -> Answer
-    ensures { λ r. ⌜ result (outcome r) (tables list (now (records .exit)) (now (protections .exit)))
+    ensures { λ r. ⌜ callResult (outcome r) (tables list (now (records .exit)) (now (protections .exit)))
         ≡ beginWriteCall board01 (tables list (now (records .entry)) (now (protections .entry))) frame ⌝ }
 {
     let plan = plan_begin(BOARD01, list, records, protections, frame, true);
@@ -214,7 +214,7 @@ pub fn bring_word(
     frame: u8,
     offset: usize,
 ) -> Answer
-    ensures { λ r. ⌜ result (outcome r) (tables list (now (records .entry)) (now (protections .exit)))
+    ensures { λ r. ⌜ callResult (outcome r) (tables list (now (records .entry)) (now (protections .exit)))
         ≡ bringWordCall board01 (tables list (now (records .entry)) (now (protections .entry))) frame offset ⌝ }
 {
     move_word(list, records, protections, frame, offset, busy::WRITING)
@@ -228,7 +228,7 @@ pub fn take_word(
     frame: u8,
     offset: usize,
 ) -> Answer
-    ensures { λ r. ⌜ result (outcome r) (tables list (now (records .entry)) (now (protections .exit)))
+    ensures { λ r. ⌜ callResult (outcome r) (tables list (now (records .entry)) (now (protections .exit)))
         ≡ takeWordCall board01 (tables list (now (records .entry)) (now (protections .entry))) frame offset ⌝ }
 {
     move_word(list, records, protections, frame, offset, busy::READING)
@@ -241,7 +241,7 @@ pub fn end_transfer(
     protections: &mut [u8],
     frame: u8,
 ) -> Answer
-    ensures { λ r. ⌜ result (outcome r) (tables list (now (records .exit)) (now (protections .exit)))
+    ensures { λ r. ⌜ callResult (outcome r) (tables list (now (records .exit)) (now (protections .exit)))
         ≡ endTransferCall board01 (tables list (now (records .entry)) (now (protections .entry))) frame ⌝ }
 {
     let kept = mapping::keeps_rules(BOARD01, list);
@@ -263,7 +263,7 @@ fn move_word(
     offset: usize,
     mark: u32,
 ) -> Answer
-    ensures { λ r. ⌜ result (outcome r) (tables list (now (records .entry)) (now (protections .exit)))
+    ensures { λ r. ⌜ callResult (outcome r) (tables list (now (records .entry)) (now (protections .exit)))
         ≡ moveWordCall board01 (tables list (now (records .entry)) (now (protections .entry))) frame offset mark ⌝ }
 {
     let kept = mapping::keeps_rules(BOARD01, list);

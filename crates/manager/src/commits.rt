@@ -2,7 +2,7 @@
 ghost use mathlib.Core.Path.{_≡_};
 ghost use Rattle.board.specs.declared.Board as any;
 ghost use Rattle.manager.specs.Answers.{outcome};
-ghost use Rattle.manager.specs.Calls.{result, stepResult, commitMap, commitUnmap, commitChange};
+ghost use Rattle.manager.specs.Calls.{callResult, stepResult, commitMap, commitUnmap, commitChange};
 ghost use Rattle.manager.specs.Tables.{tables, Colours};
 use super::Answer;
 use super::FrameOps;
@@ -80,7 +80,7 @@ pub fn carry_out(
 ) -> Answer
     requires { ⌜ Colours colours ⌝ }
     ensures { λ r. ⌜ ((b : any.Board) → b .colours ≡ colours
-        → result (outcome r) (tables list (now (records .exit)) (now (protections .exit)))
+        → callResult (outcome r) (tables list (now (records .exit)) (now (protections .exit)))
         ≡ stepResult b (tables list (now (records .entry)) (now (protections .entry))) plan) ⌝ }
 {
     match plan {

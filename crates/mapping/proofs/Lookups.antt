@@ -14,7 +14,7 @@ use Rattle.mapping.specs.Facts.{MapsTo, Rules, FoundAt, Unlisted}
 use Rattle.mapping.proofs.Entry.{isAt-true, maps-isAt, isAt-false, not-isAt}
 use Rattle.mapping.proofs.Order.{ordered-distinct}
 use Rattle.mapping.proofs.Rules.{count-length}
-use Rattle.mapping.proofs.First.{First, at-firstOf, nothing-firstOf, firstOf-cases, firstOf-at, firstOf-nothing}
+use Rattle.mapping.proofs.First.{First, at-firstFound, nothing-firstFound, firstFound-cases, firstFound-at, firstFound-nothing}
 
 -- ---- any list
 
@@ -24,25 +24,25 @@ module _ (l : MappingList) (s p : ℕ) where
 
   pub lookup-at : (i : ℕ) → lookup l s p ≡ At i → FoundAt l s p i
   unfolding lookup
-  lookup-at i e = found i (firstOf-at _ _ i e)
+  lookup-at i e = found i (firstFound-at _ _ i e)
 
   pub at-lookup : (i : ℕ) → FoundAt l s p i → lookup l s p ≡ At i
   unfolding lookup
-  at-lookup i f = at-firstOf _ _ i (record { below = omega arith; picked = maps-isAt _ _ _ (f .maps); earlier = λ k h. not-isAt _ _ _ (f .first k h) })
+  at-lookup i f = at-firstFound _ _ i (record { below = omega arith; picked = maps-isAt _ _ _ (f .maps); earlier = λ k h. not-isAt _ _ _ (f .first k h) })
 
   pub lookup-nothing : lookup l s p ≡ Nothing → Unlisted l s p
   unfolding lookup
-  lookup-nothing e i h k = isAt-false _ _ _ (firstOf-nothing _ _ e i (omega arith))
+  lookup-nothing e i h k = isAt-false _ _ _ (firstFound-nothing _ _ e i (omega arith))
 
   pub nothing-lookup : Unlisted l s p → lookup l s p ≡ Nothing
   unfolding lookup
-  nothing-lookup h = nothing-firstOf _ _ (λ k j. not-isAt _ _ _ (h k (omega arith) (omega arith)))
+  nothing-lookup h = nothing-firstFound _ _ (λ k j. not-isAt _ _ _ (h k (omega arith) (omega arith)))
 
   -- a page of a space is found at a first place, or is not listed
   pub lookup-cases : ((i : ℕ) × FoundAt l s p i) ⊎ Unlisted l s p
   lookup-cases =
       ⊎-elim (λ f. inl (f .0, found (f .0) (f .1))) (λ h. inr (λ k i j. isAt-false _ _ _ (h k (omega arith))))
-      (firstOf-cases (min (l .count) (length (l .items))) (λ k. isAt (mappingAt l k) s p))
+      (firstFound-cases (min (l .count) (length (l .items))) (λ k. isAt (mappingAt l k) s p))
 
   -- the mapping that is found
   pub mappingOf-at : (i : ℕ) → lookup l s p ≡ At i → mappingOf l s p ≡ some (mappingAt l i)

@@ -14,7 +14,7 @@ use Rattle.mapping.specs.Entry.{isBefore, mappingAt}
 use Rattle.mapping.specs.Lookup.{lookup, placeFor}
 use Rattle.mapping.specs.Facts.{MapsTo, Before, Ordered, Rules, FoundAt, Unlisted, GoesTo}
 use Rattle.mapping.proofs.Tests.{lt-or-le}
-use Rattle.mapping.proofs.First.{First, firstOf-cases}
+use Rattle.mapping.proofs.First.{First, firstFound-cases}
 use Rattle.mapping.proofs.Lookups.{at-lookup, nothing-lookup, listed-found}
 use Rattle.mapping.proofs.Order.{isBefore-true, before-isBefore, isBefore-false, not-isBefore, before-not-at, before-trans, before-page}
 
@@ -37,7 +37,7 @@ module _ (l : MappingList) (s p : ℕ) where
 
   -- in a list in order there is such a place
   pub place-goes : Ordered l → GoesTo l s p (placeFor l s p)
-  place-goes o = ⊎-elim (λ f. at (f .0) (goes-first (f .0) (f .1))) (λ h. at (l .count) (goes-last h)) (firstOf-cases (l .count) (λ k. not (isBefore (mappingAt l k) s p)))
+  place-goes o = ⊎-elim (λ f. at (f .0) (goes-first (f .0) (f .1))) (λ h. at (l .count) (goes-last h)) (firstFound-cases (l .count) (λ k. not (isBefore (mappingAt l k) s p)))
     where
       at : (i : ℕ) → GoesTo l s p i → GoesTo l s p (placeFor l s p)
       at i g = subst⁻¹ (GoesTo l s p) (goes-place i g) g

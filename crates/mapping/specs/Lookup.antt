@@ -16,13 +16,13 @@ orElse (At i) f = At i
 orElse Nothing f = f
 
 -- the first place below n that p picks
-unfoldable pub firstOf : ℕ → (ℕ → Bool) → Found
-firstOf zero p = Nothing
-firstOf (suc n) p = orElse (firstOf n p) (cond (p n) (At n) Nothing)
+unfoldable pub firstFound : ℕ → (ℕ → Bool) → Found
+firstFound zero p = Nothing
+firstFound (suc n) p = orElse (firstFound n p) (cond (p n) (At n) Nothing)
 
 -- the first listed place with this space and page
 unfoldable pub lookup : MappingList → ℕ → ℕ → Found
-lookup l space page = firstOf (min (l .count) (length (l .items))) (λ i. isAt (mappingAt l i) space page)
+lookup l space page = firstFound (min (l .count) (length (l .items))) (λ i. isAt (mappingAt l i) space page)
 
 -- the mapping at the place that was found
 abbrev pub mappingFound : MappingList → Found → Option Mapping

@@ -37,7 +37,7 @@ module _ (b : Board) (reg : Regular b) (space page : ℕ) where
   -- what a read of the page is lent where it is not refused, but by its offset
   record Ready (st : State) : Type 0 where
     pub tables-kept : WellFormedTables b (st .tables)
-    pub store-kept : hardware.WellFormed b (st .store)
+    pub store-kept : hardware.WellFormedStore b (st .store)
     pub in-space : spaceCause space page .applies ≡ false
     pub mapped : unmappedCause (st .tables .list) space page .applies ≡ false
     pub unbarred : pageBusy (st .tables .list) (st .tables .records) space page (table.read (colourOf b page)) .applies ≡ false

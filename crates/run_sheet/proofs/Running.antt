@@ -20,7 +20,7 @@ use Rattle.run_step.specs.Did.{Did}
 use Rattle.sheet_codec.specs.Format.{mostMappings, mostSteps, mappingCount, stepCount, isBroken}
 use Rattle.sheet_codec.specs.Put.{Put}
 use Rattle.run_sheet.specs.Ran.{Ran}
-use Rattle.run_sheet.specs.Run.{Run, startWith, start, runFrom, advance, advanceAll, afterMappings, afterSteps, runMappings, runSteps, closed, sheetText, textBytes, printed}
+use Rattle.run_sheet.specs.Run.{Run, startWith, sheetStart, runFrom, advance, advanceAll, afterMappings, afterSteps, runMappings, runSteps, closed, sheetText, textBytes, printed}
 use Rattle.sheet_codec.specs.Text.{mappingLine, mappingLineOf, stepLine, stepLineOf, endLine, refusedLine, lineBytes}
 use Rattle.sheet_codec.specs.Totals.{flushesOf, purgesOf}
 use Rattle.sheet_codec.proofs.Written.{overlay-nil, put-both, put-as, put-within}
@@ -166,7 +166,7 @@ ran-closed {r = r} h x y =
 module _ (sheet : List ℕ) (list : MappingList) (records : List ℕ) (m n : ℕ) where
   pub run-is : list ≡ empty → records ≡ startRecords (board01 .frames) (board01 .colours) → m ≡ mappingCount sheet → n ≡ stepCount sheet
       → afterSteps board01 sheet n (afterMappings board01 sheet m (runFrom (startWith board01 list records))) ≡ runSteps board01 sheet
-  unfolding start runSteps runMappings
+  unfolding sheetStart runSteps runMappings
   run-is e r f g = rw (e, r, f, g)
 
 module _ (l sheet : List ℕ) where

@@ -34,9 +34,9 @@ startWith b list records =
     (replicate (cacheWords b) 0)
     (replicate (lines b) 0)
 
-unfoldable pub start : Board → State
+unfoldable pub sheetStart : Board → State
 unfolding startWith empty startRecords
-start b = startWith b empty (startRecords (b .frames) (b .colours))
+sheetStart b = startWith b empty (startRecords (b .frames) (b .colours))
 
 -- nothing called yet
 abbrev pub runFrom : State → Run
@@ -75,8 +75,8 @@ afterSteps b sheet n r = advanceAll b stepLineOf (stepCall b sheet) n r
 
 -- all its mappings, from the start
 unfoldable pub runMappings : Board → List ℕ → Run
-unfolding start advanceAll mappingLine mappingCount mappingCall
-runMappings b sheet = afterMappings b sheet (mappingCount sheet) (runFrom (start b))
+unfolding sheetStart advanceAll mappingLine mappingCount mappingCall
+runMappings b sheet = afterMappings b sheet (mappingCount sheet) (runFrom (sheetStart b))
 
 -- and all its steps
 unfoldable pub runSteps : Board → List ℕ → Run

@@ -10,13 +10,13 @@ use lib.Dec.{leb, ltb}
 use lib.ListN.{length, getD}
 use Rattle.board.specs.declared.Board.{Board}
 use Rattle.board.specs.Board.{Regular, lineOf, cacheAt}
-use Rattle.cache.specs.Store.{Store, WellFormed, tagAt, memoryWord}
+use Rattle.cache.specs.Store.{Store, WellFormedStore, tagAt, memoryWord}
 use Rattle.cache.specs.Tag.{dirtyTag}
 use Rattle.cache.specs.Cache.{deviceWrite}
 use Rattle.cache.specs.Current.{Current, received}
 use Rattle.cache.proofs.Laws.Device.{deviceWrite-tags, deviceWrite-words, deviceWrite-memory-same, deviceWrite-memory-rest, deviceWrite-memory-other}
 
-module _ (b : Board) (reg : Regular b) (g : ℕ) (hg : g < b .frames) (first : ℕ) (buffer : List ℕ) (inside : first + length buffer ≤ b .page) (s : Store) (wf : WellFormed b s) where
+module _ (b : Board) (reg : Regular b) (g : ℕ) (hg : g < b .frames) (first : ℕ) (buffer : List ℕ) (inside : first + length buffer ≤ b .page) (s : Store) (wf : WellFormedStore b s) where
   -- it loses none of another frame
   pub device-current-other : (f : ℕ) (current : ℕ → ℕ) → f ≢ g → Current b f current s → Current b f current (deviceWrite b g first buffer s)
   device-current-other f current ne was =

@@ -9,7 +9,7 @@ use lib.ListN.{getD}
 use Rattle.board.specs.declared.Board.{Board}
 use Rattle.board.specs.Board.{Regular, lines, lineOf, lineColour, cacheAt, memoryAt}
 use Rattle.board.proofs.Geometry.{lineOf-lt, lineOf-colour, lineColour-lt}
-use Rattle.cache.specs.Store.{Store, WellFormed, tagAt, wordAt, memoryWord}
+use Rattle.cache.specs.Store.{Store, WellFormedStore, tagAt, wordAt, memoryWord}
 use Rattle.cache.specs.Tag.{dirtyTag}
 use Rattle.cache.specs.Cache.{writeBack, evict, flush, replace, access}
 use Rattle.cache.specs.Current.{Current, LosesNone}
@@ -19,7 +19,7 @@ use Rattle.cache.proofs.Laws.Operations.{flush-keeps}
 use Rattle.cache.proofs.Laws.Access.{replace-tag-same, replace-tag-other, replace-word-other, replace-memory, access-cases}
 
 -- line n is written back and its tag then is no dirty one of f; the other lines are as they were
-module _ (b : Board) (reg : Regular b) (f : ℕ) (current : ℕ → ℕ) (s : Store) (wf : WellFormed b s) (was : Current b f current s) (n : ℕ) (hn : n < lines b) where
+module _ (b : Board) (reg : Regular b) (f : ℕ) (current : ℕ → ℕ) (s : Store) (wf : WellFormedStore b s) (was : Current b f current s) (n : ℕ) (hn : n < lines b) where
   module _ (t : Store) (memory : t .memory ≡ writeBack b n s .memory) (tag-same : tagAt t n ≢ dirtyTag f) (tag-other : (m : ℕ) → m ≢ n → tagAt t m ≡ tagAt s m) (word-other : (c o : ℕ) → lineOf b c o ≢ n → wordAt b t c o ≡ wordAt b s c o) where
     line-current : (c o : ℕ) → c < b .colours → o < b .page → tagAt t (lineOf b c o) ≡ dirtyTag f → Dec (lineOf b c o ≡ n) → wordAt b t c o ≡ current o
     line-current c o hc ho d (yes e) = absurd (tag-same (sym (ap (tagAt t) e) ∙ d))

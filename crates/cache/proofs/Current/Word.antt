@@ -9,13 +9,13 @@ use lib.Dec.{eqb}
 use lib.ListN.{getD}
 use Rattle.board.specs.declared.Board.{Board}
 use Rattle.board.specs.Board.{Regular, lineOf, cacheAt}
-use Rattle.cache.specs.Store.{Store, WellFormed, tagAt, memoryWord}
+use Rattle.cache.specs.Store.{Store, WellFormedStore, tagAt, memoryWord}
 use Rattle.cache.specs.Tag.{dirtyTag}
 use Rattle.cache.specs.Cache.{bringWord}
 use Rattle.cache.specs.Current.{Current, written}
 use Rattle.cache.proofs.Laws.Device.{bringWord-tags, bringWord-words, bringWord-memory-same, bringWord-memory-rest, bringWord-memory-other}
 
-module _ (b : Board) (reg : Regular b) (g : ℕ) (hg : g < b .frames) (o v : ℕ) (ho : o < b .page) (s : Store) (wf : WellFormed b s) where
+module _ (b : Board) (reg : Regular b) (g : ℕ) (hg : g < b .frames) (o v : ℕ) (ho : o < b .page) (s : Store) (wf : WellFormedStore b s) where
   tag : (n : ℕ) → tagAt (bringWord b g o v s) n ≡ tagAt s n
   tag n = ap (λ (l : List ℕ). getD l n 0) (bringWord-tags b reg g hg s wf o v ho)
 

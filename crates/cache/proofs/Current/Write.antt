@@ -10,7 +10,7 @@ use borrow.Author.Tests.{eq-eqb, ne-eqb}
 use Rattle.board.specs.declared.Board.{Board}
 use Rattle.board.specs.Board.{Regular, lineOf, lineColour, memoryAt}
 use Rattle.board.proofs.Geometry.{lineOf-colour}
-use Rattle.cache.specs.Store.{Store, WellFormed, tagAt, wordAt}
+use Rattle.cache.specs.Store.{Store, WellFormedStore, tagAt, wordAt}
 use Rattle.cache.specs.Tag.{dirtyTag, names}
 use Rattle.cache.specs.Cache.{access, writeWord}
 use Rattle.cache.specs.Current.{Current, written}
@@ -27,7 +27,7 @@ written-same o v current p e = rw (eq-eqb p o e)
 written-other : (o v : ℕ) (current : ℕ → ℕ) (p : ℕ) → p ≢ o → written o v current p ≡ current p
 written-other o v current p ne = rw (ne-eqb p o ne)
 
-module _ (b : Board) (reg : Regular b) (g c o : ℕ) (hg : g < b .frames) (hc : c < b .colours) (ho : o < b .page) (s : Store) (wf : WellFormed b s) (v : ℕ) where
+module _ (b : Board) (reg : Regular b) (g c o : ℕ) (hg : g < b .frames) (hc : c < b .colours) (ho : o < b .page) (s : Store) (wf : WellFormedStore b s) (v : ℕ) where
   -- another line's tag is as it was
   tag-kept : (m : ℕ) → m ≢ lineOf b c o → tagAt (writeWord b g c o v s) m ≡ tagAt (access b g c o s) m
   tag-kept m ne = writeWord-tag-other b reg g c o hg hc ho s wf v m ne ∙ sym (access-tag-other b reg g c o hg hc ho s wf m ne)
@@ -55,7 +55,7 @@ module _ (b : Board) (reg : Regular b) (g c o : ℕ) (hg : g < b .frames) (hc : 
       no-line : (p : ℕ) → ((d : ℕ) → d < b .colours → tagAt (writeWord b g c o v s) (lineOf b d p) ≡ dirtyTag f → ⊥) → (d : ℕ) → d < b .colours → tagAt (access b g c o s) (lineOf b d p) ≡ dirtyTag f → Dec (lineOf b d p ≡ lineOf b c o) → ⊥
       no-line p none d hd dirty (no apart) = none d hd (tag-kept (lineOf b d p) apart ∙ dirty)
       no-line p none d hd dirty (yes e) =
-          let w : WellFormed b (access b g c o s) = access-kept b reg g c o hg hc ho s wf in
+          let w : WellFormedStore b (access b g c o s) = access-kept b reg g c o hg hc ho s wf in
           let here : tagAt (access b g c o s) (lineOf b c o) ≡ dirtyTag f = sym (ap (tagAt (access b g c o s)) e) ∙ dirty in
           let hf : f < b .frames = dirty-frame-lt b reg (access b g c o s) w (lineOf b c o) f here in
           ne (names-one b reg (tagAt (access b g c o s) (lineOf b c o)) f g hf hg (ap (λ (t : ℕ). names t f) here ∙ names-dirty f) (access-names b reg g c o hg hc ho s wf))

@@ -10,7 +10,7 @@ use lib.Seq.{getD-set-same, getD-set-other}
 use Rattle.board.specs.declared.Board.{Board}
 use Rattle.board.specs.Board.{Regular, lines, lineOf, cacheAt, memoryAt}
 use Rattle.board.proofs.Geometry.{lineOf-lt, lineOf-colour, cacheAt-lt, cacheAt-line-inj, cacheAt-offset-inj}
-use Rattle.cache.specs.Store.{Store, WellFormed, tagAt, wordAt, memoryWord}
+use Rattle.cache.specs.Store.{Store, WellFormedStore, tagAt, wordAt, memoryWord}
 use Rattle.cache.specs.Tag.{cleanTag, dirtyTag, names}
 use Rattle.cache.specs.Cache.{writeBack, replace, access, readWord, writeWord}
 use Rattle.cache.proofs.Laws.Tag.{names-clean, names-dirty, rules-dirty, rules-set}
@@ -19,8 +19,8 @@ use Rattle.cache.proofs.Laws.Fill.{fill-kept, fill-tag-same, fill-tag-o
 
 -- ---- a line replaced
 
-module _ (b : Board) (reg : Regular b) (s : Store) (wf : WellFormed b s) (f n : ℕ) (hf : f < b .frames) (hn : n < lines b) where
-  pub replace-kept : WellFormed b (replace b f n s)
+module _ (b : Board) (reg : Regular b) (s : Store) (wf : WellFormedStore b s) (f n : ℕ) (hf : f < b .frames) (hn : n < lines b) where
+  pub replace-kept : WellFormedStore b (replace b f n s)
   unfolding replace
   replace-kept = fill-kept b reg (writeBack b n s) (writeBack-kept b reg s wf n hn) f n hf hn
 
@@ -50,7 +50,7 @@ module _ (b : Board) (reg : Regular b) (s : Store) (wf : WellFormed b s) (f n : 
 
 -- ---- access, to offset o of frame f through colour c
 
-module _ (b : Board) (reg : Regular b) (f c o : ℕ) (hf : f < b .frames) (hc : c < b .colours) (ho : o < b .page) (s : Store) (wf : WellFormed b s) where
+module _ (b : Board) (reg : Regular b) (f c o : ℕ) (hf : f < b .frames) (hc : c < b .colours) (ho : o < b .page) (s : Store) (wf : WellFormedStore b s) where
   hn : lineOf b c o < lines b
   hn = lineOf-lt b reg c o hc ho
 
@@ -74,8 +74,8 @@ module _ (b : Board) (reg : Regular b) (f c o : ℕ) (hf : f < b .frames) (hc : 
   not-dirty : names (tagAt s (lineOf b c o)) f ≡ false → tagAt s (lineOf b c o) ≢ dirtyTag f
   not-dirty e d = true≢false (sym (ap (λ (t : ℕ). names t f) d ∙ names-dirty f) ∙ e)
 
-  pub access-kept : WellFormed b (access b f c o s)
-  access-kept = access-cases (WellFormed b) (λ _. wf) (λ _. replace-kept b reg s wf f (lineOf b c o) hf hn)
+  pub access-kept : WellFormedStore b (access b f c o s)
+  access-kept = access-cases (WellFormedStore b) (λ _. wf) (λ _. replace-kept b reg s wf f (lineOf b c o) hf hn)
 
   pub access-names : names (tagAt (access b f c o s) (lineOf b c o)) f ≡ true
   access-names =
@@ -120,11 +120,11 @@ module _ (b : Board) (reg : Regular b) (f c o : ℕ) (hf : f < b .frames) (hc : 
 
   -- ---- write
 
-  pub writeWord-kept : (v : ℕ) → WellFormed b (writeWord b f c o v s)
+  pub writeWord-kept : (v : ℕ) → WellFormedStore b (writeWord b f c o v s)
   unfolding writeWord
   writeWord-kept v =
       let t : Store = access b f c o s in
-      let w : WellFormed b t = access-kept in
+      let w : WellFormedStore b t = access-kept in
       record {
         memory-length = w .memory-length;
         words-length = length-set (t .words) (cacheAt b c o) v ∙ w .words-length;

@@ -10,11 +10,11 @@ use Rattle.board.specs.declared.Board.{Board}
 use Rattle.board.specs.Board.{Regular, frameAt, memoryAt}
 use Rattle.board.proofs.Geometry.{frameAt-end, frameAt-within, memoryAt-lt}
 use Rattle.cache.specs.Part.{overlay}
-use Rattle.cache.specs.Store.{Store, WellFormed, memoryWord}
+use Rattle.cache.specs.Store.{Store, WellFormedStore, memoryWord}
 use Rattle.cache.specs.Cache.{deviceRead, deviceWrite, bringWord}
 use Rattle.cache.proofs.Laws.Part.{length-part, part-at, length-overlay, overlay-inside, overlay-outside}
 
-module _ (b : Board) (reg : Regular b) (f : ℕ) (hf : f < b .frames) (s : Store) (wf : WellFormed b s) where
+module _ (b : Board) (reg : Regular b) (f : ℕ) (hf : f < b .frames) (s : Store) (wf : WellFormedStore b s) where
   -- ---- memory to device
 
   pub deviceRead-length : length (deviceRead b f s) ≡ b .page
@@ -32,7 +32,7 @@ module _ (b : Board) (reg : Regular b) (f : ℕ) (hf : f < b .frames) (s : Store
     unfolding memoryAt
     fits = let e = wf .memory-length in omega (arith, frameAt-end b reg f hf)
 
-    pub deviceWrite-kept : WellFormed b (deviceWrite b f first buffer s)
+    pub deviceWrite-kept : WellFormedStore b (deviceWrite b f first buffer s)
     unfolding deviceWrite
     deviceWrite-kept =
         record {
@@ -71,7 +71,7 @@ module _ (b : Board) (reg : Regular b) (f : ℕ) (hf : f < b .frames) (s : Store
   -- ---- one word, at offset o
 
   module _ (o v : ℕ) (ho : o < b .page) where
-    pub bringWord-kept : WellFormed b (bringWord b f o v s)
+    pub bringWord-kept : WellFormedStore b (bringWord b f o v s)
     unfolding bringWord
     bringWord-kept =
         record {

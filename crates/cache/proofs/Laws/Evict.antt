@@ -10,7 +10,7 @@ use lib.ListN.{getD, length-set}
 use lib.Seq.{getD-set-same, getD-set-other}
 use Rattle.board.specs.declared.Board.{Board}
 use Rattle.board.specs.Board.{Regular, lines, lineOf, lineColour}
-use Rattle.cache.specs.Store.{Store, WellFormed, tagAt, wordAt, memoryWord, withTag}
+use Rattle.cache.specs.Store.{Store, WellFormedStore, tagAt, wordAt, memoryWord, withTag}
 use Rattle.cache.specs.Tag.{emptyTag, dirtyTag, names, tagKeepsRules}
 use Rattle.cache.specs.Cache.{writeBack, empty, evict}
 use Rattle.cache.proofs.Laws.Tag.{names-not-empty, rules-set, rules-empty}
@@ -18,9 +18,9 @@ use Rattle.cache.proofs.Laws.WriteBack.{writeBack-tags, writeBack-words
 
 -- ---- empty
 
-module _ (b : Board) (reg : Regular b) (s : Store) (wf : WellFormed b s) where
+module _ (b : Board) (reg : Regular b) (s : Store) (wf : WellFormedStore b s) where
   -- one tag replaced by another that keeps the rules
-  pub tags-kept : (n tag : ℕ) → tagKeepsRules b tag ≡ true → WellFormed b (withTag n tag s)
+  pub tags-kept : (n tag : ℕ) → tagKeepsRules b tag ≡ true → WellFormedStore b (withTag n tag s)
   tags-kept n tag k =
       record {
         memory-length = wf .memory-length;
@@ -35,7 +35,7 @@ module _ (b : Board) (reg : Regular b) (s : Store) (wf : WellFormed b s) where
   pub withTag-other : (n tag m : ℕ) → m ≢ n → tagAt (withTag n tag s) m ≡ tagAt s m
   withTag-other n tag m h = getD-set-other (s .tags) n m tag 0 h
 
-  pub empty-kept : (n : ℕ) → WellFormed b (empty n s)
+  pub empty-kept : (n : ℕ) → WellFormedStore b (empty n s)
   unfolding empty
   empty-kept n = tags-kept n emptyTag (rules-empty b reg)
 
@@ -57,8 +57,8 @@ module _ (b : Board) (reg : Regular b) (s : Store) (wf : WellFormed b s) where
 
 -- ---- evict
 
-module _ (b : Board) (reg : Regular b) (s : Store) (wf : WellFormed b s) (n : ℕ) (hn : n < lines b) where
-  pub evict-kept : WellFormed b (evict b n s)
+module _ (b : Board) (reg : Regular b) (s : Store) (wf : WellFormedStore b s) (n : ℕ) (hn : n < lines b) where
+  pub evict-kept : WellFormedStore b (evict b n s)
   unfolding evict
   evict-kept = empty-kept b reg (writeBack b n s) (writeBack-kept b reg s wf n hn) n
 

@@ -10,14 +10,14 @@ use Rattle.board.specs.declared.Board.{Board}
 use Rattle.board.specs.Board.{Regular, lines, lineOf, lineAt, cacheAt, lineOffset, memoryAt}
 use Rattle.board.proofs.Geometry.{lineAt-end, lineOf-offset, memoryAt-line, memoryAt-line-end, cacheAt-within}
 use Rattle.cache.specs.Part.{part, overlay}
-use Rattle.cache.specs.Store.{Store, WellFormed, tagAt, wordAt, memoryWord, withWords}
+use Rattle.cache.specs.Store.{Store, WellFormedStore, tagAt, wordAt, memoryWord, withWords}
 use Rattle.cache.specs.Tag.{cleanTag}
 use Rattle.cache.specs.Cache.{fill}
 use Rattle.cache.proofs.Laws.Part.{length-part, part-at, length-overlay, overlay-inside, overlay-outside}
 use Rattle.cache.proofs.Laws.Tag.{rules-clean}
 use Rattle.cache.proofs.Laws.Evict.{tags-kept, withTag-same, withTag-other}
 
-module _ (b : Board) (reg : Regular b) (s : Store) (wf : WellFormed b s) (f n : ℕ) (hf : f < b .frames) (hn : n < lines b) where
+module _ (b : Board) (reg : Regular b) (s : Store) (wf : WellFormedStore b s) (f n : ℕ) (hf : f < b .frames) (hn : n < lines b) where
   line-in : List ℕ
   line-in = part (s .memory) (memoryAt b f (lineOffset b n)) (b .line)
 
@@ -28,7 +28,7 @@ module _ (b : Board) (reg : Regular b) (s : Store) (wf : WellFormed b s) (f n : 
   in-fits : lineAt b n + length line-in ≤ length (s .words)
   in-fits = let e = wf .words-length in omega (arith, in-length, lineAt-end b reg n hn)
 
-  pub fill-kept : WellFormed b (fill b f n s)
+  pub fill-kept : WellFormedStore b (fill b f n s)
   unfolding fill line-in
   fill-kept =
       tags-kept b reg (withWords (overlay (s .words) (lineAt b n) line-in) s)

@@ -8,7 +8,7 @@ use lib.ListN.{getD}
 use Rattle.board.specs.declared.Board.{Board}
 use Rattle.board.specs.Board.{Regular, lines, pageLines, lineOf, cacheAt, lineColour}
 use Rattle.board.proofs.Geometry.{lineOf-lt, lineOf-colour}
-use Rattle.cache.specs.Store.{Store, WellFormed, tagAt, wordAt, memoryWord, when}
+use Rattle.cache.specs.Store.{Store, WellFormedStore, tagAt, wordAt, memoryWord, when}
 use Rattle.cache.specs.Tag.{emptyTag, dirtyTag, names}
 use Rattle.cache.specs.Cache.{empty, evict, sweep, flushLine, purgeLine, flush, purge}
 use Rattle.cache.proofs.Laws.Tag.{names-dirty, names-one}
@@ -39,7 +39,7 @@ module _ (b : Board) (reg : Regular b) (f : ℕ) where
   pub flushLine-empties : Empties b f (flushLine b f)
   flushLine-empties =
       record {
-        kept = λ n s h w. flushLine-cases (WellFormed b) n s w (λ e. evict-kept b reg s w n h);
+        kept = λ n s h w. flushLine-cases (WellFormedStore b) n s w (λ e. evict-kept b reg s w n h);
         tag-same = λ n s h w e. rw (flushLine-named n s e) (evict-tag-same b reg s w n h);
         tag-left = λ n s e. rw (flushLine-other n s e);
         tag-other = λ n s h w m ne. flushLine-cases (λ t. tagAt t m ≡ tagAt s m) n s refl (λ e. evict-tag-other b reg s w n h m ne);
@@ -60,7 +60,7 @@ module _ (b : Board) (reg : Regular b) (f : ℕ) where
   pub purgeLine-empties : Empties b f (purgeLine f)
   purgeLine-empties =
       record {
-        kept = λ n s h w. purgeLine-cases (WellFormed b) n s w (empty-kept b reg s w n);
+        kept = λ n s h w. purgeLine-cases (WellFormedStore b) n s w (empty-kept b reg s w n);
         tag-same = λ n s h w e. rw (purgeLine-named n s e) (empty-tag-same b reg s w n h);
         tag-left = λ n s e. rw (purgeLine-other n s e);
         tag-other = λ n s h w m ne. purgeLine-cases (λ t. tagAt t m ≡ tagAt s m) n s refl (empty-tag-other b reg s w n m ne);
@@ -73,8 +73,8 @@ pub flush-done : (b : Board) (f c i : ℕ) (s : Store) → i ≡ pageLines b →
 unfolding flush
 flush-done b f c i s e = ap (λ (k : ℕ). sweep b (flushLine b f) c k s) e
 
-module _ (b : Board) (reg : Regular b) (f c : ℕ) (hf : f < b .frames) (hc : c < b .colours) (s : Store) (wf : WellFormed b s) where
-  pub flush-kept : WellFormed b (flush b f c s)
+module _ (b : Board) (reg : Regular b) (f c : ℕ) (hf : f < b .frames) (hc : c < b .colours) (s : Store) (wf : WellFormedStore b s) where
+  pub flush-kept : WellFormedStore b (flush b f c s)
   unfolding flush
   flush-kept = sweep-kept b reg f (flushLine b f) (flushLine-empties b reg f) c hc s wf
 
@@ -140,7 +140,7 @@ module _ (b : Board) (reg : Regular b) (f c : ℕ) (hf : f < b .frames) (hc : c 
       ∙ turn .before (λ t. memoryWord b t g o) (memory-apart g o ho)
 
 -- what each eviction keeps, a flush keeps
-pub flush-keeps : (b : Board) (reg : Regular b) (f c : ℕ) → c < b .colours → (s : Store) → WellFormed b s → (P : Store → Type 0) → ((m : ℕ) (t : Store) → m < lines b → WellFormed b t → P t → P (evict b m t)) → P s → P (flush b f c s)
+pub flush-keeps : (b : Board) (reg : Regular b) (f c : ℕ) → c < b .colours → (s : Store) → WellFormedStore b s → (P : Store → Type 0) → ((m : ℕ) (t : Store) → m < lines b → WellFormedStore b t → P t → P (evict b m t)) → P s → P (flush b f c s)
 unfolding flush
 flush-keeps b reg f c hc s wf P step p =
     sweep-keeps b reg f (flushLine b f) (flushLine-empties b reg f) c hc s wf P
@@ -152,8 +152,8 @@ pub purge-done : (b : Board) (f c i : ℕ) (s : Store) → i ≡ pageLines b →
 unfolding purge
 purge-done b f c i s e = ap (λ (k : ℕ). sweep b (purgeLine f) c k s) e
 
-module _ (b : Board) (reg : Regular b) (f c : ℕ) (hc : c < b .colours) (s : Store) (wf : WellFormed b s) where
-  pub purge-kept : WellFormed b (purge b f c s)
+module _ (b : Board) (reg : Regular b) (f c : ℕ) (hc : c < b .colours) (s : Store) (wf : WellFormedStore b s) where
+  pub purge-kept : WellFormedStore b (purge b f c s)
   unfolding purge
   purge-kept = sweep-kept b reg f (purgeLine f) (purgeLine-empties b reg f) c hc s wf
 

@@ -9,26 +9,26 @@ use native.Mathlib.Decide.{ℕ-discrete}
 use Rattle.board.specs.declared.Board.{Board}
 use Rattle.board.specs.Board.{Regular, lines, pageLines, colourLine, lineColour}
 use Rattle.board.proofs.Geometry.{colourLine-lt, colourLine-colour, colourLine-index, colourLine-split, colourLine-inj}
-use Rattle.cache.specs.Store.{Store, WellFormed, tagAt}
+use Rattle.cache.specs.Store.{Store, WellFormedStore, tagAt}
 use Rattle.cache.specs.Tag.{emptyTag, names}
 use Rattle.cache.specs.Cache.{sweep}
 use Rattle.cache.proofs.Laws.Tag.{names-empty, names-not-empty}
 
 -- an operation that, on any line, empties it if it names f and leaves it else, and touches no other line's tag
 pub record Empties (b : Board) (f : ℕ) (op : ℕ → Store → Store) : Type 0 where
-  pub kept : (n : ℕ) (s : Store) → n < lines b → WellFormed b s → WellFormed b (op n s)
-  pub tag-same : (n : ℕ) (s : Store) → n < lines b → WellFormed b s → names (tagAt s n) f ≡ true → tagAt (op n s) n ≡ emptyTag
+  pub kept : (n : ℕ) (s : Store) → n < lines b → WellFormedStore b s → WellFormedStore b (op n s)
+  pub tag-same : (n : ℕ) (s : Store) → n < lines b → WellFormedStore b s → names (tagAt s n) f ≡ true → tagAt (op n s) n ≡ emptyTag
   pub tag-left : (n : ℕ) (s : Store) → names (tagAt s n) f ≡ false → tagAt (op n s) n ≡ tagAt s n
-  pub tag-other : (n : ℕ) (s : Store) → n < lines b → WellFormed b s → (m : ℕ) → m ≢ n → tagAt (op n s) m ≡ tagAt s m
+  pub tag-other : (n : ℕ) (s : Store) → n < lines b → WellFormedStore b s → (m : ℕ) → m ≢ n → tagAt (op n s) m ≡ tagAt s m
 
 -- a sight of the store that the turn of a line of colour c does not change, but for line n
 abbrev pub Apart : Board → (ℕ → Store → Store) → ℕ → ℕ → (Store → ℕ) → Type 0
-Apart b op c n look = (m : ℕ) (t : Store) → m < lines b → lineColour b m ≡ c → WellFormed b t → m ≢ n → look (op m t) ≡ look t
+Apart b op c n look = (m : ℕ) (t : Store) → m < lines b → lineColour b m ≡ c → WellFormedStore b t → m ≢ n → look (op m t) ≡ look t
 
 -- the store at line n's turn: what the other turns do not change is as it was, and as line n's turn leaves it, so it stays
 pub record Turn (b : Board) (op : ℕ → Store → Store) (c : ℕ) (s : Store) (n : ℕ) : Type 0 where
   pub now : Store
-  pub kept : WellFormed b now
+  pub kept : WellFormedStore b now
   pub before : (look : Store → ℕ) → Apart b op c n look → look now ≡ look s
   pub after : (look : Store → ℕ) → Apart b op c n look → look (sweep b op c (pageLines b) s) ≡ look (op n now)
 
@@ -37,28 +37,28 @@ pub sweep-more : (b : Board) (op : ℕ → Store → Store) (c i : ℕ) (s : Sto
 unfolding sweep
 sweep-more b op c i s = ap (λ (k : ℕ). sweep b op c k s) (add-one i)
 
-module _ (b : Board) (reg : Regular b) (f : ℕ) (op : ℕ → Store → Store) (does : Empties b f op) (c : ℕ) (hc : c < b .colours) (s : Store) (wf : WellFormed b s) where
-  pub turn-kept : (i : ℕ) → i ≤ pageLines b → WellFormed b (sweep b op c i s)
+module _ (b : Board) (reg : Regular b) (f : ℕ) (op : ℕ → Store → Store) (does : Empties b f op) (c : ℕ) (hc : c < b .colours) (s : Store) (wf : WellFormedStore b s) where
+  pub turn-kept : (i : ℕ) → i ≤ pageLines b → WellFormedStore b (sweep b op c i s)
   unfolding sweep
   turn-kept zero h = wf
   turn-kept (suc i) h = does .kept (colourLine b c i) (sweep b op c i s) (colourLine-lt b reg c i hc h) (turn-kept i (omega arith))
 
-  pub sweep-kept : WellFormed b (sweep b op c (pageLines b) s)
+  pub sweep-kept : WellFormedStore b (sweep b op c (pageLines b) s)
   sweep-kept = turn-kept (pageLines b) (omega arith)
 
   -- the first i turns leave what none of them changes
-  skip : {A : Type 0} (look : Store → A) (i : ℕ) → i ≤ pageLines b → ((k : ℕ) (t : Store) → k < i → WellFormed b t → look (op (colourLine b c k) t) ≡ look t) → look (sweep b op c i s) ≡ look s
+  skip : {A : Type 0} (look : Store → A) (i : ℕ) → i ≤ pageLines b → ((k : ℕ) (t : Store) → k < i → WellFormedStore b t → look (op (colourLine b c k) t) ≡ look t) → look (sweep b op c i s) ≡ look s
   unfolding sweep
   skip look zero h keeps = refl
   skip look (suc i) h keeps =
       keeps i (sweep b op c i s) (omega arith) (turn-kept i (omega arith))
       ∙ skip look i (omega arith) (λ k t l w. keeps k t (omega arith) w)
 
-  pub sweep-same : {A : Type 0} (look : Store → A) → ((m : ℕ) (t : Store) → m < lines b → lineColour b m ≡ c → WellFormed b t → look (op m t) ≡ look t) → look (sweep b op c (pageLines b) s) ≡ look s
+  pub sweep-same : {A : Type 0} (look : Store → A) → ((m : ℕ) (t : Store) → m < lines b → lineColour b m ≡ c → WellFormedStore b t → look (op m t) ≡ look t) → look (sweep b op c (pageLines b) s) ≡ look s
   sweep-same look keeps = skip look (pageLines b) (omega arith) (λ k t l w. keeps (colourLine b c k) t (colourLine-lt b reg c k hc l) (colourLine-colour b reg c k l) w)
 
   -- the turns after turn j leave what none of them changes
-  reach : (look : Store → ℕ) (j i : ℕ) → j < i → i ≤ pageLines b → ((k : ℕ) (t : Store) → k < i → k ≢ j → WellFormed b t → look (op (colourLine b c k) t) ≡ look t) → look (sweep b op c i s) ≡ look (op (colourLine b c j) (sweep b op c j s))
+  reach : (look : Store → ℕ) (j i : ℕ) → j < i → i ≤ pageLines b → ((k : ℕ) (t : Store) → k < i → k ≢ j → WellFormedStore b t → look (op (colourLine b c k) t) ≡ look t) → look (sweep b op c i s) ≡ look (op (colourLine b c j) (sweep b op c j s))
   unfolding sweep
   reach look j zero l h keeps = absurd (omega arith)
   reach look j (suc i) l h keeps = go (ℕ-discrete i j) (λ g. reach look j i g (omega arith) (λ k t m ne w. keeps k t (omega arith) ne w))
@@ -72,7 +72,7 @@ module _ (b : Board) (reg : Regular b) (f : ℕ) (op : ℕ → Store → Store) 
       let j : ℕ = n % pageLines b in
       let l : j < pageLines b = colourLine-index b reg n in
       let own : colourLine b c j ≡ n = rw e at (colourLine-split b reg n) in
-      let others : (look : Store → ℕ) → Apart b op c n look → (k : ℕ) (t : Store) → k < pageLines b → k ≢ j → WellFormed b t → look (op (colourLine b c k) t) ≡ look t =
+      let others : (look : Store → ℕ) → Apart b op c n look → (k : ℕ) (t : Store) → k < pageLines b → k ≢ j → WellFormedStore b t → look (op (colourLine b c k) t) ≡ look t =
       λ look apart k t h ne w. apart (colourLine b c k) t (colourLine-lt b reg c k hc h) (colourLine-colour b reg c k h) w (λ q. ne (colourLine-inj b reg c k j (q ∙ sym own))) in
       record {
         now = sweep b op c j s;
@@ -125,7 +125,7 @@ module _ (b : Board) (reg : Regular b) (f : ℕ) (op : ℕ → Store → Store) 
       go (yes e) true q = absurd (names-not-empty g (sweep-tag-same n h e q) named)
 
   -- what every turn keeps, the sweep keeps
-  pub sweep-keeps : (P : Store → Type 0) → ((m : ℕ) (t : Store) → m < lines b → WellFormed b t → P t → P (op m t)) → P s → P (sweep b op c (pageLines b) s)
+  pub sweep-keeps : (P : Store → Type 0) → ((m : ℕ) (t : Store) → m < lines b → WellFormedStore b t → P t → P (op m t)) → P s → P (sweep b op c (pageLines b) s)
   unfolding sweep
   sweep-keeps P step p = go (pageLines b) (omega arith)
     where

@@ -8,13 +8,13 @@ use lib.ListN.{length, getD}
 use Rattle.board.specs.declared.Board.{Board}
 use Rattle.board.specs.Board.{Regular, lines, lineOf, lineAt, cacheAt, lineColour, lineOffset, memoryAt}
 use Rattle.board.proofs.Geometry.{lineAt-end, lineOf-offset, memoryAt-line, memoryAt-line-end, memoryAt-within-frame, memoryAt-within-line}
-use Rattle.cache.specs.Store.{Store, WellFormed, tagAt, wordAt, memoryWord, when}
+use Rattle.cache.specs.Store.{Store, WellFormedStore, tagAt, wordAt, memoryWord, when}
 use Rattle.cache.specs.Tag.{dirtyTag, isDirtyTag, frameOf, tagKeepsRules}
 use Rattle.cache.specs.Cache.{lineWordsOf, copyOut, writeBack}
 use Rattle.cache.proofs.Laws.Part.{length-part, part-at, length-overlay, overlay-inside, overlay-outside}
 use Rattle.cache.proofs.Laws.Tag.{isDirtyTag-dirty, frameOf-dirty, dirty-frame, rules-at, rules-frame}
 
-module _ (b : Board) (reg : Regular b) (s : Store) (wf : WellFormed b s) where
+module _ (b : Board) (reg : Regular b) (s : Store) (wf : WellFormedStore b s) where
   pub tag-keeps : (n : ℕ) → tagKeepsRules b (tagAt s n) ≡ true
   tag-keeps n = rules-at b reg (s .tags) n (wf .tags-rules)
 
@@ -34,7 +34,7 @@ module _ (b : Board) (reg : Regular b) (s : Store) (wf : WellFormed b s) where
     out-fits : memoryAt b g (lineOffset b n) + length (lineWordsOf b n s) ≤ length (s .memory)
     out-fits = let e = wf .memory-length in omega (arith, line-length n hn, memoryAt-line-end b reg g n hg)
 
-    copyOut-kept : WellFormed b (copyOut b g n s)
+    copyOut-kept : WellFormedStore b (copyOut b g n s)
     unfolding copyOut
     copyOut-kept =
         record {
@@ -99,8 +99,8 @@ module _ (b : Board) (reg : Regular b) (s : Store) (wf : WellFormed b s) where
   unfolding copyOut
   writeBack-words n = writeBack-cases (λ t. t .words ≡ s .words) n (λ e. refl) (λ f h e. refl)
 
-  pub writeBack-kept : (n : ℕ) → n < lines b → WellFormed b (writeBack b n s)
-  writeBack-kept n hn = writeBack-cases (WellFormed b) n (λ e. wf) (λ f h e. copyOut-kept f n h hn)
+  pub writeBack-kept : (n : ℕ) → n < lines b → WellFormedStore b (writeBack b n s)
+  writeBack-kept n hn = writeBack-cases (WellFormedStore b) n (λ e. wf) (λ f h e. copyOut-kept f n h hn)
 
   pub writeBack-memory-same : (n f c o : ℕ) → n < lines b → o < b .page → lineOf b c o ≡ n → tagAt s n ≡ dirtyTag f → memoryWord b (writeBack b n s) f o ≡ wordAt b s c o
   writeBack-memory-same n f c o hn ho e d = rw (writeBack-dirty n f d) (copyOut-memory-same f n (dirty-frame-lt n f d) hn c o ho e)

@@ -1,7 +1,7 @@
 -- `cache::access::replace` meets its contract.
 use borrow.Author.Needs.{needs}
 use mathlib.Core.Path.{ap, _∙_, subst⁻¹}
-use Rattle.cache.specs.Store.{WellFormed}
+use Rattle.cache.specs.Store.{WellFormedStore}
 use Rattle.cache.specs.Cache.{fill, replace}
 use Rattle.cache.proofs.Laws.WriteBack.{writeBack-kept}
 use Rattle.cache.proofs.access.replace.Statement.{statement}
@@ -18,7 +18,7 @@ fill-requires : tie.Need-fill-requires
 fill-requires c κs =
     let back = c .before .before .before .before .before in
     let start = start-of back in (
-      subst⁻¹ (WellFormed (start .args .board)) (back .write-back .ensures)
+      subst⁻¹ (WellFormedStore (start .args .board)) (back .write-back .ensures)
           (writeBack-kept _ (start .pre .3) _ (start .pre .0) _ (search needs)),
       start .pre .1,
       start .pre .2,

@@ -4,7 +4,7 @@ use Prim.Native.Nat.{_≤_, _-_}
 use native.Mathlib.Omega.{arith}
 use borrow.Author.Needs.{needs}
 use lib.ListN.{length}
-use Rattle.cache.specs.Store.{store, WellFormed}
+use Rattle.cache.specs.Store.{store, WellFormedStore}
 use Rattle.cache.specs.Cache.{sweep, flushLine}
 use Rattle.cache.proofs.Laws.Sweep.{turn-kept, sweep-more}
 use Rattle.cache.proofs.Laws.Operations.{flushLine-empties, flush-done}
@@ -34,7 +34,7 @@ flush-line-requires c κs =
     let at = c .before .before .before .before in
     let start = at .before .before .before .before .before in
     let pre = start .pre in (
-      subst⁻¹ (WellFormed (start .args .board)) (at .loop .inv .3)
+      subst⁻¹ (WellFormedStore (start .args .board)) (at .loop .inv .3)
           (turn-kept _ (pre .3) (start .args .frame) _ (flushLine-empties _ (pre .3) (start .args .frame)) (start .args .colour) (pre .2) _ (pre .0) (at .loop .i) (omega arith)),
       pre .1,
       search needs,

@@ -15,7 +15,7 @@ use Rattle.mapping.specs.Change.{insertAt, insert}
 use Rattle.mapping.specs.Entry.{capacity, zeroMapping}
 use Rattle.mapping.specs.Rules.{keepsRules}
 use Rattle.mapping.proofs.Laws.{items-length, items-of-at, keepsRules-true, rules-keepsRules, inserted-length, inserted-rules}
-use Rattle.manager.specs.Inserted.{mappingRefusal, listAfter, refusalAt}
+use Rattle.manager.specs.Inserted.{mappingRefusal, listAfterItems, refusalAt}
 use Rattle.manager.specs.Refusals.{firstRefusal, toldMapping}
 use Rattle.manager.proofs.AcceptedLaws.{mapping-accepted}
 use Rattle.manager.proofs.BatchLaws.{listed-accepted, listed-refused, refusal-more, list-more}
@@ -39,14 +39,14 @@ kept-more b l m kept e =
 abbrev Inv-loop : tie.InvT-loop
 Inv-loop board answers₀ batch next₀ i₀ answers next i =
     (length answers ≡ length answers₀) × (i ≤ length answers₀)
-    × (next ≡ listAfter board next₀ (itemsOf batch) i) × ((k : ℕ) → k < i → getD answers k 0 ≡ refusalAt board next₀ (itemsOf batch) k)
+    × (next ≡ listAfterItems board next₀ (itemsOf batch) i) × ((k : ℕ) → k < i → getD answers k 0 ≡ refusalAt board next₀ (itemsOf batch) k)
     × Kept board next
 
 abbrev μ-loop : tie.MeasureT-loop
 μ-loop board answers₀ batch next₀ i₀ answers next i = length answers₀ - i
 
 loop-holds : tie.Need-loop-holds Inv-loop μ-loop
-unfolding listAfter
+unfolding listAfterItems
 loop-holds c =
     let start = c .before in
     (refl, omega arith, refl, λ k l. absurd (omega arith), (start .pre .2, items-length (start .args .list) _ (start .good .1 .0)))
@@ -80,7 +80,7 @@ returns c =
     let a = start .args in
     let long = start .pre .0 in
     let end : l .i ≡ a .t3 .count = omega arith in
-    (l .inv .2 ∙ ap (listAfter (a .board) (a .list) (itemsOf (a .t3))) end, is-tabulate _ _ _ (l .inv .0 ∙ long) (λ k lk. l .inv .3 k (omega arith)))
+    (l .inv .2 ∙ ap (listAfterItems (a .board) (a .list) (itemsOf (a .t3))) end, is-tabulate _ _ _ (l .inv .0 ∙ long) (λ k lk. l .inv .3 k (omega arith)))
 
 pub insert-all-spec : {M : Type 1} → statement M
 insert-all-spec =

@@ -9,7 +9,7 @@ use lib.ListN.{length}
 use Rattle.mapping.specs.declared.MappingList.{MappingList}
 use Rattle.mapping.specs.Batch.{itemsOf}
 use Rattle.mapping.proofs.Laws.{items-of-length}
-use Rattle.manager.specs.Inserted.{listAfter, refusalAt, relisted, wholeRefusal}
+use Rattle.manager.specs.Inserted.{listAfterItems, refusalAt, relisted, wholeRefusal}
 use Rattle.manager.specs.Tables.{tables, tabulate}
 use Rattle.manager.proofs.BatchLaws.{whole-clear, relisted-same, relisted-more, made-refused, made-lent, made-listed}
 use Rattle.manager.proofs.Laws.{length-tabulate}
@@ -56,7 +56,7 @@ returns-3 c =
     let clear = listed .before .before .before in
     let a = clear .before .before .before .before .before .args in
     let count = items-of-length (a .batch) in
-    let list = listed .insert-all .ensures .0 ∙ ap (listAfter (a .board) (a .list) (itemsOf (a .batch))) (sym count) in
+    let list = listed .insert-all .ensures .0 ∙ ap (listAfterItems (a .board) (a .list) (itemsOf (a .batch))) (sym count) in
     let given = listed .insert-all .ensures .1 ∙ ap (λ (n : ℕ). tabulate n (refusalAt (a .board) (a .list) (itemsOf (a .batch)))) (sym count) in
     let t = tables (a .list) (a .records .now) (a .protections .now) in
     let next = listed .insert-all .result in

@@ -4,7 +4,7 @@ use borrow.Author.Needs.{needs}
 use Rattle.board.specs.Board.{board01}
 use Rattle.board.proofs.Geometry.{board01-regular}
 use Rattle.manager.specs.Answers.{accepted}
-use Rattle.manager.specs.Calls.{noOps, result}
+use Rattle.manager.specs.Calls.{noOps, callResult}
 use Rattle.manager.proofs.calls.unmap.Statement.{statement}
 use Rattle.manager.proofs.calls.unmap.Tie as tie
 
@@ -18,7 +18,7 @@ returns-2 c =
     let commit = c .before .before .before in
     let at = commit .before .before .before in
     rw (c .listed-as .ensures .0, c .listed-as .ensures .1, sym (at .before .before .plan-unmap .ensures) ∙ at .plan2 .given .1)
-    (ap (result (accepted 0 noOps)) (commit .commit-unmap .ensures board01 refl))
+    (ap (callResult (accepted 0 noOps)) (commit .commit-unmap .ensures board01 refl))
 
 pub unmap-spec : {M : Type 1} → statement M
 unmap-spec =
