@@ -16,7 +16,7 @@ use Rattle.manager.specs.Calls.{Result, callResult, changeOf, writeStep, planne
 use Rattle.manager.specs.Refusals.{Cause, firstRefusal, placeIn, refusalPlace, inOrder, offsetCause, tableCauses, mapCauses, pageCauses, readCauses, writeCauses, transferCauses, partCauses, wordCauses, endCauses}
 use Rattle.manager.specs.Tables.{refill}
 use Rattle.cache.specs.Store.{WellFormedStore}
-use Rattle.machine.specs.Plans.{storeCauses, earlier}
+use Rattle.machine.specs.Scaffold.Plans.{storeCauses, earlier}
 use Rattle.machine.specs.Refusals.{bufferRight, ownCauses, causes}
 use Rattle.machine.specs.State.{State, pageFrame, Single, map, unmap, read, write, deviceRead, deviceWrite, deviceWritePart, evict, beginRead, beginWrite, bringWord, takeWord, endTransfer, single}
 use Rattle.machine.specs.State as state-of

@@ -15,7 +15,7 @@ use Rattle.mapping.specs.Entry.{capacity, zeroMapping, mappingAt}
 use Rattle.mapping.specs.Facts.{InRange, Rules}
 use Rattle.mapping.proofs.Order.{before-cong₂}
 use Rattle.mapping.proofs.Rules.{rules-keepsRules}
-use Rattle.manager.specs.Inserted.{wholeRefusal}
+use Rattle.manager.specs.Scaffold.Inserted.{wholeRefusal}
 use Rattle.manager.specs.Refusals.{firstRefusal}
 use Rattle.manager.proofs.CauseLaws.{refusal-rest}
 use Rattle.machine.specs.Call.{mapOf, perform}

@@ -11,7 +11,7 @@ use Rattle.mapping.specs.Entry.{zeroMapping}
 use Rattle.manager.specs.Answers.{accepted}
 use Rattle.manager.specs.Batch.{itemAt, batchResult, wholeResult}
 use Rattle.manager.specs.Calls.{noOps}
-use Rattle.manager.specs.Inserted.{mappingRefusal, listedBy, listAfterItems, refusalAt, relisted, listedAll, wholeRefusal, batchMade}
+use Rattle.manager.specs.Scaffold.Inserted.{mappingRefusal, listedBy, listAfterItems, refusalAt, relisted, listedAll, wholeRefusal, batchMade}
 use Rattle.manager.specs.Refusals.{firstRefusal}
 use Rattle.manager.specs.Tables.{tabulate}
 use Rattle.machine.specs.Call.{mapOf, perform}

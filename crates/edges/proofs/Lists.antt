@@ -2,7 +2,7 @@
 use mathlib.Core.Path.{_≡_, refl, ap}
 use mathlib.Core.List.{[], _∷_}
 use Rattle.board.specs.Board.{board01}
-use Rattle.manager.specs.Inserted.{wholeRefusal}
+use Rattle.manager.specs.Scaffold.Inserted.{wholeRefusal}
 use Rattle.machine.specs.Call.{perform}
 use Rattle.machine.specs.State.{mapAll, Result}
 use Rattle.edges.proofs.Full.{full-within, full-left}

@@ -12,7 +12,7 @@ use Rattle.board.specs.declared.Board.{Board}
 use Rattle.mapping.specs.declared.Mapping.{Mapping}
 use Rattle.mapping.specs.Entry.{zeroMapping}
 use Rattle.manager.specs.Answers.{refused, accepted, numberOf}
-use Rattle.manager.specs.Inserted.{mappingRefusal, listedAll, batchMade}
+use Rattle.manager.specs.Scaffold.Inserted.{mappingRefusal, listedAll, batchMade}
 use Rattle.manager.specs.Batch.{BatchResult, batchResult, itemAt, wholeResult}
 use Rattle.manager.specs.Calls.{noOps}
 use Rattle.manager.specs.Refusals.{_if_, firstRefusal, batchCause}

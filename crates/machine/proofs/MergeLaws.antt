@@ -18,7 +18,7 @@ use Rattle.manager.specs.Refusals.{Cause, firstRefusal, refusalPlace, inOrder, 
 use Rattle.manager.proofs.FirstRefusal.{from-here, rest-in-order, is-numbered}
 use Rattle.manager.specs.Tables.{lengthsRight, rulesKept}
 use Rattle.cache.specs.Tag.{tagsKeepRules}
-use Rattle.machine.specs.Plans.{storeCauses, earlier, withStep, withPlace, planStep, planPlace}
+use Rattle.machine.specs.Scaffold.Plans.{storeCauses, earlier, withStep, withPlace, planStep, planPlace}
 use Rattle.machine.specs.Refusals.{storeLengths, bufferRight, lentCauses, ownCauses, causes}
 use Rattle.machine.specs.State.{State, Single}
 

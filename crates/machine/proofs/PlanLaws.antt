@@ -15,7 +15,7 @@ use Rattle.manager.specs.Calls.{changeOf, writeStep, beginStep, planMap, planUn
 use Rattle.manager.specs.Refusals.{firstRefusal, refusalPlace, inOrder, offsetCause, mapCauses, pageCauses, readCauses, writeCauses, transferCauses, partCauses}
 use Rattle.machine.specs.Refusals.{ownCauses}
 use Rattle.machine.specs.State.{State, pageFrame, map, unmap, read, write, deviceRead, deviceWritePart}
-use Rattle.machine.specs.Plans.{storeCauses, accessCauses, withStep, withPlace, planStep, planPlace, begins}
+use Rattle.machine.specs.Scaffold.Plans.{storeCauses, accessCauses, withStep, withPlace, planStep, planPlace, begins}
 use Rattle.machine.proofs.MergeLaws.{step-merged, place-merged}
 
 module _ (b : Board) (st : State) {own : ℕ} where

@@ -30,12 +30,12 @@ use Rattle.manager.proofs.CauseLaws.{appliesIn, cleared-in, mapped-range}
 use Rattle.manager.proofs.FirstRefusal.{in-order-numbered}
 use Rattle.cache.specs.Store.{Store, WellFormedStore}
 use Rattle.cache.specs.Tag.{tagsKeepRules}
-use Rattle.machine.specs.Ready.{OperationsReady, AccessReady, TransferReady, PartReady}
+use Rattle.machine.specs.Scaffold.Ready.{OperationsReady, AccessReady, TransferReady, PartReady}
 use Rattle.machine.specs.Refusals.{storeLengths, bufferRight, causes}
 use Rattle.machine.specs.State.{State, state, Single, map, unmap, read, write, deviceRead, deviceWrite, deviceWritePart, evict, beginRead, beginWrite, bringWord, takeWord, endTransfer, Result, lentBuffer}
 use Rattle.machine.specs.Parts.{Effect, steps, ends, nothing, effectOf, outcomeOf, Access, accessed, accessOf}
 use Rattle.machine.specs.Step.{operate, carryOut, answer, result, tablesLeft, accept, step}
-use Rattle.machine.specs.Plans.{planStep, planPlace, refusalOf, placeRefusal}
+use Rattle.machine.specs.Scaffold.Plans.{planStep, planPlace, refusalOf, placeRefusal}
 use Rattle.machine.proofs.StoreLaws.{well-formed}
 
 -- ---- a plan that was made

@@ -16,7 +16,7 @@ use Rattle.manager.specs.Answers.{operationOn, accepted}
 use Rattle.cache.specs.Store.{Store, WellFormedStore}
 use Rattle.cache.specs.Tag.{tagsKeepRules}
 use Rattle.cache.proofs.Laws.Operations.{flush-kept, purge-kept}
-use Rattle.machine.specs.Ready.{AccessReady}
+use Rattle.machine.specs.Scaffold.Ready.{AccessReady}
 use Rattle.machine.specs.Refusals.{storeLengths}
 use Rattle.machine.specs.Step.{operate, carryOut}
 

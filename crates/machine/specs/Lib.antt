@@ -7,7 +7,5 @@ pub mod Parts
 pub mod Step
 pub mod Call
 pub mod Theorems
--- ---- what the proofs stand on, between a call and the functions below it: how a call is planned, and what it has tested; a call's contract names
--- of these `loaded` alone, which is what an answer with a word says
-pub mod Plans
-pub mod Ready
+-- ---- what the proofs stand on
+pub mod Scaffold

@@ -1,15 +1,17 @@
 -- What a single call answers and leaves: a refusal leaves all as it was; an accepted one asks the manager, carries out its orders, then makes
 -- the access. Document 01, "The board as modelled" and "Answers".
-use mathlib.Core.List.{List}
-use mathlib.Core.Option.{Option, none}
+use mathlib.Core.List.{List, []}
+use mathlib.Core.Option.{Option, none, some}
 use Prim.Native.Nat.{ℕ, zero, suc}
 use Rattle.board.specs.declared.Board.{Board}
 use Rattle.manager.specs.Answers as operation
-use Rattle.manager.specs.Answers.{Outcome, refused, FrameOperation, firstOperation, secondOperation}
+use Rattle.manager.specs.Answers.{Outcome, refused, accepted, FrameOperation, firstOperation, secondOperation}
 use Rattle.manager.specs.Refusals.{firstRefusal}
 use Rattle.manager.specs.Tables.{Tables, tables, refill}
 use Rattle.cache.specs.Cache as hardware
 use Rattle.cache.specs.Store.{Store}
+use Rattle.machine.specs.declared.Loaded.{Loaded}
+use Rattle.machine.specs.declared.Loaded.the-variants.{Refused, Word}
 use Rattle.machine.specs.Parts.{effectOf, outcomeOf, recordsAfter, listAfter, Access, accessOf}
 use Rattle.machine.specs.State.{State, state, Single, Answer, Result, lentBuffer}
 use Rattle.machine.specs.Refusals.{causes}
@@ -30,6 +32,11 @@ carryOut b o s = operate b (secondOperation o) (operate b (firstOperation o) s)
 
 abbrev pub answer : Outcome → Option ℕ → List ℕ → Answer
 answer o word buffer = record { outcome = o; word = word; buffer = buffer }
+
+-- what an answer with a word says
+abbrev pub loaded : Loaded → Answer
+loaded (Refused n) = answer (refused n) none []
+loaded (Word ops word) = answer (accepted (ops .frame) (ops .ops)) (some word) []
 
 abbrev pub result : Answer → State → Result
 result a st = record { answer = a; after = st }

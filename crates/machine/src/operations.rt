@@ -6,7 +6,7 @@ ghost use Rattle.page_model.specs.Step.{OpBelow};
 ghost use Rattle.manager.specs.Answers.{operationOn, accepted};
 ghost use Rattle.cache.specs.Cache.{readWord, access, writeWord, deviceRead, deviceWrite};
 ghost use Rattle.cache.specs.Store.{store, WellFormedStore};
-ghost use Rattle.machine.specs.Ready.{OperationsReady, AccessReady, TransferReady, PartReady};
+ghost use Rattle.machine.specs.Scaffold.Ready.{OperationsReady, AccessReady, TransferReady, PartReady};
 ghost use Rattle.machine.specs.Step.{operate, carryOut};
 use board::Board;
 use page_model::Op;

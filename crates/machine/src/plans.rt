@@ -10,7 +10,7 @@ ghost use Rattle.cache.specs.Store.{store};
 ghost use Rattle.machine.specs.Refusals.{causes};
 ghost use Rattle.machine.specs.State as call;
 ghost use Rattle.machine.specs.State.{machineOf};
-ghost use Rattle.machine.specs.Plans.{storeCauses, accessCauses, earlier, withStep, withPlace, MovesWord, refusalOf, placeRefusal};
+ghost use Rattle.machine.specs.Scaffold.Plans.{storeCauses, accessCauses, earlier, withStep, withPlace, MovesWord, refusalOf, placeRefusal};
 use board::Board;
 use manager::ListPlan;
 use manager::Plan;

@@ -20,7 +20,7 @@ use Rattle.mapping.specs.Lookup.{lookup, found}
 use Rattle.mapping.specs.Rules as list-of
 use Rattle.mapping.proofs.Tests.{or-either}
 use Rattle.manager.specs.Refusals.{firstRefusal, tableCauses, mapCauses, mappingCauses}
-use Rattle.manager.specs.Inserted.{mappingRefusal}
+use Rattle.manager.specs.Scaffold.Inserted.{mappingRefusal}
 use Rattle.manager.specs.Tables.{Tables, recordWords, recordsKeepRules, lengthsRight, rulesKept}
 use Rattle.manager.specs.Theorems.{WellFormedTables}
 use Rattle.manager.proofs.CauseLaws.{list-rules, cleared-in, refusal-rest}

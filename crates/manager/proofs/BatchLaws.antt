@@ -13,7 +13,7 @@ use Rattle.mapping.specs.declared.MappingList.{MappingList}
 use Rattle.mapping.specs.Batch.{batchSize}
 use Rattle.mapping.specs.Change.{insert}
 use Rattle.manager.specs.Answers.{Outcome, refused, accepted}
-use Rattle.manager.specs.Inserted.{mappingRefusal, listedBy, listAfterItems, refusalAt, relisted, listedAll, wholeRefusal, batchMade}
+use Rattle.manager.specs.Scaffold.Inserted.{mappingRefusal, listedBy, listAfterItems, refusalAt, relisted, listedAll, wholeRefusal, batchMade}
 use Rattle.manager.specs.Batch.{itemAt, BatchResult, batchResult, wholeResult}
 use Rattle.manager.specs.Calls.{noOps}
 use Rattle.manager.specs.Refusals.{_if_, batchCause}

@@ -22,7 +22,8 @@ use Rattle.mapping.specs.Look.{find, look}
 use Rattle.mapping.specs.Lookup.{lookup, found, isMapped, placeOf, listedMapping, placeFor}
 use Rattle.mapping.specs.Rules as list-of
 use Rattle.mapping.proofs.Laws.{keepsRules-true, lookup-at, found-place, look-kept, look-broken}
-use Rattle.manager.specs.Refusals.{Cause, firstRefusal, orElse, tableCauses, pageCauses, frameCause, toldTables}
+use Rattle.manager.specs.Refusals.{Cause, firstRefusal, orElse, tableCauses, pageCauses, frameCause}
+use Rattle.manager.specs.Scaffold.Told.{toldTables}
 use Rattle.manager.specs.Tables.{Tables, tables, recordWords, recordAt, recordsKeepRules, lengthsRight, rulesKept}
 
 -- ---- the lent tables

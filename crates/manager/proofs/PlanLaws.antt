@@ -24,7 +24,8 @@ use Rattle.manager.specs.declared.Plan.the-variants as step-plan
 use Rattle.manager.specs.Calls.{planned, changeOf, planAccess, callResult, noOps, plainResult}
 use Rattle.manager.specs.Answers as answer
 use Rattle.manager.specs.Answers.{Outcome, accepted}
-use Rattle.manager.specs.Refusals.{Cause, _if_, firstRefusal, busyCause, tableCauses, pageCauses, readCauses, writeCauses, toldTables, toldAccess}
+use Rattle.manager.specs.Refusals.{Cause, _if_, firstRefusal, busyCause, tableCauses, pageCauses, readCauses, writeCauses}
+use Rattle.manager.specs.Scaffold.Told.{toldTables, toldAccess}
 use Rattle.manager.specs.Tables.{Tables, tables, recordAt}
 use Rattle.manager.proofs.CauseLaws.{numbered, refusal-prefix, refusal-rest, told-found, told-rest, call-list-keeps, page-rules}
 

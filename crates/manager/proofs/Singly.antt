@@ -14,7 +14,7 @@ use Rattle.mapping.specs.Change.{insert}
 use Rattle.mapping.specs.Lookup.{placeFor}
 use Rattle.mapping.proofs.Laws.{inserted-count}
 use Rattle.manager.specs.Answers.{accepted, numberOf}
-use Rattle.manager.specs.Inserted.{mappingRefusal, listedBy, listAfterItems, refusalAt, relisted, listedAll, batchMade}
+use Rattle.manager.specs.Scaffold.Inserted.{mappingRefusal, listedBy, listAfterItems, refusalAt, relisted, listedAll, batchMade}
 use Rattle.manager.specs.Batch.{itemAt, BatchResult, batchResult, wholeResult, tablesAfter, answerAt, mapAllCall}
 use Rattle.manager.specs.Calls.{noOps, commitMap, placed, listResult}
 use Rattle.manager.specs.Refusals.{Cause, _if_, firstRefusal, tableCauses, mapCauses, mappingCauses, batchCause}

@@ -1,7 +1,7 @@
 -- Document 01, "Answers": for each call the causes of refusal, in the order of the table. The first that applies is given.
 use mathlib.Core.Bool.{Bool, true, not, cond, _&&_, _||_}
 use mathlib.Core.List.{List, [], _∷_, _++_}
-use Prim.Native.Nat.{ℕ, suc, _+_, _*_}
+use Prim.Native.Nat.{ℕ, suc, _+_}
 use lib.Dec.{eqb, leb, ltb}
 use lib.ListN.{length}
 use Rattle.board.specs.declared.Board.{Board}
@@ -9,11 +9,10 @@ use Rattle.board.specs.Board.{spaces, pages, colourOf}
 use Rattle.page_model.specs.Busy.{free, bars}
 use Rattle.page_model.specs.Table.{Step, read, write, deviceWritePart}
 use Rattle.mapping.specs.declared.MappingList.{MappingList}
-use Rattle.mapping.specs.declared.Seen.{Seen}
 use Rattle.mapping.specs.Batch.{batchSize}
 use Rattle.mapping.specs.Entry.{capacity, readOnly, readWrite}
 use Rattle.mapping.specs.Lookup.{isMapped, listedMapping}
-use Rattle.manager.specs.Tables.{Tables, recordWords, recordAt, recordsKeepRules, lengthsRight, rulesKept}
+use Rattle.manager.specs.Tables.{Tables, recordAt, lengthsRight, rulesKept}
 
 -- a refusal's number, and whether its condition holds
 pub record Cause : Type 0 where
@@ -171,28 +170,3 @@ wordCauses b t frame offset mark =
 unfoldable pub endCauses : Board → Tables → ℕ → List Cause
 unfolding tableCauses
 endCauses b t frame = tableCauses b t ++ frameCause b frame ∷ endCause (t .records) frame ∷ []
-
--- ---- the same causes as the code tests them, by what one look at the list told: where that was a look at this list, they are those above (`told-rest`)
-
--- the causes in what is lent, where kept says whether the list keeps its rules
-unfoldable pub toldTables : Board → Bool → List ℕ → List ℕ → List Cause
-toldTables b kept records protections =
-    (1 if not (eqb (length records) (b .frames * recordWords) && eqb (length protections) capacity))
-    ∷ (2 if not (kept && recordsKeepRules b records))
-    ∷ []
-
--- the causes of a mapping; of an unmap; and of an access, a write or a read, but for the mark
-abbrev pub toldMapping : Board → ℕ → ℕ → ℕ → ℕ → Seen → List Cause
-toldMapping b space page frame rights seen =
-    spaceCause space page
-    ∷ frameCause b frame
-    ∷ rightsCause rights
-    ∷ (7 if seen .mapped)
-    ∷ (9 if eqb (seen .count) capacity)
-    ∷ []
-
-abbrev pub toldPage : ℕ → ℕ → Seen → List Cause
-toldPage space page seen = spaceCause space page ∷ (8 if not (seen .mapped)) ∷ []
-
-abbrev pub toldAccess : Bool → ℕ → ℕ → Seen → List Cause
-toldAccess writes space page seen = toldPage space page seen ++ (10 if (writes && eqb (seen .mapping .rights) readOnly)) ∷ []

@@ -7,7 +7,7 @@ ghost use Rattle.board.specs.Board.{Regular};
 ghost use Rattle.mapping.specs.Batch.{batchSize, itemsOf};
 ghost use Rattle.mapping.specs.Rules.{keepsRules};
 ghost use Rattle.manager.specs.Answers.{outcome};
-ghost use Rattle.manager.specs.Inserted.{listAfterItems, refusalAt, wholeRefusal, batchMade};
+ghost use Rattle.manager.specs.Scaffold.Inserted.{listAfterItems, refusalAt, wholeRefusal, batchMade};
 ghost use Rattle.manager.specs.Batch.{batchResult};
 ghost use Rattle.manager.specs.Tables.{tables, tabulate};
 use super::Listed;

@@ -13,9 +13,8 @@ use Rattle.manager.specs.Answers as outcome
 use Rattle.manager.specs.Answers.{Outcome}
 use Rattle.machine.specs.declared.Loaded.{Loaded}
 use Rattle.machine.specs.declared.Loaded.the-variants.{Refused, Word}
-use Rattle.machine.specs.Plans.{loaded as answered}
 use Rattle.machine.specs.State.{State, read, Answer, Result}
-use Rattle.machine.specs.Step.{result, step}
+use Rattle.machine.specs.Step.{loaded as answered, result, step}
 use Rattle.position_hold.specs.Look.{Words, stopped, words, Reads, reads, withAnswer, readNext, firstReads, fixWords, fixReads}
 
 four : (l : List ℕ) → length l ≡ fixWords → getD l 0 0 ∷ getD l 1 0 ∷ getD l 2 0 ∷ getD l 3 0 ∷ [] ≡ take fixWords l

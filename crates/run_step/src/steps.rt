@@ -16,7 +16,7 @@ ghost use lib.ListN.{length, replicate};
 ghost use Rattle.board.specs.Board.{board01};
 ghost use Rattle.manager.specs.Answers.{outcome};
 ghost use Rattle.manager.specs.Tables.{tabulate};
-ghost use Rattle.machine.specs.Plans.{loaded};
+ghost use Rattle.machine.specs.Step.{loaded};
 ghost use Rattle.machine.specs.State as call;
 ghost use Rattle.machine.specs.State.{machineOf};
 ghost use Rattle.run_step.specs.Did.{Did};

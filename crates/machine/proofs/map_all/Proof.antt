@@ -6,7 +6,7 @@ use Rattle.board.specs.Board.{board01}
 use Rattle.board.proofs.Geometry.{board01-regular}
 use Rattle.mapping.specs.Batch.{itemsOf}
 use Rattle.mapping.specs.Entry.{zeroMapping}
-use Rattle.manager.specs.Inserted.{batchMade}
+use Rattle.manager.specs.Scaffold.Inserted.{batchMade}
 use Rattle.manager.specs.Tables.{tables}
 use Rattle.manager.proofs.CauseLaws.{list-keeps, tables-clear}
 use Rattle.cache.specs.Store.{store}

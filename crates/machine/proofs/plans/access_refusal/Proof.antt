@@ -6,7 +6,7 @@ use borrow.Author.Needs.{needs}
 use Rattle.manager.specs.Refusals.{firstRefusal, offsetCause}
 use Rattle.manager.proofs.CauseLaws.{or-else-is}
 use Rattle.cache.specs.Store.{store}
-use Rattle.machine.specs.Plans.{storeCauses, accessCauses}
+use Rattle.machine.specs.Scaffold.Plans.{storeCauses, accessCauses}
 use Rattle.machine.proofs.plans.access_refusal.Statement.{statement}
 use Rattle.machine.proofs.plans.access_refusal.Tie as tie
 

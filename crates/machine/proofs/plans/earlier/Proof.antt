@@ -1,7 +1,7 @@
 -- `machine::earlier` meets its contract.
 use native.Mathlib.Omega.{arith}
 use borrow.Author.Needs.{needs}
-use Rattle.machine.specs.Plans.{earlier}
+use Rattle.machine.specs.Scaffold.Plans.{earlier}
 use Rattle.machine.proofs.MergeLaws.{earlier-first, earlier-second}
 use Rattle.machine.proofs.plans.earlier.Statement.{statement}
 use Rattle.machine.proofs.plans.earlier.Tie as tie

@@ -6,7 +6,7 @@ use Rattle.mapping.proofs.Laws.{items-length}
 use Rattle.manager.proofs.CauseLaws.{told-own}
 use Rattle.manager.specs.Refusals.{refusalPlace, inOrder, frameCause, endCause}
 use Rattle.machine.specs.Refusals.{ownCauses}
-use Rattle.machine.specs.Plans.{storeCauses, earlier}
+use Rattle.machine.specs.Scaffold.Plans.{storeCauses, earlier}
 use Rattle.machine.proofs.MergeLaws.{causes-merged}
 use Rattle.machine.proofs.plans.end_refusal.Statement.{statement}
 use Rattle.machine.proofs.plans.end_refusal.Tie as tie

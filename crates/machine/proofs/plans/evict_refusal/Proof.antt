@@ -9,7 +9,7 @@ use Rattle.manager.proofs.CauseLaws.{told-tables}
 use Rattle.manager.specs.Refusals.{refusalPlace, inOrder, firstRefusal, offsetCause, tableCauses}
 use Rattle.cache.specs.Store.{store}
 use Rattle.machine.specs.Refusals.{ownCauses}
-use Rattle.machine.specs.Plans.{accessCauses, earlier}
+use Rattle.machine.specs.Scaffold.Plans.{accessCauses, earlier}
 use Rattle.machine.proofs.MergeLaws.{causes-merged}
 use Rattle.machine.proofs.plans.evict_refusal.Statement.{statement}
 use Rattle.machine.proofs.plans.evict_refusal.Tie as tie

@@ -3,7 +3,7 @@ use mathlib.Core.Path.{ap₂, _∙_}
 use borrow.Author.Needs.{needs}
 use Rattle.mapping.proofs.Laws.{items-length}
 use Rattle.manager.proofs.CauseLaws.{told-tables}
-use Rattle.machine.specs.Plans.{earlier}
+use Rattle.machine.specs.Scaffold.Plans.{earlier}
 use Rattle.machine.proofs.plans.lent_refusal.Statement.{statement}
 use Rattle.machine.proofs.plans.lent_refusal.Tie as tie
 

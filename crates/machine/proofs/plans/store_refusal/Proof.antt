@@ -5,7 +5,7 @@ use borrow.Author.Tests.{ne-eqb, not-true, not-false}
 use Rattle.manager.specs.Refusals.{firstRefusal}
 use Rattle.cache.specs.Store.{Store, store}
 use Rattle.machine.specs.Refusals.{storeLengths}
-use Rattle.machine.specs.Plans.{storeCauses}
+use Rattle.machine.specs.Scaffold.Plans.{storeCauses}
 use Rattle.machine.proofs.StoreLaws.{lengths-memory, lengths-words, lengths-tags, lengths-right}
 use borrow.Author.Needs.{needs}
 use Rattle.machine.proofs.plans.store_refusal.Statement.{statement}

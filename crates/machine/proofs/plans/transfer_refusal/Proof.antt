@@ -2,7 +2,7 @@
 use borrow.Author.Tests.{eq-eqb, ne-eqb}
 use mathlib.Core.Bool.{and-false}
 use Rattle.manager.specs.Refusals.{firstRefusal}
-use Rattle.machine.specs.Plans.{storeCauses}
+use Rattle.machine.specs.Scaffold.Plans.{storeCauses}
 use borrow.Author.Needs.{needs}
 use Rattle.machine.proofs.plans.transfer_refusal.Statement.{statement}
 use Rattle.machine.proofs.plans.transfer_refusal.Tie as tie

@@ -1,7 +1,7 @@
 -- `machine::with_place` meets its contract.
 use mathlib.Core.Path.{ap}
 use Rattle.manager.specs.declared.ListPlan.the-variants as made
-use Rattle.machine.specs.Plans.{withPlace}
+use Rattle.machine.specs.Scaffold.Plans.{withPlace}
 use Rattle.machine.proofs.MergeLaws.{withPlace-own}
 use borrow.Author.Needs.{needs}
 use Rattle.machine.proofs.plans.with_place.Statement.{statement}

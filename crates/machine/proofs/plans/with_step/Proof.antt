@@ -1,7 +1,7 @@
 -- `machine::with_step` meets its contract.
 use mathlib.Core.Path.{ap}
 use Rattle.manager.specs.declared.Plan.the-variants as made
-use Rattle.machine.specs.Plans.{withStep}
+use Rattle.machine.specs.Scaffold.Plans.{withStep}
 use Rattle.machine.proofs.MergeLaws.{withStep-own}
 use borrow.Author.Needs.{needs}
 use Rattle.machine.proofs.plans.with_step.Statement.{statement}

@@ -7,7 +7,7 @@ use Rattle.mapping.proofs.Laws.{items-length}
 use Rattle.manager.proofs.CauseLaws.{told-own}
 use Rattle.manager.specs.Refusals.{refusalPlace, inOrder, firstRefusal, frameCause, offsetCause, wordCause}
 use Rattle.cache.specs.Store.{store}
-use Rattle.machine.specs.Plans.{storeCauses, earlier}
+use Rattle.machine.specs.Scaffold.Plans.{storeCauses, earlier}
 use Rattle.machine.proofs.MergeLaws.{causes-merged}
 use Rattle.machine.proofs.plans.word_refusal.Statement.{statement}
 use Rattle.machine.proofs.plans.word_refusal.Tie as tie

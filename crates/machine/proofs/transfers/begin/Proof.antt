@@ -13,7 +13,7 @@ use Rattle.manager.specs.Answers.{refused}
 use Rattle.manager.specs.Calls.{changeOf, beginStep}
 use Rattle.manager.specs.Tables.{tables}
 use Rattle.machine.specs.Parts.{steps, effectIn}
-use Rattle.machine.specs.Plans.{begins}
+use Rattle.machine.specs.Scaffold.Plans.{begins}
 use Rattle.machine.specs.State.{State, Result, lentBuffer}
 use Rattle.machine.specs.Step.{answer, result, accept}
 use Rattle.machine.proofs.PlanLaws.{begin-planned}

@@ -15,8 +15,9 @@ use Rattle.mapping.specs.Change.{insertAt, insert}
 use Rattle.mapping.specs.Entry.{capacity, zeroMapping}
 use Rattle.mapping.specs.Rules.{keepsRules}
 use Rattle.mapping.proofs.Laws.{items-length, items-of-at, keepsRules-true, rules-keepsRules, inserted-length, inserted-rules}
-use Rattle.manager.specs.Inserted.{mappingRefusal, listAfterItems, refusalAt}
-use Rattle.manager.specs.Refusals.{firstRefusal, toldMapping}
+use Rattle.manager.specs.Scaffold.Inserted.{mappingRefusal, listAfterItems, refusalAt}
+use Rattle.manager.specs.Refusals.{firstRefusal}
+use Rattle.manager.specs.Scaffold.Told.{toldMapping}
 use Rattle.manager.proofs.AcceptedLaws.{mapping-accepted}
 use Rattle.manager.proofs.BatchLaws.{listed-accepted, listed-refused, refusal-more, list-more}
 use Rattle.manager.proofs.Laws.{set-more, is-tabulate}

@@ -9,7 +9,7 @@ use lib.ListN.{length}
 use Rattle.mapping.specs.declared.MappingList.{MappingList}
 use Rattle.mapping.specs.Batch.{itemsOf}
 use Rattle.mapping.proofs.Laws.{items-of-length}
-use Rattle.manager.specs.Inserted.{listAfterItems, refusalAt, relisted, wholeRefusal}
+use Rattle.manager.specs.Scaffold.Inserted.{listAfterItems, refusalAt, relisted, wholeRefusal}
 use Rattle.manager.specs.Tables.{tables, tabulate}
 use Rattle.manager.proofs.BatchLaws.{whole-clear, relisted-same, relisted-more, made-refused, made-lent, made-listed}
 use Rattle.manager.proofs.Laws.{length-tabulate}

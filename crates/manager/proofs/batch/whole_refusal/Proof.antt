@@ -5,7 +5,7 @@ use Prim.Native.Nat.{ℕ}
 use borrow.Author.Tests.{eq-eqb, ne-eqb, lt-ltb, le-ltb}
 use lib.Dec.{eqb, ltb}
 use Rattle.mapping.specs.Batch.{batchSize}
-use Rattle.manager.specs.Inserted.{wholeRefusal}
+use Rattle.manager.specs.Scaffold.Inserted.{wholeRefusal}
 use Rattle.manager.specs.Refusals.{firstRefusal}
 use Rattle.manager.proofs.batch.whole_refusal.Statement.{statement}
 use Rattle.manager.proofs.batch.whole_refusal.Tie as tie

@@ -6,7 +6,7 @@ use Rattle.board.specs.Board.{board01}
 use Rattle.board.proofs.Geometry.{board01-regular}
 use Rattle.mapping.specs.Batch.{itemsOf}
 use Rattle.mapping.proofs.Laws.{items-length}
-use Rattle.manager.specs.Inserted.{batchMade}
+use Rattle.manager.specs.Scaffold.Inserted.{batchMade}
 use Rattle.manager.specs.Refusals.{firstRefusal, tableCauses}
 use Rattle.manager.specs.Tables.{Tables, tables}
 use Rattle.manager.proofs.CauseLaws.{list-keeps, told-tables, tables-clear}

@@ -6,7 +6,8 @@ use Rattle.mapping.proofs.Laws.{items-length}
 use Rattle.manager.specs.declared.ListPlan.the-variants as list-plan
 use Rattle.manager.specs.Calls.{placed}
 use Rattle.mapping.specs.Look.{find}
-use Rattle.manager.specs.Refusals.{mapCauses, toldMapping}
+use Rattle.manager.specs.Refusals.{mapCauses}
+use Rattle.manager.specs.Scaffold.Told.{toldMapping}
 use Rattle.manager.specs.Tables.{tables}
 use Rattle.manager.proofs.CauseLaws.{told-found, call-list-keeps, told-rest}
 use Rattle.manager.proofs.Laws.{placed-refused}

@@ -5,7 +5,8 @@ use mathlib.Core.List.{[], _∷_, _++_}
 use lib.Dec.{eqb}
 use Rattle.mapping.specs.Entry.{readOnly}
 use borrow.Author.Needs.{needs}
-use Rattle.manager.specs.Refusals.{_if_, firstRefusal, toldTables, toldPage}
+use Rattle.manager.specs.Refusals.{_if_, firstRefusal}
+use Rattle.manager.specs.Scaffold.Told.{toldTables, toldPage}
 use Rattle.manager.proofs.CauseLaws.{or-else-is}
 use Rattle.manager.proofs.refusals.access_refusal.Statement.{statement}
 use Rattle.manager.proofs.refusals.access_refusal.Tie as tie

@@ -2,7 +2,8 @@
 use mathlib.Core.Path.{refl, sym, _∙_}
 use mathlib.Core.List.{List, [], _∷_, _++_}
 use borrow.Author.Needs.{needs}
-use Rattle.manager.specs.Refusals.{Cause, firstRefusal, toldTables, frameCause, endCause}
+use Rattle.manager.specs.Refusals.{Cause, firstRefusal, frameCause, endCause}
+use Rattle.manager.specs.Scaffold.Told.{toldTables}
 use Rattle.manager.proofs.CauseLaws.{refusal-prefix, refusal-rest}
 use Rattle.manager.proofs.refusals.end_refusal.Statement.{statement}
 use Rattle.manager.proofs.refusals.end_refusal.Tie as tie

@@ -1,7 +1,8 @@
 -- `manager::refusals::map_refusal` meets its contract.
 use mathlib.Core.Path.{refl}
 use borrow.Author.Needs.{needs}
-use Rattle.manager.specs.Refusals.{firstRefusal, toldTables, toldMapping}
+use Rattle.manager.specs.Refusals.{firstRefusal}
+use Rattle.manager.specs.Scaffold.Told.{toldTables, toldMapping}
 use Rattle.manager.proofs.CauseLaws.{or-else-is}
 use Rattle.manager.proofs.refusals.map_refusal.Statement.{statement}
 use Rattle.manager.proofs.refusals.map_refusal.Tie as tie

@@ -1,7 +1,8 @@
 -- `manager::refusals::page_refusal` meets its contract.
 use mathlib.Core.Path.{refl}
 use borrow.Author.Needs.{needs}
-use Rattle.manager.specs.Refusals.{firstRefusal, toldTables, toldPage}
+use Rattle.manager.specs.Refusals.{firstRefusal}
+use Rattle.manager.specs.Scaffold.Told.{toldTables, toldPage}
 use Rattle.manager.proofs.CauseLaws.{or-else-is}
 use Rattle.manager.proofs.refusals.page_refusal.Statement.{statement}
 use Rattle.manager.proofs.refusals.page_refusal.Tie as tie

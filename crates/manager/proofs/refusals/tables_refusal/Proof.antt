@@ -2,7 +2,8 @@
 use mathlib.Core.Path.{sym, _∙_}
 use borrow.Author.Needs.{needs}
 use borrow.Author.Tests.{eq-eqb, ne-eqb, not-true, not-false}
-use Rattle.manager.specs.Refusals.{firstRefusal, toldTables}
+use Rattle.manager.specs.Refusals.{firstRefusal}
+use Rattle.manager.specs.Scaffold.Told.{toldTables}
 use Rattle.manager.proofs.refusals.tables_refusal.Statement.{statement}
 use Rattle.manager.proofs.refusals.tables_refusal.Tie as tie
 

@@ -2,7 +2,8 @@
 use mathlib.Core.Path.{refl}
 use mathlib.Core.List.{[], _∷_}
 use borrow.Author.Needs.{needs}
-use Rattle.manager.specs.Refusals.{firstRefusal, toldTables, frameCause}
+use Rattle.manager.specs.Refusals.{firstRefusal, frameCause}
+use Rattle.manager.specs.Scaffold.Told.{toldTables}
 use Rattle.manager.proofs.CauseLaws.{or-else-is}
 use Rattle.manager.proofs.refusals.transfer_refusal.Statement.{statement}
 use Rattle.manager.proofs.refusals.transfer_refusal.Tie as tie

@@ -2,7 +2,6 @@
 use mathlib.Core.Bool.{Bool, true, false, not, cond, _&&_}
 use mathlib.Core.List.{List, [], _∷_, _++_}
 use mathlib.Core.Path.{_≡_}
-use mathlib.Core.Option.{none, some}
 use Prim.Native.Nat.{ℕ, zero, suc}
 use lib.Dec.{leb}
 use Rattle.board.specs.declared.Board.{Board}
@@ -10,17 +9,13 @@ use Rattle.manager.specs.declared.Plan.{Plan}
 use Rattle.manager.specs.declared.Plan.the-variants as step-plan
 use Rattle.manager.specs.declared.ListPlan.{ListPlan}
 use Rattle.manager.specs.declared.ListPlan.the-variants as list-plan
-use Rattle.manager.specs.Answers.{refused, accepted}
 use Rattle.manager.specs.declared.Change.{Change}
 use Rattle.manager.specs.Calls.{planned, placed}
 use Rattle.manager.specs.Refusals.{Cause, _if_, firstRefusal, frameCause, offsetCause, wordCause, refusalPlace}
 use Rattle.cache.specs.Store.{Store}
 use Rattle.cache.specs.Tag.{tagsKeepRules}
-use Rattle.machine.specs.declared.Loaded.{Loaded}
-use Rattle.machine.specs.declared.Loaded.the-variants.{Refused, Word}
 use Rattle.machine.specs.Refusals.{storeLengths, bufferRight, ownCauses, causes}
-use Rattle.machine.specs.State.{State, Single, beginRead, beginWrite, Answer}
-use Rattle.machine.specs.Step.{answer}
+use Rattle.machine.specs.State.{State, Single, beginRead, beginWrite}
 
 -- the causes in memory, cache words and tags, and whether a device's buffer has its length
 unfoldable pub storeCauses : Board → Store → Bool → List Cause
@@ -75,8 +70,3 @@ refusalOf (step-plan.Step change) = 0
 abbrev pub placeRefusal : ListPlan → ℕ
 placeRefusal (list-plan.Refused n) = n
 placeRefusal (list-plan.Place place) = 0
-
--- what a read's answer says
-abbrev pub loaded : Loaded → Answer
-loaded (Refused n) = answer (refused n) none []
-loaded (Word ops word) = answer (accepted (ops .frame) (ops .ops)) (some word) []
