@@ -1,22 +1,28 @@
--- Each call's plan, by the machine's own refusal and the manager's plan. Of the manager's causes the first two are those of the tables.
-use mathlib.Core.Path.{_≡_, refl}
+-- Each call's plan, by the machine's own refusal and the manager's plan, and the refusal of a call that has none. Of the manager's causes the first
+-- two are those of the tables.
+use mathlib.Core.Path.{_≡_, refl, sym, ap₂, _∙_}
 use mathlib.Core.Bool.{Bool, true, false}
-use mathlib.Core.List.{List, [], _∷_}
+use mathlib.Core.List.{List, [], _∷_, _++_}
 use Prim.Native.Nat.{ℕ}
 use lib.Dec.{eqb}
 use lib.ListN.{length, drop}
 use Rattle.board.specs.declared.Board.{Board}
-use Rattle.board.specs.Board.{colourOf}
+use Rattle.board.specs.Board.{lines, colourOf}
+use Rattle.page_model.specs.Busy.{reading, writing}
 use Rattle.page_model.specs.Table as table
+use Rattle.mapping.specs.Entry.{capacity}
 use Rattle.mapping.specs.Lookup.{lookup, placeOf, placeFor}
+use Rattle.mapping.specs.Rules.{keepsRules}
 use Rattle.manager.specs.declared.Plan.{Plan}
 use Rattle.manager.specs.declared.ListPlan.{ListPlan}
 use Rattle.manager.specs.Calls.{changeOf, writeStep, beginStep, planMap, planUnmap, planRead, planWrite, planTransfer, planDeviceWritePart}
-use Rattle.manager.specs.Refusals.{firstRefusal, refusalPlace, inOrder, offsetCause, mapCauses, pageCauses, readCauses, writeCauses, transferCauses, partCauses}
-use Rattle.machine.specs.Refusals.{ownCauses}
-use Rattle.machine.specs.State.{State, pageFrame, map, unmap, read, write, deviceRead, deviceWritePart}
-use Rattle.machine.specs.Scaffold.Plans.{storeCauses, accessCauses, withStep, withPlace, planStep, planPlace, begins}
-use Rattle.machine.proofs.MergeLaws.{step-merged, place-merged}
+use Rattle.manager.specs.Refusals.{Cause, firstRefusal, refusalPlace, inOrder, tableCauses, frameCause, offsetCause, wordCause, endCause, mapCauses, pageCauses, readCauses, writeCauses, transferCauses, partCauses}
+use Rattle.manager.specs.Scaffold.Told.{toldTables}
+use Rattle.manager.proofs.CauseLaws.{told-tables, told-own}
+use Rattle.machine.specs.Refusals.{ownCauses, causes}
+use Rattle.machine.specs.State.{State, pageFrame, map, unmap, read, write, deviceRead, deviceWritePart, evict, bringWord, takeWord, endTransfer}
+use Rattle.machine.specs.Scaffold.Plans.{storeCauses, accessCauses, earlier, withStep, withPlace, planStep, planPlace, begins}
+use Rattle.machine.proofs.MergeLaws.{causes-merged, step-merged, place-merged}
 
 module _ (b : Board) (st : State) {own : ℕ} where
   pub map-planned : (space page frame rights : ℕ) {plan with : ListPlan} → with ≡ withPlace own plan → own ≡ firstRefusal (storeCauses b (st .store) true)
@@ -61,3 +67,43 @@ module _ (b : Board) (st : State) {own : ℕ} where
   unfolding inOrder refusalPlace ownCauses storeCauses transferCauses
   begin-planned frame true = step-merged _ _ _ [] (drop 2 (transferCauses b (st .tables) frame table.beginWrite)) refl refl refl _
   begin-planned frame false = step-merged _ _ _ [] (drop 2 (transferCauses b (st .tables) frame table.beginRead)) refl refl refl _
+
+-- ---- the calls that have a refusal and no plan: the manager was told whether the list keeps its rules
+
+abbrev toldRefusal : Board → State → Bool → List Cause → ℕ
+toldRefusal b st kept cs = firstRefusal (toldTables b kept (st .tables .records) (st .tables .protections) ++ cs)
+
+module _ (b : Board) (st : State) {kept : Bool} (long : length (st .tables .list .items) ≡ capacity) (e : kept ≡ keepsRules b (st .tables .list)) where
+  pub lent-refused : {own managers refusal : ℕ} → refusal ≡ earlier own managers → own ≡ firstRefusal (storeCauses b (st .store) true)
+      → managers ≡ firstRefusal (toldTables b kept (st .tables .records) (st .tables .protections))
+      → refusal ≡ earlier (firstRefusal (storeCauses b (st .store) true)) (firstRefusal (tableCauses b (st .tables)))
+  lent-refused er eo em = er ∙ ap₂ earlier eo (em ∙ told-tables b (st .tables .list) _ _ long e)
+
+  pub evict-refused : (line : ℕ) {own managers refusal : ℕ} → refusal ≡ earlier own managers → own ≡ firstRefusal (accessCauses b (st .store) (lines b) line)
+      → managers ≡ firstRefusal (toldTables b kept (st .tables .records) (st .tables .protections)) → refusal ≡ firstRefusal (causes b st (evict line))
+  unfolding inOrder refusalPlace ownCauses accessCauses tableCauses
+  evict-refused line er eo em =
+      er ∙ ap₂ earlier eo (em ∙ told-tables b (st .tables .list) _ _ long e) ∙ sym (causes-merged b st (evict line) (offsetCause (lines b) line ∷ []) [] refl refl refl)
+
+  pub bring-refused : (frame offset word : ℕ) {own managers refusal : ℕ} → refusal ≡ earlier own managers → own ≡ firstRefusal (storeCauses b (st .store) true)
+      → managers ≡ toldRefusal b st kept (frameCause b frame ∷ offsetCause (b .page) offset ∷ wordCause (st .tables .records) frame writing ∷ [])
+      → refusal ≡ firstRefusal (causes b st (bringWord frame offset word))
+  unfolding inOrder refusalPlace ownCauses storeCauses
+  bring-refused frame offset word er eo em =
+      er ∙ ap₂ earlier eo (em ∙ told-own b (st .tables .list) _ _ _ long e)
+      ∙ sym (causes-merged b st (bringWord frame offset word) [] (frameCause b frame ∷ offsetCause (b .page) offset ∷ wordCause (st .tables .records) frame writing ∷ []) refl refl refl)
+
+  pub take-refused : (frame offset : ℕ) {own managers refusal : ℕ} → refusal ≡ earlier own managers → own ≡ firstRefusal (storeCauses b (st .store) true)
+      → managers ≡ toldRefusal b st kept (frameCause b frame ∷ offsetCause (b .page) offset ∷ wordCause (st .tables .records) frame reading ∷ [])
+      → refusal ≡ firstRefusal (causes b st (takeWord frame offset))
+  unfolding inOrder refusalPlace ownCauses storeCauses
+  take-refused frame offset er eo em =
+      er ∙ ap₂ earlier eo (em ∙ told-own b (st .tables .list) _ _ _ long e)
+      ∙ sym (causes-merged b st (takeWord frame offset) [] (frameCause b frame ∷ offsetCause (b .page) offset ∷ wordCause (st .tables .records) frame reading ∷ []) refl refl refl)
+
+  pub end-refused : (frame : ℕ) {own managers refusal : ℕ} → refusal ≡ earlier own managers → own ≡ firstRefusal (storeCauses b (st .store) true)
+      → managers ≡ toldRefusal b st kept (frameCause b frame ∷ endCause (st .tables .records) frame ∷ []) → refusal ≡ firstRefusal (causes b st (endTransfer frame))
+  unfolding inOrder refusalPlace ownCauses storeCauses
+  end-refused frame er eo em =
+      er ∙ ap₂ earlier eo (em ∙ told-own b (st .tables .list) _ _ _ long e)
+      ∙ sym (causes-merged b st (endTransfer frame) [] (frameCause b frame ∷ endCause (st .tables .records) frame ∷ []) refl refl refl)

@@ -122,16 +122,10 @@ pub fn evict(
         (machineOf list (now (records .entry)) (now (protections .entry)) (now (memory .entry)) (now (words .entry)) (now (tags .entry)))
         (call.evict line) ⌝ }
 {
-    let refusal = plans::evict_refusal(
-        BOARD01,
-        list,
-        records,
-        protections,
-        memory,
-        words,
-        tags,
-        line,
-    );
+    let own = plans::access_refusal(BOARD01, memory, words, tags, board::lines(BOARD01), line);
+    let kept = mapping::keeps_rules(BOARD01, list);
+    let managers = manager::refusals::tables_refusal(BOARD01, kept, records, protections);
+    let refusal = plans::earlier(own, managers);
     if refusal != 0 {
         return Answer::Refused(refusal);
     }

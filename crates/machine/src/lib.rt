@@ -82,7 +82,10 @@ pub fn map_all(
         (machineOf list (now (records .entry)) (now (protections .entry)) (now (memory .entry)) (now (words .entry)) (now (tags .entry)))
         (call.mapAll (itemsOf batch) (now (answers .entry))) ⌝ }
 {
-    let lent = plans::lent_refusal(BOARD01, list, records, protections, memory, words, tags);
+    let own = plans::store_refusal(BOARD01, memory, words, tags);
+    let kept = mapping::keeps_rules(BOARD01, list);
+    let managers = manager::refusals::tables_refusal(BOARD01, kept, records, protections);
+    let lent = plans::earlier(own, managers);
     manager::batch::map_batch(BOARD01, list, records, protections, batch, answers, lent)
 }
 

@@ -4,117 +4,15 @@ ghost use mathlib.Core.Bool.{true};
 ghost use lib.Dec.{eqb};
 ghost use lib.ListN.{length};
 ghost use Rattle.board.specs.Board.{Regular};
-ghost use Rattle.manager.specs.Tables.{tables};
-ghost use Rattle.manager.specs.Refusals.{firstRefusal, tableCauses};
+ghost use Rattle.manager.specs.Refusals.{firstRefusal};
 ghost use Rattle.cache.specs.Store.{store};
-ghost use Rattle.machine.specs.Refusals.{causes};
-ghost use Rattle.machine.specs.State as call;
-ghost use Rattle.machine.specs.State.{machineOf};
-ghost use Rattle.machine.specs.Scaffold.Plans.{storeCauses, accessCauses, earlier, withStep, withPlace, MovesWord, refusalOf, placeRefusal};
+ghost use Rattle.machine.specs.Scaffold.Plans.{storeCauses, accessCauses, earlier, withStep, withPlace, refusalOf, placeRefusal};
 use board::Board;
 use manager::ListPlan;
 use manager::Plan;
 use manager::refusals::first;
 use manager::refusals::or_else;
 use manager::refusals::place;
-use mapping::MappingList;
-
-// The refusal of a word at an offset, which a transfer with this mark moves, or 0.
-pub fn word_refusal(
-    board: Board,
-    list: MappingList,
-    records: &[u32],
-    protections: &[u8],
-    memory: &[u32],
-    words: &[u32],
-    tags: &[u8],
-    frame: u8,
-    offset: usize,
-    mark: u32,
-) -> u8
-    requires { ⌜ Regular board ⌝ }
-    ensures { λ r. ⌜ ((moves : call.Single)
-        → MovesWord board (machineOf list (now (records .entry)) (now (protections .entry)) (now (memory .entry)) (now (words .entry)) (now (tags .entry))) moves frame offset mark
-        → r ≡ firstRefusal (causes board
-        (machineOf list (now (records .entry)) (now (protections .entry)) (now (memory .entry)) (now (words .entry)) (now (tags .entry))) moves)) ⌝ }
-{
-    let own = store_refusal(board, memory, words, tags);
-    let kept = mapping::keeps_rules(board, list);
-    let managers = manager::refusals::word_refusal(
-        board,
-        kept,
-        records,
-        protections,
-        frame,
-        offset,
-        mark,
-    );
-    earlier(own, managers)
-}
-
-// The refusal of `end_transfer`, or 0.
-pub fn end_refusal(
-    board: Board,
-    list: MappingList,
-    records: &[u32],
-    protections: &[u8],
-    memory: &[u32],
-    words: &[u32],
-    tags: &[u8],
-    frame: u8,
-) -> u8
-    requires { ⌜ Regular board ⌝ }
-    ensures { λ r. ⌜ r ≡ firstRefusal (causes board
-        (machineOf list (now (records .entry)) (now (protections .entry)) (now (memory .entry)) (now (words .entry)) (now (tags .entry)))
-        (call.endTransfer frame)) ⌝ }
-{
-    let own = store_refusal(board, memory, words, tags);
-    let kept = mapping::keeps_rules(board, list);
-    let managers = manager::refusals::end_refusal(board, kept, records, protections, frame);
-    earlier(own, managers)
-}
-
-// The refusal of `evict`, or 0.
-pub fn evict_refusal(
-    board: Board,
-    list: MappingList,
-    records: &[u32],
-    protections: &[u8],
-    memory: &[u32],
-    words: &[u32],
-    tags: &[u8],
-    line: usize,
-) -> u8
-    requires { ⌜ Regular board ⌝ }
-    ensures { λ r. ⌜ r ≡ firstRefusal (causes board
-        (machineOf list (now (records .entry)) (now (protections .entry)) (now (memory .entry)) (now (words .entry)) (now (tags .entry)))
-        (call.evict line)) ⌝ }
-{
-    let own = access_refusal(board, memory, words, tags, board::lines(board), line);
-    let kept = mapping::keeps_rules(board, list);
-    let managers = manager::refusals::tables_refusal(board, kept, records, protections);
-    earlier(own, managers)
-}
-
-// The refusal in all that every call is lent, or 0.
-pub fn lent_refusal(
-    board: Board,
-    list: MappingList,
-    records: &[u32],
-    protections: &[u8],
-    memory: &[u32],
-    words: &[u32],
-    tags: &[u8],
-) -> u8
-    requires { ⌜ Regular board ⌝ }
-    ensures { λ r. ⌜ r ≡ earlier (firstRefusal (storeCauses board (store (now (memory .entry)) (now (words .entry)) (now (tags .entry))) true))
-        (firstRefusal (tableCauses board (tables list (now (records .entry)) (now (protections .entry))))) ⌝ }
-{
-    let own = store_refusal(board, memory, words, tags);
-    let kept = mapping::keeps_rules(board, list);
-    let managers = manager::refusals::tables_refusal(board, kept, records, protections);
-    earlier(own, managers)
-}
 
 // The refusal in memory, cache words and tags, or 0.
 pub fn store_refusal(board: Board, memory: &[u32], words: &[u32], tags: &[u8]) -> u8
@@ -219,7 +117,7 @@ pub fn place_refusal(plan: ListPlan) -> u8
 }
 
 // Of two refusals, 0 for none, the one whose place comes first.
-fn earlier(own: u8, managers: u8) -> u8
+pub fn earlier(own: u8, managers: u8) -> u8
     ensures { λ r. ⌜ r ≡ earlier own managers ⌝ }
 {
     if own == 0 {

@@ -196,18 +196,18 @@ pub fn bring_word(
         (machineOf list (now (records .entry)) (now (protections .entry)) (now (memory .entry)) (now (words .entry)) (now (tags .entry)))
         (call.bringWord frame offset word) ⌝ }
 {
-    let refusal = plans::word_refusal(
+    let own = plans::store_refusal(BOARD01, memory, words, tags);
+    let kept = mapping::keeps_rules(BOARD01, list);
+    let managers = manager::refusals::word_refusal(
         BOARD01,
-        list,
+        kept,
         records,
         protections,
-        memory,
-        words,
-        tags,
         frame,
         offset,
         busy::WRITING,
     );
+    let refusal = plans::earlier(own, managers);
     if refusal != 0 {
         return Answer::Refused(refusal);
     }
@@ -233,18 +233,18 @@ pub fn take_word(
         (machineOf list (now (records .entry)) (now (protections .entry)) (now (memory .entry)) (now (words .entry)) (now (tags .entry)))
         (call.takeWord frame offset) ⌝ }
 {
-    let refusal = plans::word_refusal(
+    let own = plans::store_refusal(BOARD01, memory, words, tags);
+    let kept = mapping::keeps_rules(BOARD01, list);
+    let managers = manager::refusals::word_refusal(
         BOARD01,
-        list,
+        kept,
         records,
         protections,
-        memory,
-        words,
-        tags,
         frame,
         offset,
         busy::READING,
     );
+    let refusal = plans::earlier(own, managers);
     if refusal != 0 {
         return Loaded::Refused(refusal);
     }
@@ -269,16 +269,10 @@ pub fn end_transfer(
         (machineOf list (now (records .entry)) (now (protections .entry)) (now (memory .entry)) (now (words .entry)) (now (tags .entry)))
         (call.endTransfer frame) ⌝ }
 {
-    let refusal = plans::end_refusal(
-        BOARD01,
-        list,
-        records,
-        protections,
-        memory,
-        words,
-        tags,
-        frame,
-    );
+    let own = plans::store_refusal(BOARD01, memory, words, tags);
+    let kept = mapping::keeps_rules(BOARD01, list);
+    let managers = manager::refusals::end_refusal(BOARD01, kept, records, protections, frame);
+    let refusal = plans::earlier(own, managers);
     if refusal != 0 {
         return Answer::Refused(refusal);
     }

@@ -1,7 +1,6 @@
 -- How the code plans a single call: it finds the machine's own refusal and the manager's plan, and gives the refusal that stands earlier in the order.
 use mathlib.Core.Bool.{Bool, true, false, not, cond, _&&_}
 use mathlib.Core.List.{List, [], _∷_, _++_}
-use mathlib.Core.Path.{_≡_}
 use Prim.Native.Nat.{ℕ, zero, suc}
 use lib.Dec.{leb}
 use Rattle.board.specs.declared.Board.{Board}
@@ -11,10 +10,10 @@ use Rattle.manager.specs.declared.ListPlan.{ListPlan}
 use Rattle.manager.specs.declared.ListPlan.the-variants as list-plan
 use Rattle.manager.specs.declared.Change.{Change}
 use Rattle.manager.specs.Calls.{planned, placed}
-use Rattle.manager.specs.Refusals.{Cause, _if_, firstRefusal, frameCause, offsetCause, wordCause, refusalPlace}
+use Rattle.manager.specs.Refusals.{Cause, _if_, firstRefusal, offsetCause, refusalPlace}
 use Rattle.cache.specs.Store.{Store}
 use Rattle.cache.specs.Tag.{tagsKeepRules}
-use Rattle.machine.specs.Refusals.{storeLengths, bufferRight, ownCauses, causes}
+use Rattle.machine.specs.Refusals.{storeLengths, causes}
 use Rattle.machine.specs.State.{State, Single, beginRead, beginWrite}
 
 -- the causes in memory, cache words and tags, and whether a device's buffer has its length
@@ -56,11 +55,6 @@ planPlace b st call place = placed (firstRefusal (causes b st call)) place
 abbrev pub begins : Bool → ℕ → Single
 begins true frame = beginWrite frame
 begins false frame = beginRead frame
-
--- the call moves a word at an offset by a transfer with this mark: it is lent no buffer, and these are its own causes
-pub record MovesWord (b : Board) (st : State) (call : Single) (frame offset mark : ℕ) : Type 0 where
-  pub no-buffer : bufferRight b call ≡ true
-  pub tests : ownCauses b st call ≡ frameCause b frame ∷ offsetCause (b .page) offset ∷ wordCause (st .tables .records) frame mark ∷ []
 
 -- the number of a plan that is a refusal, else 0
 abbrev pub refusalOf : Plan → ℕ

@@ -4,17 +4,19 @@ use borrow.Author.Needs.{needs}
 use borrow.Author.Tests.{leb-false}
 use Rattle.board.specs.Board.{board01}
 use Rattle.board.proofs.Geometry.{board01-regular}
+use Rattle.mapping.proofs.Laws.{items-length}
 use Rattle.manager.specs.Refusals.{firstRefusal}
 use Rattle.manager.specs.Tables.{tables, refill}
-use Rattle.machine.specs.Refusals.{ownCauses, causes}
+use Rattle.machine.specs.Refusals.{causes}
 use Rattle.machine.specs.State.{State, machineOf, bringWord}
+use Rattle.machine.proofs.PlanLaws.{bring-refused}
 use Rattle.machine.proofs.StepLaws.{step-refused, cleared, store-clear, plain-made}
 use Rattle.machine.proofs.transfers.bring_word.Statement.{statement}
 use Rattle.machine.proofs.transfers.bring_word.Tie as tie
 
 -- the places that the proof goes back to, and what was lent there
-abbrev start-of : tie.After-word-refusal → tie.Start
-start-of c = c .before .before .before .before .before .before .before .before
+abbrev start-of : tie.After-earlier → tie.Start
+start-of c = c .before .before .before .before .before .before .before .before .before .before .before
 
 abbrev lent : tie.Start → State
 lent s =
@@ -22,9 +24,12 @@ lent s =
     machineOf (a .list) (a .records .now) (a .protections .now) (a .memory .now) (a .words .now) (a .tags .now)
 
 -- the refusal is the call's
-told : (c : tie.After-word-refusal) → let s = start-of c in c .word-refusal .result ≡ firstRefusal (causes board01 (lent s) (bringWord (s .args .frame) (s .args .offset) (s .args .word)))
-unfolding ownCauses
-told c = let a = start-of c .args in c .word-refusal .ensures (bringWord (a .frame) (a .offset) (a .word)) (record { no-buffer = refl; tests = refl })
+told : (c : tie.After-earlier) → let a = start-of c .args in c .earlier .result ≡ firstRefusal (causes board01 (lent (start-of c)) (bringWord (a .frame) (a .offset) (a .word)))
+told c =
+    let s = start-of c in
+    let a = s .args in
+    let kept = c .before .before .before in
+    bring-refused board01 (lent s) (items-length (a .list) _ (s .good .0)) (kept .keeps-rules .ensures) (a .frame) (a .offset) (a .word) (c .earlier .ensures) (kept .before .store-refusal .ensures) (c .before .word-refusal .ensures)
 
 returns : tie.Need-returns
 returns c =
@@ -57,4 +62,4 @@ returns-2 c =
 pub bring-word-spec : {M : Type 1} → statement M
 bring-word-spec =
     tie.close
-    (tie.spec (λ c κs. board01-regular) (λ c. search needs) (λ c. search needs) returns (λ c κs. search needs) bring-word-requires (λ c κs. search needs) (λ c. search needs) (λ c. search needs) returns-2)
+    (tie.spec (λ c κs. board01-regular) (λ c κs. search needs) (λ c κs. board01-regular) (λ c κs. search needs) (λ c. search needs) (λ c. search needs) returns (λ c κs. search needs) bring-word-requires (λ c κs. search needs) (λ c. search needs) (λ c. search needs) returns-2)

@@ -8,17 +8,19 @@ use Rattle.board.specs.Board.{board01}
 use Rattle.board.proofs.Geometry.{board01-regular}
 use Rattle.manager.specs.declared.FrameOps.{FrameOps}
 use Rattle.manager.specs.Answers.{accepted}
+use Rattle.mapping.proofs.Laws.{items-length}
 use Rattle.manager.specs.Refusals.{firstRefusal}
 use Rattle.manager.specs.Tables.{tables, refill}
-use Rattle.machine.specs.Refusals.{ownCauses, causes}
+use Rattle.machine.specs.Refusals.{causes}
 use Rattle.machine.specs.State.{State, machineOf, takeWord}
+use Rattle.machine.proofs.PlanLaws.{take-refused}
 use Rattle.machine.proofs.StepLaws.{step-refused, cleared, store-clear, plain-made}
 use Rattle.machine.proofs.transfers.take_word.Statement.{statement}
 use Rattle.machine.proofs.transfers.take_word.Tie as tie
 
 -- the places that the proof goes back to, and what was lent there
-abbrev start-of : tie.After-word-refusal → tie.Start
-start-of c = c .before .before .before .before .before .before .before
+abbrev start-of : tie.After-earlier → tie.Start
+start-of c = c .before .before .before .before .before .before .before .before .before .before
 
 abbrev lent : tie.Start → State
 lent s =
@@ -26,9 +28,12 @@ lent s =
     machineOf (a .list) (a .records .now) (a .protections .now) (a .memory .now) (a .words .now) (a .tags .now)
 
 -- the refusal is the call's
-told : (c : tie.After-word-refusal) → let s = start-of c in c .word-refusal .result ≡ firstRefusal (causes board01 (lent s) (takeWord (s .args .frame) (s .args .offset)))
-unfolding ownCauses
-told c = let a = start-of c .args in c .word-refusal .ensures (takeWord (a .frame) (a .offset)) (record { no-buffer = refl; tests = refl })
+told : (c : tie.After-earlier) → let a = start-of c .args in c .earlier .result ≡ firstRefusal (causes board01 (lent (start-of c)) (takeWord (a .frame) (a .offset)))
+told c =
+    let s = start-of c in
+    let a = s .args in
+    let kept = c .before .before .before in
+    take-refused board01 (lent s) (items-length (a .list) _ (s .good .0)) (kept .keeps-rules .ensures) (a .frame) (a .offset) (c .earlier .ensures) (kept .before .store-refusal .ensures) (c .before .word-refusal .ensures)
 
 returns : tie.Need-returns
 returns c =
@@ -62,4 +67,4 @@ returns-2 c =
 pub take-word-spec : {M : Type 1} → statement M
 take-word-spec =
     tie.close
-    (tie.spec (λ c κs. board01-regular) (λ c. search needs) returns (λ c κs. search needs) take-word-requires (λ c κs. search needs) (λ c. search needs) returns-2)
+    (tie.spec (λ c κs. board01-regular) (λ c κs. search needs) (λ c κs. board01-regular) (λ c κs. search needs) (λ c. search needs) returns (λ c κs. search needs) take-word-requires (λ c κs. search needs) (λ c. search needs) returns-2)
