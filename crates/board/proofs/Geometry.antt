@@ -4,7 +4,7 @@ use Prim.Native.Nat.{ℕ, _+_, _-_, _*_, _/_, _%_, _≤_, _<_}
 use native.Mathlib.Omega.{arith}
 use native.Mathlib.Nat.{mod-lt, mul-assoc, mul-le-mul, mul-le-mul-left, mul-le-mul-right, add-mul, add-assoc, div-add-mod', div-lt-iff-lt-mul, suc-mul}
 use lib.Arith.{digits-lt, digits-div, digits-mod}
-use Rattle.board.specs.Board.{Board, Regular, board01, pageLines, lines, cacheWords, memoryWords, colourOf, lineOf, colourLine, lineAt, cacheAt, lineColour, lineOffset, frameAt, memoryAt}
+use Rattle.board.specs.Board.{Board, Regular, board01, cachePages, pageLines, dataLines, lines, cacheWords, memoryWords, colourOf, instructionPage, lineOf, colourLine, lineAt, cacheAt, lineColour, lineOffset, frameAt, memoryAt}
 
 -- document 01's board
 pub board01-regular : Regular board01
@@ -31,15 +31,33 @@ module _ (b : Board) (reg : Regular b) where
   unfolding colourOf
   colourOf-lt page = mod-lt page (reg .has-colours)
 
+  -- ---- the pages of the caches
+
+  -- a colour is a page of the data cache, and has one of the instruction cache
+  pub data-page : (c : ℕ) → c < b .colours → c < cachePages b
+  data-page c h = omega arith
+
+  pub instruction-page : (c : ℕ) → c < b .colours → instructionPage b c < cachePages b
+  instruction-page c h = omega arith
+
   -- ---- a line and the offsets in it
 
   -- which of a page's lines an offset lies in
   pub offset-line-lt : (o : ℕ) → o < b .page → o / b .line < pageLines b
   offset-line-lt o h = div-lt-iff-lt-mul (reg .has-line-words) .1 (subst (λ (w : ℕ). o < w) (sym (reg .divides)) h)
 
-  pub lineOf-lt : (c o : ℕ) → c < b .colours → o < b .page → lineOf b c o < lines b
+  pub lineOf-lt : (c o : ℕ) → c < cachePages b → o < b .page → lineOf b c o < lines b
   unfolding lineOf lines
   lineOf-lt c o hc ho = digits-lt hc (offset-line-lt o ho)
+
+  -- the lines of a colour's page are data lines, and those of an instruction page are not
+  pub lineOf-data : (c o : ℕ) → c < b .colours → o < b .page → lineOf b c o < dataLines b
+  unfolding lineOf dataLines
+  lineOf-data c o hc ho = digits-lt hc (offset-line-lt o ho)
+
+  pub lineOf-instruction : (c o : ℕ) → b .colours ≤ c → dataLines b ≤ lineOf b c o
+  unfolding lineOf dataLines
+  lineOf-instruction c o h = let m = mul-le-mul-right (pageLines b) h in omega arith
 
   pub lineOf-colour : (c o : ℕ) → o < b .page → lineColour b (lineOf b c o) ≡ c
   unfolding lineOf lineColour
@@ -52,9 +70,14 @@ module _ (b : Board) (reg : Regular b) where
   pub pageLines-pos : 0 < pageLines b
   pageLines-pos = let some = offset-line-lt 0 (reg .has-page-words) in omega arith
 
-  pub lineColour-lt : (n : ℕ) → n < lines b → lineColour b n < b .colours
+  pub lineColour-lt : (n : ℕ) → n < lines b → lineColour b n < cachePages b
   unfolding lineColour lines
   lineColour-lt n h = div-lt-iff-lt-mul pageLines-pos .1 h
+
+  -- a line of a colour's page is a data line
+  pub dataLine-line : (n : ℕ) → lineColour b n < b .colours → n < dataLines b
+  unfolding lineColour dataLines
+  dataLine-line n h = div-lt-iff-lt-mul pageLines-pos .0 h
 
   -- a line's words lie in the page
   pub lineOffset-end : (n : ℕ) → lineOffset b n + b .line ≤ b .page
@@ -68,7 +91,7 @@ module _ (b : Board) (reg : Regular b) where
 
   -- ---- the lines of a colour
 
-  pub colourLine-lt : (c i : ℕ) → c < b .colours → i < pageLines b → colourLine b c i < lines b
+  pub colourLine-lt : (c i : ℕ) → c < cachePages b → i < pageLines b → colourLine b c i < lines b
   unfolding colourLine lines
   colourLine-lt c i hc hi = digits-lt hc hi
 
@@ -98,14 +121,14 @@ module _ (b : Board) (reg : Regular b) where
       ∙ add-assoc (c * pageLines b * b .line) (o / b .line * b .line) (o % b .line)
       ∙ ap₂ _+_ (mul-assoc c (pageLines b) (b .line) ∙ ap (λ (x : ℕ). c * x) (reg .divides)) (div-add-mod' o (b .line))
 
-  pub cacheAt-lt : (c o : ℕ) → c < b .colours → o < b .page → cacheAt b c o < cacheWords b
+  pub cacheAt-lt : (c o : ℕ) → c < cachePages b → o < b .page → cacheAt b c o < cacheWords b
   unfolding cacheWords
-  cacheAt-lt c o hc ho = subst⁻¹ (λ (x : ℕ). x < b .colours * b .page) (cacheAt-flat c o) (digits-lt hc ho)
+  cacheAt-lt c o hc ho = subst⁻¹ (λ (x : ℕ). x < cachePages b * b .page) (cacheAt-flat c o) (digits-lt hc ho)
 
   pub lineAt-end : (n : ℕ) → n < lines b → lineAt b n + b .line ≤ cacheWords b
   unfolding lineAt lines cacheWords
   lineAt-end n h =
-      subst (λ (w : ℕ). lineAt b n + b .line ≤ w) (mul-assoc (b .colours) (pageLines b) (b .line) ∙ ap (λ (x : ℕ). b .colours * x) (reg .divides))
+      subst (λ (w : ℕ). lineAt b n + b .line ≤ w) (mul-assoc (cachePages b) (pageLines b) (b .line) ∙ ap (λ (x : ℕ). cachePages b * x) (reg .divides))
       (after n (lines b) (b .line) h)
 
   pub frameAt-end : (f : ℕ) → f < b .frames → frameAt b f + b .page ≤ memoryWords b
@@ -164,20 +187,27 @@ module _ (b : Board) (reg : Regular b) where
 
   -- ---- every size and place is small
 
+  few-pages : cachePages b ≤ 64
+  few-pages = let few = reg .few-colours in omega arith
+
   pub memoryWords-small : memoryWords b ≤ 65536
   unfolding memoryWords
   memoryWords-small = mul-le-mul (reg .few-frames) (reg .few-words)
 
-  pub cacheWords-small : cacheWords b ≤ 32768
+  pub cacheWords-small : cacheWords b ≤ 65536
   unfolding cacheWords
-  cacheWords-small = mul-le-mul (reg .few-colours) (reg .few-words)
+  cacheWords-small = mul-le-mul few-pages (reg .few-words)
 
   pub pageLines-small : pageLines b ≤ 1024
   pageLines-small = omega (arith, mul-le-mul-left (pageLines b) (reg .has-line-words), reg .divides, reg .few-words)
 
-  pub lines-small : lines b ≤ 32768
+  pub lines-small : lines b ≤ 65536
   unfolding lines
-  lines-small = mul-le-mul (reg .few-colours) pageLines-small
+  lines-small = mul-le-mul few-pages pageLines-small
+
+  pub dataLines-small : dataLines b ≤ 32768
+  unfolding dataLines
+  dataLines-small = mul-le-mul (reg .few-colours) pageLines-small
 
   pub memoryAt-lt : (f o : ℕ) → f < b .frames → o < b .page → memoryAt b f o < memoryWords b
   unfolding memoryAt
@@ -186,16 +216,16 @@ module _ (b : Board) (reg : Regular b) where
   pub memoryAt-small : (f o : ℕ) → f < b .frames → o < b .page → memoryAt b f o < 65536
   memoryAt-small f o hf ho = omega (arith, memoryAt-lt f o hf ho, memoryWords-small)
 
-  pub cacheAt-small : (c o : ℕ) → c < b .colours → o < b .page → cacheAt b c o < 32768
+  pub cacheAt-small : (c o : ℕ) → c < cachePages b → o < b .page → cacheAt b c o < 65536
   cacheAt-small c o hc ho = omega (arith, cacheAt-lt c o hc ho, cacheWords-small)
 
-  pub lineOf-small : (c o : ℕ) → c < b .colours → o < b .page → lineOf b c o < 32768
+  pub lineOf-small : (c o : ℕ) → c < cachePages b → o < b .page → lineOf b c o < 65536
   lineOf-small c o hc ho = omega (arith, lineOf-lt c o hc ho, lines-small)
 
-  pub colourLine-small : (c i : ℕ) → c < b .colours → i < pageLines b → colourLine b c i < 32768
+  pub colourLine-small : (c i : ℕ) → c < cachePages b → i < pageLines b → colourLine b c i < 65536
   colourLine-small c i hc hi = omega (arith, colourLine-lt c i hc hi, lines-small)
 
-  pub lineAt-small : (n : ℕ) → n < lines b → lineAt b n < 32768
+  pub lineAt-small : (n : ℕ) → n < lines b → lineAt b n < 65536
   lineAt-small n h = omega (arith, lineAt-end n h, cacheWords-small, reg .has-line-words)
 
   pub lineOffset-small : (n : ℕ) → lineOffset b n < 1024

@@ -17,16 +17,24 @@ pages = 1024
 
 -- ---- sizes
 
--- the lines of one page, and of the whole cache
+-- the pages of both caches: one for each colour of the data cache, and behind them one for each of the instruction cache
+abbrev pub cachePages : Board → ℕ
+cachePages b = 2 * b .colours
+
+-- the lines of one page, of the data cache, and of both caches
 unfoldable pub pageLines : Board → ℕ
 pageLines b = b .page / b .line
 
+unfoldable pub dataLines : Board → ℕ
+unfolding pageLines
+dataLines b = b .colours * pageLines b
+
 unfoldable pub lines : Board → ℕ
 unfolding pageLines
-lines b = b .colours * pageLines b
+lines b = cachePages b * pageLines b
 
 unfoldable pub cacheWords : Board → ℕ
-cacheWords b = b .colours * b .page
+cacheWords b = cachePages b * b .page
 
 unfoldable pub memoryWords : Board → ℕ
 memoryWords b = b .frames * b .page
@@ -37,26 +45,30 @@ memoryWords b = b .frames * b .page
 unfoldable pub colourOf : Board → ℕ → ℕ
 colourOf b page = page % b .colours
 
--- the line in which offset o lies in colour c
+-- the page of the instruction cache that a colour has
+abbrev pub instructionPage : Board → ℕ → ℕ
+instructionPage b c = b .colours + c
+
+-- the line in which offset o lies in cache page c: a colour's line in the data cache, from the number of colours on in the instruction cache
 unfoldable pub lineOf : Board → ℕ → ℕ → ℕ
 unfolding pageLines
 lineOf b c o = c * pageLines b + o / b .line
 
--- line i of the lines of colour c, in rising order
+-- line i of the lines of cache page c, in rising order
 unfoldable pub colourLine : Board → ℕ → ℕ → ℕ
 unfolding pageLines
 colourLine b c i = c * pageLines b + i
 
--- the first word of line n in the cache
+-- the first word of line n in the caches
 unfoldable pub lineAt : Board → ℕ → ℕ
 lineAt b n = n * b .line
 
--- the word of the cache that holds offset o in colour c
+-- the word of the caches that holds offset o in page c of them
 unfoldable pub cacheAt : Board → ℕ → ℕ → ℕ
 unfolding lineOf lineAt
 cacheAt b c o = lineAt b (lineOf b c o) + o % b .line
 
--- the colour that line n belongs to, and the first offset of a page that lies in it
+-- the cache page that line n belongs to, and the first offset of a page that lies in it
 unfoldable pub lineColour : Board → ℕ → ℕ
 unfolding pageLines
 lineColour b n = n / pageLines b

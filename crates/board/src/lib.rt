@@ -1,9 +1,9 @@
 // The board: its four numbers, the sizes that follow from them, and which word, line and colour belong together.
 ghost use mathlib.Core.Path.{_≡_};
 ghost use Prim.Native.Nat.{_+_, _≤_, _<_};
-ghost use Rattle.board.specs.Board.{Regular, colourOf, pageLines, lines, cacheWords, memoryWords, lineOf, colourLine, lineAt, cacheAt, lineOffset, memoryAt};
+ghost use Rattle.board.specs.Board.{Regular, colourOf, cachePages, instructionPage, pageLines, dataLines, lines, cacheWords, memoryWords, lineOf, colourLine, lineAt, cacheAt, lineOffset, memoryAt};
 
-// A board: words in a page, words in a line, colours (cache pages), frames (physical pages).
+// A board: words in a page, words in a line, colours (pages of the data cache, and of the instruction cache), frames (physical pages).
 pub struct Board {
     pub page: usize,
     pub line: usize,
@@ -33,20 +33,44 @@ pub fn page_lines(board: Board) -> usize
     board.page / board.line
 }
 
-// The lines of the cache.
-pub fn lines(board: Board) -> usize
+// The pages of both caches: those of the data cache, and behind them those of the instruction cache.
+pub fn cache_pages(board: Board) -> usize
     requires { ⌜ Regular board ⌝ }
-    ensures { λ r. ⌜ r ≡ lines board ⌝ }
+    ensures { λ r. ⌜ r ≡ cachePages board ⌝ }
+{
+    2 * board.colours
+}
+
+// The page of the instruction cache that a colour has.
+pub fn instruction_page(board: Board, colour: usize) -> usize
+    requires { ⌜ Regular board × (colour < board .colours) ⌝ }
+    ensures { λ r. ⌜ r ≡ instructionPage board colour ⌝ }
+    ensures within { λ r. ⌜ r < cachePages board ⌝ }
+{
+    board.colours + colour
+}
+
+// The lines of the data cache, and of both caches.
+pub fn data_lines(board: Board) -> usize
+    requires { ⌜ Regular board ⌝ }
+    ensures { λ r. ⌜ r ≡ dataLines board ⌝ }
 {
     board.colours * page_lines(board)
 }
 
-// The words of the cache.
+pub fn lines(board: Board) -> usize
+    requires { ⌜ Regular board ⌝ }
+    ensures { λ r. ⌜ r ≡ lines board ⌝ }
+{
+    cache_pages(board) * page_lines(board)
+}
+
+// The words of both caches.
 pub fn cache_words(board: Board) -> usize
     requires { ⌜ Regular board ⌝ }
     ensures { λ r. ⌜ r ≡ cacheWords board ⌝ }
 {
-    board.colours * board.page
+    cache_pages(board) * board.page
 }
 
 // The words of memory.
@@ -66,38 +90,38 @@ pub fn colour_of(board: Board, page: usize) -> usize
     page % board.colours
 }
 
-// The cache line in which an offset of a page lies that goes through a colour.
+// The line in which an offset of a page lies that goes through a page of the caches.
 pub fn line_of(board: Board, colour: usize, offset: usize) -> usize
-    requires { ⌜ Regular board × (colour < board .colours) × (offset < board .page) ⌝ }
+    requires { ⌜ Regular board × (colour < cachePages board) × (offset < board .page) ⌝ }
     ensures { λ r. ⌜ r ≡ lineOf board colour offset ⌝ }
     ensures within { λ r. ⌜ r < lines board ⌝ }
 {
     colour * page_lines(board) + offset / board.line
 }
 
-// A line of a colour, by its number among them.
+// A line of a page of the caches, by its number among them.
 pub fn colour_line(board: Board, colour: usize, i: usize) -> usize
-    requires { ⌜ Regular board × (colour < board .colours) × (i < pageLines board) ⌝ }
+    requires { ⌜ Regular board × (colour < cachePages board) × (i < pageLines board) ⌝ }
     ensures { λ r. ⌜ r ≡ colourLine board colour i ⌝ }
     ensures within { λ r. ⌜ r < lines board ⌝ }
 {
     colour * page_lines(board) + i
 }
 
-// The first word of a line in the cache.
+// The first word of a line in the caches.
 pub fn line_at(board: Board, line: usize) -> usize
     requires { ⌜ Regular board × (line < lines board) ⌝ }
     ensures { λ r. ⌜ r ≡ lineAt board line ⌝ }
-    ensures within { λ r. ⌜ (r + board .line ≤ cacheWords board) × (cacheWords board ≤ 32768) ⌝ }
+    ensures within { λ r. ⌜ (r + board .line ≤ cacheWords board) × (cacheWords board ≤ 65536) ⌝ }
 {
     line * board.line
 }
 
-// The word of the cache that holds an offset in a colour.
+// The word of the caches that holds an offset in a page of them.
 pub fn cache_at(board: Board, colour: usize, offset: usize) -> usize
-    requires { ⌜ Regular board × (colour < board .colours) × (offset < board .page) ⌝ }
+    requires { ⌜ Regular board × (colour < cachePages board) × (offset < board .page) ⌝ }
     ensures { λ r. ⌜ r ≡ cacheAt board colour offset ⌝ }
-    ensures within { λ r. ⌜ (r < cacheWords board) × (cacheWords board ≤ 32768) ⌝ }
+    ensures within { λ r. ⌜ (r < cacheWords board) × (cacheWords board ≤ 65536) ⌝ }
 {
     colour * board.page + offset
 }

@@ -7,4 +7,5 @@ pub mod Fill
 pub mod Sweep
 pub mod Operations
 pub mod Access
+pub mod Instructions
 pub mod Device

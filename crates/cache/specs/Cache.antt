@@ -1,4 +1,5 @@
--- Document 01, "The board as modelled": what the cache does, rule by rule, over any board.
+-- Document 01, "The board as modelled": what the caches do, rule by rule, over any board. What goes through page c of them is the data cache's for a colour c, and the
+-- instruction cache's from the number of colours on (request N8).
 use mathlib.Core.Bool.{not}
 use mathlib.Core.List.{List}
 use Prim.Native.Nat.{ℕ, zero, suc}
@@ -42,9 +43,9 @@ fill b f n s =
     withTag n (cleanTag f)
     (withWords (overlay (s .words) (lineAt b n) (part (s .memory) (memoryAt b f (lineOffset b n)) (b .line))) s)
 
--- ---- the lines of a colour
+-- ---- the lines of a page of the caches
 
--- an operation on each of the first i lines of colour c, in rising order
+-- an operation on each of the first i lines of cache page c, in rising order
 unfoldable pub sweep : Board → (ℕ → Store → Store) → ℕ → ℕ → Store → Store
 unfolding colourLine
 sweep b op c zero s = s
@@ -60,7 +61,7 @@ unfoldable pub purgeLine : ℕ → ℕ → Store → Store
 unfolding names empty
 purgeLine f n s = when (names (tagAt s n) f) (empty n) s
 
--- the two orders on frame f in colour c
+-- the two orders on frame f in cache page c
 unfoldable pub flush : Board → ℕ → ℕ → Store → Store
 unfolding sweep flushLine pageLines
 flush b f c s = sweep b (flushLine b f) c (pageLines b) s
@@ -69,7 +70,7 @@ unfoldable pub purge : Board → ℕ → ℕ → Store → Store
 unfolding sweep purgeLine pageLines
 purge b f c s = sweep b (purgeLine f) c (pageLines b) s
 
--- ---- a processor's access, to offset o of frame f through colour c
+-- ---- a processor's access, to offset o of frame f through cache page c
 
 -- line n is written back and filled from frame f
 unfoldable pub replace : Board → ℕ → ℕ → Store → Store

@@ -7,14 +7,14 @@ use Prim.Native.Nat.{ℕ, _+_, _-_, _<_}
 use lib.Dec.{eqb, leb, ltb}
 use lib.ListN.{length, getD}
 use Rattle.board.specs.declared.Board.{Board}
-use Rattle.board.specs.Board.{lineOf}
+use Rattle.board.specs.Board.{cachePages, lineOf}
 use Rattle.cache.specs.Store.{Store, WellFormedStore, tagAt, wordAt, memoryWord}
 use Rattle.cache.specs.Tag.{dirtyTag}
 
 -- the words that a dirty line of frame f covers are current there, and every other word is current in memory
 pub record Current (b : Board) (f : ℕ) (current : ℕ → ℕ) (s : Store) : Type 0 where
-  pub in-line : (c o : ℕ) → c < b .colours → o < b .page → tagAt s (lineOf b c o) ≡ dirtyTag f → wordAt b s c o ≡ current o
-  pub in-memory : (o : ℕ) → o < b .page → ((c : ℕ) → c < b .colours → tagAt s (lineOf b c o) ≡ dirtyTag f → ⊥) → memoryWord b s f o ≡ current o
+  pub in-line : (c o : ℕ) → c < cachePages b → o < b .page → tagAt s (lineOf b c o) ≡ dirtyTag f → wordAt b s c o ≡ current o
+  pub in-memory : (o : ℕ) → o < b .page → ((c : ℕ) → c < cachePages b → tagAt s (lineOf b c o) ≡ dirtyTag f → ⊥) → memoryWord b s f o ≡ current o
 
 -- an operation loses no current word of any frame
 abbrev pub LosesNone : Board → (Store → Store) → Type 0

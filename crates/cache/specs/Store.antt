@@ -1,4 +1,4 @@
--- The hardware's state: memory, and the words and tags of the cache's lines. Document 01, "The board as modelled".
+-- The hardware's state: memory, and the words and tags of both caches' lines. Document 01, "The board as modelled".
 use mathlib.Core.Bool.{Bool, true, false}
 use mathlib.Core.Path.{_≡_}
 use mathlib.Core.List.{List}
@@ -29,7 +29,7 @@ pub record WellFormedStore (b : Board) (s : Store) : Type 0 where
 abbrev pub tagAt : Store → ℕ → ℕ
 tagAt s n = getD (s .tags) n 0
 
--- the cache's word at offset o in colour c, and memory's word at offset o of frame f
+-- the word at offset o in page c of the caches, and memory's word at offset o of frame f
 abbrev pub wordAt : Board → Store → ℕ → ℕ → ℕ
 wordAt b s c o = getD (s .words) (cacheAt b c o) 0
 

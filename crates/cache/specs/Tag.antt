@@ -1,9 +1,10 @@
 -- Document 01, "The board as modelled": what a line's tag byte says, and which bytes keep the rules.
-use mathlib.Core.Bool.{Bool, true, _&&_, _||_, cond}
+use mathlib.Core.Bool.{Bool, true, not, _&&_, _||_, cond}
 use mathlib.Core.List.{List, [], _∷_}
-use Prim.Native.Nat.{ℕ, _+_, _-_}
+use Prim.Native.Nat.{ℕ, suc, _+_, _-_}
 use lib.Dec.{eqb, leb, ltb}
 use Rattle.board.specs.declared.Board.{Board}
+use Rattle.board.specs.Board.{dataLines}
 
 -- an empty line; a clean line of frame f; a line of frame f that was written and not written back since
 abbrev pub emptyTag : ℕ
@@ -33,8 +34,17 @@ unfoldable pub tagKeepsRules : Board → ℕ → Bool
 unfolding frameOf
 tagKeepsRules b tag = eqb tag emptyTag || ltb (frameOf tag) (b .frames)
 
--- every one of the tags keeps the rules
+-- the tag of line n keeps the rules: an instruction line's is not dirty (request N8)
+unfoldable pub lineKeepsRules : Board → ℕ → ℕ → Bool
+unfolding tagKeepsRules isDirtyTag dataLines
+lineKeepsRules b n tag = tagKeepsRules b tag && (not (isDirtyTag tag) || ltb n (dataLines b))
+
+-- every one of the tags keeps the rules, as those of the lines from n on, and as those of all lines
+unfoldable pub tagsFrom : Board → ℕ → List ℕ → Bool
+unfolding lineKeepsRules
+tagsFrom b n [] = true
+tagsFrom b n (tag ∷ tags) = lineKeepsRules b n tag && tagsFrom b (suc n) tags
+
 unfoldable pub tagsKeepRules : Board → List ℕ → Bool
-unfolding tagKeepsRules
-tagsKeepRules b [] = true
-tagsKeepRules b (tag ∷ tags) = tagKeepsRules b tag && tagsKeepRules b tags
+unfolding tagsFrom
+tagsKeepRules b tags = tagsFrom b 0 tags

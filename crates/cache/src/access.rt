@@ -1,4 +1,4 @@
-// A processor's access to a word: offset of a frame through a colour.
+// A processor's access to a word: offset of a frame through a page of the caches, a colour's in the data cache or in the instruction cache.
 use crate::line::fill;
 use crate::line::write_back;
 use crate::tag::dirty_tag;
@@ -6,7 +6,7 @@ use crate::tag::names;
 use board::Board;
 ghost use mathlib.Core.Path.{_≡_};
 ghost use Prim.Native.Nat.{_<_};
-ghost use Rattle.board.specs.Board.{Regular, lines, lineOf};
+ghost use Rattle.board.specs.Board.{Regular, cachePages, lines, lineOf};
 ghost use Rattle.cache.specs.Store.{store, WellFormedStore};
 ghost use Rattle.cache.specs.Cache.{replace, access, readWord, putWord, writeWord};
 
@@ -20,7 +20,7 @@ pub fn read_word(
     colour: usize,
     offset: usize,
 ) -> u32
-    requires { ⌜ WellFormedStore board (store (now memory) (now words) (now tags)) × (frame < board .frames) × (colour < board .colours) × (offset < board .page) × Regular board ⌝ }
+    requires { ⌜ WellFormedStore board (store (now memory) (now words) (now tags)) × (frame < board .frames) × (colour < cachePages board) × (offset < board .page) × Regular board ⌝ }
     ensures word { λ r. ⌜ r ≡ readWord board frame colour offset (store (now (memory .entry)) (now (words .entry)) (now (tags .entry))) ⌝ }
     ensures state { λ _. ⌜ store (now (memory .exit)) (now (words .exit)) (now (tags .exit)) ≡ access board frame colour offset (store (now (memory .entry)) (now (words .entry)) (now (tags .entry))) ⌝ }
 {
@@ -60,7 +60,7 @@ pub fn access(
     colour: usize,
     offset: usize,
 )
-    requires { ⌜ WellFormedStore board (store (now memory) (now words) (now tags)) × (frame < board .frames) × (colour < board .colours) × (offset < board .page) × Regular board ⌝ }
+    requires { ⌜ WellFormedStore board (store (now memory) (now words) (now tags)) × (frame < board .frames) × (colour < cachePages board) × (offset < board .page) × Regular board ⌝ }
     ensures { λ _. ⌜ store (now (memory .exit)) (now (words .exit)) (now (tags .exit)) ≡ access board frame colour offset (store (now (memory .entry)) (now (words .entry)) (now (tags .entry))) ⌝ }
 {
     let line = board::line_of(board, colour, offset);

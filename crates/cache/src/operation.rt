@@ -1,4 +1,4 @@
-// The two operations on a frame in a colour, flush and purge: document 01's orders.
+// The two operations on a frame in a page of the caches, flush and purge: document 01's orders. What goes by `colour` is such a page.
 use crate::line::evict;
 use crate::tag::EMPTY;
 use crate::tag::names;
@@ -7,11 +7,11 @@ ghost use mathlib.Core.Path.{_≡_};
 ghost use mathlib.Core.List.{List};
 ghost use Prim.Native.Nat.{ℕ, _<_};
 ghost use lib.ListN.{length};
-ghost use Rattle.board.specs.Board.{Regular, lines};
+ghost use Rattle.board.specs.Board.{Regular, cachePages, lines};
 ghost use Rattle.cache.specs.Store.{store, WellFormedStore};
 ghost use Rattle.cache.specs.Cache.{flushLine, purgeLine, flush, purge};
 
-// Writes back each dirty line of a frame in a colour, and empties every line that names the frame there.
+// Writes back each dirty line of a frame in a page of the caches, and empties every line that names the frame there.
 pub fn flush(
     board: Board,
     memory: &mut [u32],
@@ -20,7 +20,7 @@ pub fn flush(
     frame: usize,
     colour: usize,
 )
-    requires { ⌜ WellFormedStore board (store (now memory) (now words) (now tags)) × (frame < board .frames) × (colour < board .colours) × Regular board ⌝ }
+    requires { ⌜ WellFormedStore board (store (now memory) (now words) (now tags)) × (frame < board .frames) × (colour < cachePages board) × Regular board ⌝ }
     ensures { λ _. ⌜ store (now (memory .exit)) (now (words .entry)) (now (tags .exit)) ≡ flush board frame colour (store (now (memory .entry)) (now (words .entry)) (now (tags .entry))) ⌝ }
 {
     let lines = board::page_lines(board);
@@ -38,9 +38,9 @@ pub fn flush(
     }
 }
 
-// Empties every line that names a frame in a colour, and writes none back.
+// Empties every line that names a frame in a page of the caches, and writes none back.
 pub fn purge(board: Board, tags: &mut [u8], frame: usize, colour: usize)
-    requires { ⌜ (length (now tags) ≡ lines board) × (frame < board .frames) × (colour < board .colours) × Regular board ⌝ }
+    requires { ⌜ (length (now tags) ≡ lines board) × (frame < board .frames) × (colour < cachePages board) × Regular board ⌝ }
     ensures { λ _. ⌜ ((memory words : List ℕ) → store memory words (now (tags .exit)) ≡ purge board frame colour (store memory words (now (tags .entry)))) ⌝ }
 {
     let lines = board::page_lines(board);

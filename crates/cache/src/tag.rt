@@ -3,7 +3,7 @@ use board::Board;
 ghost use mathlib.Core.Path.{_≡_};
 ghost use Prim.Native.Nat.{_<_};
 ghost use Rattle.board.specs.Board.{Regular};
-ghost use Rattle.cache.specs.Tag.{cleanTag, dirtyTag, names, tagKeepsRules, tagsKeepRules};
+ghost use Rattle.cache.specs.Tag.{cleanTag, dirtyTag, names, tagKeepsRules, lineKeepsRules, tagsKeepRules};
 
 // The tag of an empty line, and those of a clean and of a dirty line of frame 0.
 pub const EMPTY: u8 = 0;
@@ -19,12 +19,23 @@ pub fn tags_keep_rules(board: Board, tags: &[u8]) -> bool
 {
     let mut i = 0;
     while i < tags.len() {
-        if !tag_keeps_rules(board, tags[i]) {
+        if !line_keeps_rules(board, i, tags[i]) {
             return false;
         }
         i += 1;
     }
     true
+}
+
+// Whether a line's tag keeps the rules: it is empty or names a frame of the board, and an instruction line's is not dirty.
+pub fn line_keeps_rules(board: Board, line: usize, tag: u8) -> bool
+    requires { ⌜ Regular board ⌝ }
+    ensures { λ r. ⌜ r ≡ lineKeepsRules board line tag ⌝ }
+{
+    if number(tag) < DIRTY {
+        return tag_keeps_rules(board, tag);
+    }
+    line < board::data_lines(board) && tag_keeps_rules(board, tag)
 }
 
 // Whether a tag is empty or names a frame of the board.

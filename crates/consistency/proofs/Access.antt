@@ -6,7 +6,7 @@ use Prim.Native.Nat.{ℕ, _<_}
 use native.Mathlib.Omega.{arith}
 use native.Mathlib.Decide.{ℕ-discrete}
 use Rattle.board.specs.declared.Board.{Board}
-use Rattle.board.specs.Board.{Regular, lineOf, lineColour}
+use Rattle.board.specs.Board.{Regular, cachePages, lineOf, lineColour}
 use Rattle.board.proofs.Geometry.{lineOf-colour}
 use Rattle.page_model.specs.Record.{isHeld}
 use Rattle.page_model.specs.Table.{ColourState, empty, dirty}
@@ -22,7 +22,7 @@ use Rattle.consistency.proofs.Agrees.{Agrees, untouched-agrees}
 pub same-colour : (b : Board) (reg : Regular b) (d p c o : ℕ) → p < b .page → o < b .page → lineOf b d p ≡ lineOf b c o → d ≡ c
 same-colour b reg d p c o hp ho e = sym (lineOf-colour b reg d p hp) ∙ ap (lineColour b) e ∙ lineOf-colour b reg c o ho
 
-module _ (b : Board) (reg : Regular b) (f c o : ℕ) (hf : f < b .frames) (hc : c < b .colours) (ho : o < b .page) (s : Store) (wf : WellFormedStore b s) where
+module _ (b : Board) (reg : Regular b) (f c o : ℕ) (hf : f < b .frames) (hc : c < cachePages b) (ho : o < b .page) (s : Store) (wf : WellFormedStore b s) where
   -- ---- another frame: the line no longer names it, and the others are as they were
 
   module _ (g : ℕ) (hg : g < b .frames) (ne : g ≢ f) where
@@ -43,12 +43,12 @@ module _ (b : Board) (reg : Regular b) (f c o : ℕ) (hf : f < b .frames) (hc : 
   -- ---- its own frame, through a present or dirty colour beside which none is dirty
 
   module _ (states : ℕ → ColourState) (words : ℕ → ℕ) (a : Agrees b f states words s) (held : isHeld (states c) ≡ true)
-      (alone : (d : ℕ) → d < b .colours → d ≢ c → states d ≢ dirty) where
+      (alone : (d : ℕ) → d < cachePages b → d ≢ c → states d ≢ dirty) where
     -- on a miss the line is filled with the frame's words
     filled : (p : ℕ) → p < b .page → lineOf b c p ≡ lineOf b c o → names (tagAt s (lineOf b c o)) f ≡ false → memoryWord b s f p ≡ words p
     filled p hp e miss = a .current .in-memory p hp (λ d hd t. go d hd t (ℕ-discrete d c))
       where
-        go : (d : ℕ) → d < b .colours → tagAt s (lineOf b d p) ≡ dirtyTag f → Dec (d ≡ c) → ⊥
+        go : (d : ℕ) → d < cachePages b → tagAt s (lineOf b d p) ≡ dirtyTag f → Dec (d ≡ c) → ⊥
         go d hd t (no ne) = alone d hd ne (a .tagged .dirty-colour d p hd hp t)
         go d hd t (yes q) =
             true≢false (sym (ap (λ (x : ℕ). names x f) (sym (ap (tagAt s) (ap (λ (x : ℕ). lineOf b x p) q ∙ e)) ∙ t) ∙ names-dirty f) ∙ miss)
@@ -77,12 +77,12 @@ module _ (b : Board) (reg : Regular b) (f c o : ℕ) (hf : f < b .frames) (hc : 
     not-empty : states c ≢ empty
     not-empty e = false≢true (sym (ap isHeld e) ∙ held)
 
-    occupied-after : (d p : ℕ) → d < b .colours → p < b .page → names (tagAt (access b f c o s) (lineOf b d p)) f ≡ true → Dec (lineOf b d p ≡ lineOf b c o) → states d ≢ empty
+    occupied-after : (d p : ℕ) → d < cachePages b → p < b .page → names (tagAt (access b f c o s) (lineOf b d p)) f ≡ true → Dec (lineOf b d p ≡ lineOf b c o) → states d ≢ empty
     occupied-after d p hd hp n (yes e) = λ q. not-empty (ap states (sym (same-colour b reg d p c o hp ho e)) ∙ q)
     occupied-after d p hd hp n (no ne) =
         a .tagged .occupied d p hd hp (sym (ap (λ (x : ℕ). names x f) (access-tag-other b reg f c o hf hc ho s wf (lineOf b d p) ne)) ∙ n)
 
-    words-after : (d p : ℕ) → d < b .colours → p < b .page → names (tagAt (access b f c o s) (lineOf b d p)) f ≡ true → isHeld (states d) ≡ true → Dec (lineOf b d p ≡ lineOf b c o)
+    words-after : (d p : ℕ) → d < cachePages b → p < b .page → names (tagAt (access b f c o s) (lineOf b d p)) f ≡ true → isHeld (states d) ≡ true → Dec (lineOf b d p ≡ lineOf b c o)
         → wordAt b (access b f c o s) d p ≡ words p
     words-after d p hd hp n h (yes e) =
         let q : d ≡ c = same-colour b reg d p c o hp ho e in

@@ -6,7 +6,7 @@ use mathlib.Core.List.{List}
 use Prim.Native.Nat.{ℕ, _<_}
 use lib.ListN.{getD}
 use Rattle.board.specs.declared.Board.{Board}
-use Rattle.board.specs.Board.{Regular, lines, lineOf, cacheAt}
+use Rattle.board.specs.Board.{Regular, cachePages, lines, lineOf, cacheAt}
 use Rattle.board.proofs.Geometry.{lineOf-lt}
 use Rattle.page_model.specs.Record.{isHeld}
 use Rattle.page_model.specs.Table.{ColourState, empty, dirty}
@@ -17,13 +17,13 @@ use Rattle.cache.proofs.Laws.Tag.{names-dirty}
 
 -- a line that names the frame is in a colour that is not empty, and in the dirty one if its tag is dirty
 pub record Tagged (b : Board) (f : ℕ) (states : ℕ → ColourState) (s : Store) : Type 0 where
-  pub occupied : (c o : ℕ) → c < b .colours → o < b .page → names (tagAt s (lineOf b c o)) f ≡ true → states c ≢ empty
-  pub dirty-colour : (c o : ℕ) → c < b .colours → o < b .page → tagAt s (lineOf b c o) ≡ dirtyTag f → states c ≡ dirty
+  pub occupied : (c o : ℕ) → c < cachePages b → o < b .page → names (tagAt s (lineOf b c o)) f ≡ true → states c ≢ empty
+  pub dirty-colour : (c o : ℕ) → c < cachePages b → o < b .page → tagAt s (lineOf b c o) ≡ dirtyTag f → states c ≡ dirty
 
 -- and the lines of a present or dirty colour, the dirty lines and else memory hold the frame's words
 pub record Agrees (b : Board) (f : ℕ) (states : ℕ → ColourState) (words : ℕ → ℕ) (s : Store) : Type 0 where
   pub tagged : Tagged b f states s
-  pub held-words : (c o : ℕ) → c < b .colours → o < b .page → names (tagAt s (lineOf b c o)) f ≡ true → isHeld (states c) ≡ true
+  pub held-words : (c o : ℕ) → c < cachePages b → o < b .page → names (tagAt s (lineOf b c o)) f ≡ true → isHeld (states c) ≡ true
       → wordAt b s c o ≡ words o
   pub current : Current b f words s
 
@@ -31,9 +31,9 @@ pub record Agrees (b : Board) (f : ℕ) (states : ℕ → ColourState) (words : 
 
 -- every line of t that names the frame is as it was in s
 pub record Untouched (b : Board) (f : ℕ) (s t : Store) : Type 0 where
-  pub tag-from : (c o : ℕ) → c < b .colours → o < b .page → names (tagAt t (lineOf b c o)) f ≡ true
+  pub tag-from : (c o : ℕ) → c < cachePages b → o < b .page → names (tagAt t (lineOf b c o)) f ≡ true
       → tagAt t (lineOf b c o) ≡ tagAt s (lineOf b c o)
-  pub word-from : (c o : ℕ) → c < b .colours → o < b .page → names (tagAt t (lineOf b c o)) f ≡ true → wordAt b t c o ≡ wordAt b s c o
+  pub word-from : (c o : ℕ) → c < cachePages b → o < b .page → names (tagAt t (lineOf b c o)) f ≡ true → wordAt b t c o ≡ wordAt b s c o
 
 -- lines emptied and words left are no frame's lines touched
 pub emptied : (b : Board) (reg : Regular b) (s t : Store) → ((n g : ℕ) → n < lines b → names (tagAt t n) g ≡ true → tagAt t n ≡ tagAt s n)
@@ -45,7 +45,7 @@ emptied b reg s t tags words f =
     }
 
 module _ (b : Board) (f : ℕ) (states : ℕ → ColourState) (s t : Store) (un : Untouched b f s t) where
-  named : (c o : ℕ) → c < b .colours → o < b .page → names (tagAt t (lineOf b c o)) f ≡ true → names (tagAt s (lineOf b c o)) f ≡ true
+  named : (c o : ℕ) → c < cachePages b → o < b .page → names (tagAt t (lineOf b c o)) f ≡ true → names (tagAt s (lineOf b c o)) f ≡ true
   named c o hc ho n = sym (ap (λ (x : ℕ). names x f) (un .tag-from c o hc ho n)) ∙ n
 
   pub untouched-tagged : Tagged b f states s → Tagged b f states t

@@ -9,10 +9,10 @@ use lib.Dec.{ltb}
 use lib.ListN.{length, getD}
 use borrow.Author.Tests.{eq-eqb, ne-eqb, ltb-false}
 use Rattle.board.specs.declared.Board.{Board}
-use Rattle.board.specs.Board.{Regular, lineOf}
+use Rattle.board.specs.Board.{Regular, cachePages, lineOf}
 use Rattle.page_model.specs.declared.FrameRecord.{FrameRecord}
 use Rattle.page_model.specs.Busy.{bars}
-use Rattle.page_model.specs.Record.{stateOf, isHeld}
+use Rattle.page_model.specs.Record.{isHeld}
 use Rattle.page_model.specs.Table as table
 use Rattle.manager.specs.Calls.{changeOf, commitChange}
 use Rattle.manager.specs.Refusals.{firstRefusal}
@@ -30,11 +30,12 @@ use Rattle.machine.specs.Step.{accept}
 use Rattle.machine.proofs.StepLaws.{cleared, effect-tested, part-ready}
 use Rattle.machine.proofs.Parts.{whole-refusal, whole-accept}
 use Rattle.consistency.specs.Cacheless.{Cacheless, cacheless, sent, afterAccepted}
+use Rattle.consistency.proofs.Pages.{pageStates, pagesAfter, HoldsNone, write-holds-none, part-holds-none, holds-none, device-read-clean}
 use Rattle.consistency.proofs.Agrees.{Tagged, Agrees, Untouched, emptied, untouched-tagged, untouched-agrees}
 use Rattle.consistency.proofs.Commit.{commit-invariant}
 use Rattle.consistency.proofs.Invariant.{Invariant, Taken}
-use Rattle.consistency.proofs.Operations.{ordered, statesAfter, ordered-kept, ordered-other, ordered-tagged, ordered-agrees}
-use Rattle.consistency.proofs.Table.{Spares, HoldsNone, holds-none, device-read-clean}
+use Rattle.consistency.proofs.Operations.{ordered, ordered-kept, ordered-other, ordered-tagged, ordered-agrees}
+use Rattle.consistency.proofs.Table.{Spares}
 
 module _ (b : Board) (reg : Regular b) (st : State) (m : Cacheless) (inv : Invariant b st m) (f : ℕ) (hf : f < b .frames) where
   r : FrameRecord
@@ -49,16 +50,16 @@ module _ (b : Board) (reg : Regular b) (st : State) (m : Cacheless) (inv : Invar
   unfolding cleaned
   cleaned-kept = ordered-kept b reg f hf (st .store) (inv .kept) table.deviceRead (recordAt (st .tables .records) f) (inv .sound .record-rules f hf)
 
-  cleaned-own : Agrees b f (statesAfter table.deviceRead r) (m .word f) cleaned
+  cleaned-own : Agrees b f (pagesAfter (b .colours) table.deviceRead r) (m .word f) cleaned
   unfolding cleaned r
   cleaned-own =
       ordered-agrees b reg f hf (st .store) (inv .kept) table.deviceRead (recordAt (st .tables .records) f) (inv .sound .record-rules f hf) (m .word f) refl (inv .agrees f hf)
 
-  cleaned-other : (g : ℕ) → g < b .frames → g ≢ f → Agrees b g (stateOf (recordAt (st .tables .records) g)) (m .word g) cleaned
+  cleaned-other : (g : ℕ) → g < b .frames → g ≢ f → Agrees b g (pageStates (b .colours) (recordAt (st .tables .records) g)) (m .word g) cleaned
   unfolding cleaned
   cleaned-other g hg ne =
       ordered-other b reg f hf (st .store) (inv .kept) table.deviceRead (recordAt (st .tables .records) f) (inv .sound .record-rules f hf) g
-      (stateOf (recordAt (st .tables .records) g)) (m .word g) ne (inv .agrees g hg)
+      (pageStates (b .colours) (recordAt (st .tables .records) g)) (m .word g) ne (inv .agrees g hg)
 
   -- no line of the frame is dirty, so memory has its words
   read-words : hardware.deviceRead b f cleaned ≡ tabulate (b .page) (m .word f)
@@ -66,7 +67,7 @@ module _ (b : Board) (reg : Regular b) (st : State) (m : Cacheless) (inv : Invar
       is-tabulate (hardware.deviceRead b f cleaned) (b .page) (m .word f) (deviceRead-length b reg f hf cleaned cleaned-kept)
       (λ o ho.
       deviceRead-word b reg f hf cleaned cleaned-kept o ho
-      ∙ cleaned-own .current .in-memory o ho (λ c hc d. device-read-clean r c (cleaned-own .tagged .dirty-colour c o hc ho d)))
+      ∙ cleaned-own .current .in-memory o ho (λ c hc d. device-read-clean (b .colours) r c (cleaned-own .tagged .dirty-colour c o hc ho d)))
 
   read-taken : (buffer : List ℕ) → bars (recordAt (st .tables .records) f .busy) table.deviceRead ≡ false → Taken b st m (deviceRead f buffer)
   unfolding accept afterAccepted cleaned r
@@ -82,18 +83,18 @@ module _ (b : Board) (reg : Regular b) (st : State) (m : Cacheless) (inv : Invar
     unfolding swept
     swept-kept = ordered-kept b reg f hf (st .store) (inv .kept) step (recordAt (st .tables .records) f) (inv .sound .record-rules f hf)
 
-    swept-tagged : Tagged b f (statesAfter step r) swept
+    swept-tagged : Tagged b f (pagesAfter (b .colours) step r) swept
     unfolding swept r
     swept-tagged = ordered-tagged b reg f hf (st .store) (inv .kept) step (recordAt (st .tables .records) f) (inv .sound .record-rules f hf) (inv .agrees f hf .tagged)
 
-    swept-other : (g : ℕ) → g < b .frames → g ≢ f → Agrees b g (stateOf (recordAt (st .tables .records) g)) (m .word g) swept
+    swept-other : (g : ℕ) → g < b .frames → g ≢ f → Agrees b g (pageStates (b .colours) (recordAt (st .tables .records) g)) (m .word g) swept
     unfolding swept
     swept-other g hg ne =
         ordered-other b reg f hf (st .store) (inv .kept) step (recordAt (st .tables .records) f) (inv .sound .record-rules f hf) g
-        (stateOf (recordAt (st .tables .records) g)) (m .word g) ne (inv .agrees g hg)
+        (pageStates (b .colours) (recordAt (st .tables .records) g)) (m .word g) ne (inv .agrees g hg)
 
-    swept-clean : (c o : ℕ) → c < b .colours → o < b .page → tagAt swept (lineOf b c o) ≡ dirtyTag f → ⊥
-    swept-clean c o hc ho d = holds-none step none-held r c (ap isHeld (swept-tagged .dirty-colour c o hc ho d))
+    swept-clean : (c o : ℕ) → c < cachePages b → o < b .page → tagAt swept (lineOf b c o) ≡ dirtyTag f → ⊥
+    swept-clean c o hc ho d = holds-none (b .colours) r step none-held c (ap isHeld (swept-tagged .dirty-colour c o hc ho d))
 
     -- a step that purges no dirty colour keeps every word
     swept-words : Spares step → (o : ℕ) → o < b .page → memoryWord b swept f o ≡ m .word f o
@@ -119,20 +120,20 @@ module _ (b : Board) (reg : Regular b) (st : State) (m : Cacheless) (inv : Invar
       other-words : (g : ℕ) → g ≢ f → m .word g ≡ sent (m .word) f first buffer g
       other-words g ne = fun-ext (λ o. rw (ne-eqb f g (λ e. ne (sym e))))
 
-      put-own : Agrees b f (statesAfter step r) (received first buffer (m .word f)) put
+      put-own : Agrees b f (pagesAfter (b .colours) step r) (received first buffer (m .word f)) put
       unfolding put
       put-own =
           record {
-            tagged = untouched-tagged b f (statesAfter step r) swept put (put-untouched f) swept-tagged;
-            held-words = λ c o hc ho n h. absurd (holds-none step none-held r c h);
+            tagged = untouched-tagged b f (pagesAfter (b .colours) step r) swept put (put-untouched f) swept-tagged;
+            held-words = λ c o hc ho n h. absurd (holds-none (b .colours) r step none-held c h);
             current = device-current-same b reg f hf first buffer inside swept swept-kept (m .word f) swept-clean rest;
           }
 
-      put-other : (g : ℕ) → g < b .frames → g ≢ f → Agrees b g (stateOf (recordAt (st .tables .records) g)) (m .word g) put
+      put-other : (g : ℕ) → g < b .frames → g ≢ f → Agrees b g (pageStates (b .colours) (recordAt (st .tables .records) g)) (m .word g) put
       unfolding put
       put-other g hg ne =
           let a = swept-other g hg ne in
-          untouched-agrees b g (stateOf (recordAt (st .tables .records) g)) swept put (put-untouched g) (m .word g)
+          untouched-agrees b g (pageStates (b .colours) (recordAt (st .tables .records) g)) swept put (put-untouched g) (m .word g)
           (device-current-other b reg f hf first buffer inside swept swept-kept g (m .word g) ne (a .current)) a
 
       put-invariant : Invariant b
@@ -142,8 +143,8 @@ module _ (b : Board) (reg : Regular b) (st : State) (m : Cacheless) (inv : Invar
       unfolding swept put r
       put-invariant =
           commit-invariant b st m inv f hf step free put (sent (m .word) f first buffer) (deviceWrite-kept b reg f hf swept swept-kept first buffer inside)
-          (subst (λ (x : ℕ → ℕ). Agrees b f (statesAfter step r) x put) own-words put-own)
-          (λ g hg ne. subst (λ (x : ℕ → ℕ). Agrees b g (stateOf (recordAt (st .tables .records) g)) x put) (other-words g ne) (put-other g hg ne))
+          (subst (λ (x : ℕ → ℕ). Agrees b f (pagesAfter (b .colours) step r) x put) own-words put-own)
+          (λ g hg ne. subst (λ (x : ℕ → ℕ). Agrees b g (pageStates (b .colours) (recordAt (st .tables .records) g)) x put) (other-words g ne) (put-other g hg ne))
 
   -- fewer words than a page has are put by a step that keeps the others; all of them leave no other
   part-taken : (first number : ℕ) (buffer : List ℕ) → length buffer ≡ number → first + number ≤ b .page
@@ -158,10 +159,10 @@ module _ (b : Board) (reg : Regular b) (st : State) (m : Cacheless) (inv : Invar
           (state (commitChange b (st .tables) f (changeOf b (st .tables) f (cond fewer table.deviceWritePart table.deviceWrite) .next))
           (hardware.deviceWrite b f first buffer (ordered b f (cond fewer table.deviceWritePart table.deviceWrite) (recordAt (st .tables .records) f) (st .store))))
           (cacheless (sent (m .word) f first buffer) (m .frame))
-      go true e = put-invariant table.deviceWritePart refl free first buffer inside (λ o ho out. swept-words table.deviceWritePart refl free refl o ho)
+      go true e = put-invariant table.deviceWritePart part-holds-none free first buffer inside (λ o ho out. swept-words table.deviceWritePart part-holds-none free refl o ho)
       go false e =
           let all = ltb-false number (b .page) e in
-          put-invariant table.deviceWrite refl free first buffer inside (λ o ho out. absurd (out (omega arith) (omega arith)))
+          put-invariant table.deviceWrite write-holds-none free first buffer inside (λ o ho out. absurd (out (omega arith) (omega arith)))
 
 -- ---- the calls
 

@@ -3,7 +3,6 @@ use mathlib.Core.Path.{_≡_}
 use Prim.Native.Nat.{ℕ, _<_}
 use Rattle.board.specs.declared.Board.{Board}
 use Rattle.board.specs.Board.{Regular, lines}
-use Rattle.page_model.specs.Record.{stateOf}
 use Rattle.manager.specs.Refusals.{firstRefusal}
 use Rattle.manager.specs.Tables.{recordAt, refill}
 use Rattle.cache.specs.Cache as hardware
@@ -14,6 +13,7 @@ use Rattle.machine.specs.State.{State, state, evict}
 use Rattle.machine.specs.Step.{operate, carryOut, accept}
 use Rattle.machine.proofs.StepLaws.{evict-ready}
 use Rattle.consistency.specs.Cacheless.{Cacheless, afterAccepted}
+use Rattle.consistency.proofs.Pages.{pageStates}
 use Rattle.consistency.proofs.Agrees.{emptied, untouched-agrees}
 use Rattle.consistency.proofs.Commit.{refill-invariant}
 use Rattle.consistency.proofs.Invariant.{Invariant, Taken}
@@ -23,7 +23,7 @@ module _ (b : Board) (reg : Regular b) (st : State) (m : Cacheless) (inv : Invar
   evict-invariant h =
       refill-invariant b st m inv (hardware.evict b line (st .store)) (m .word) (evict-kept b reg (st .store) (inv .kept) line h)
       (λ f hf.
-      untouched-agrees b f (stateOf (recordAt (st .tables .records) f)) (st .store) (hardware.evict b line (st .store))
+      untouched-agrees b f (pageStates (b .colours) (recordAt (st .tables .records) f)) (st .store) (hardware.evict b line (st .store))
       (emptied b reg (st .store) (hardware.evict b line (st .store)) (λ n g _ e. evict-tag-from b reg (st .store) (inv .kept) line h n g e)
       (evict-words b reg (st .store) (inv .kept) line h) f)
       (m .word f) (evict-current b reg line h f (m .word f) (st .store) (inv .kept) (inv .agrees f hf .current)) (inv .agrees f hf))

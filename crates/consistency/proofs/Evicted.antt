@@ -5,19 +5,20 @@ use mathlib.Core.List.{List, [], _∷_}
 use mathlib.Core.Logic.{_⊎_, inl, inr}
 use Prim.Native.Nat.{ℕ, _<_}
 use native.Mathlib.Omega.{arith}
-use native.Mathlib.Decide.{ℕ-discrete}
+use native.Mathlib.Decide.{ℕ-discrete, decLt}
 use borrow.Author.Tests.{lt-leb}
 use Rattle.bits.proofs.Mask.{all-of}
 use Rattle.board.specs.declared.Board.{Board}
-use Rattle.board.specs.Board.{Regular, lines, lineOf}
-use Rattle.board.proofs.Geometry.{lineOf-lt}
+use Rattle.board.specs.Board.{Regular, dataLines, lines, lineOf}
+use Rattle.board.proofs.Geometry.{lineOf-data}
 use Rattle.mapping.proofs.Laws.{rules-keepsRules}
 use Rattle.manager.specs.Refusals.{firstRefusal}
 use Rattle.manager.specs.Tables.{Tables, recordsKeepRules, lengthsRight, rulesKept}
 use Rattle.manager.proofs.CauseLaws.{lengths-right, rules-kept}
 use Rattle.cache.specs.Store.{Store, WellFormedStore, tagAt}
-use Rattle.cache.specs.Tag.{emptyTag}
+use Rattle.cache.specs.Tag.{emptyTag, dirtyTag}
 use Rattle.cache.proofs.Laws.Evict.{evict-tag-same, evict-tag-other}
+use Rattle.cache.proofs.Laws.Instructions.{dirty-colour}
 use Rattle.machine.specs.Call.{callCauses, perform}
 use Rattle.machine.specs.Refusals.{storeLengths, causes}
 use Rattle.machine.specs.State.{State, evict, single, Result}
@@ -100,14 +101,18 @@ module _ (b : Board) (reg : Regular b) (m : Cacheless) where
       next (inr z) = inr (evict-empties st inv n (h n (inl refl)) k (inr z))
 
   -- with no dirty line left, memory holds the words
-  memory-is : (st : State) → Invariant b st m → ((n : ℕ) → n < lines b → tagAt (st .store) n ≡ emptyTag) → MemoryIs b m st
+  memory-is : (st : State) → Invariant b st m → ((n : ℕ) → n < dataLines b → tagAt (st .store) n ≡ emptyTag) → MemoryIs b m st
   memory-is st inv zero =
       record {
         memory-length = inv .kept .memory-length;
-        memory-words = λ f o hf ho. inv .agrees f hf .current .in-memory o ho (λ c hc d. let z = zero (lineOf b c o) (lineOf-lt b reg c o hc ho) in omega arith);
+        memory-words = λ f o hf ho. inv .agrees f hf .current .in-memory o ho (λ c hc d. none f o ho c d (decLt c (b .colours)));
       }
+    where
+      none : (f o : ℕ) → o < b .page → (c : ℕ) → tagAt (st .store) (lineOf b c o) ≡ dirtyTag f → Dec (c < b .colours) → ⊥
+      none f o ho c d (yes h) = let z = zero (lineOf b c o) (lineOf-data b reg c o h ho) in omega arith
+      none f o ho c d (no h) = dirty-colour b reg (st .store) (inv .kept) c o f d (omega arith)
 
-  pub all-evicted : (st : State) → Invariant b st m → (ns : List ℕ) → Lines ns → ((n : ℕ) → n < lines b → Occurs n ns)
+  pub all-evicted : (st : State) → Invariant b st m → (ns : List ℕ) → Lines ns → ((n : ℕ) → n < dataLines b → Occurs n ns)
       → NoneRefused b st (evictions ns) × MemoryIs b m (stateAfter b st (evictions ns))
   all-evicted st inv ns h every =
       (none-are-refused st inv ns h, memory-is (stateAfter b st (evictions ns)) (invariant-after st inv ns h) (λ n l. empty-after st inv ns h n (inl (every n l))))

@@ -5,7 +5,7 @@ use mathlib.Core.Option.{Option, none, some}
 use Prim.Native.Nat.{ℕ, _*_, _<_}
 use lib.ListN.{length}
 use Rattle.board.specs.declared.Board.{Board}
-use Rattle.page_model.specs.Record.{stateOf, keepsRules}
+use Rattle.page_model.specs.Record.{keepsRules}
 use Rattle.mapping.specs.declared.Mapping.{Mapping}
 use Rattle.mapping.specs.Entry.{capacity}
 use Rattle.mapping.specs.Facts.{Rules}
@@ -16,6 +16,7 @@ use Rattle.machine.specs.State.{State, Single, single}
 use Rattle.machine.specs.Step.{accept}
 use Rattle.consistency.specs.Cacheless.{Cacheless, afterAccepted}
 use Rattle.consistency.specs.Demand3.{Finds}
+use Rattle.consistency.proofs.Pages.{pageStates}
 use Rattle.consistency.proofs.Agrees.{Agrees}
 
 -- the tables have their lengths and keep their rules
@@ -34,7 +35,7 @@ frameIn (some m) = some (m .frame)
 pub record Invariant (b : Board) (st : State) (m : Cacheless) : Type 0 where
   pub sound : Sound b (st .tables)
   pub kept : WellFormedStore b (st .store)
-  pub agrees : (f : ℕ) → f < b .frames → Agrees b f (stateOf (recordAt (st .tables .records) f)) (m .word f) (st .store)
+  pub agrees : (f : ℕ) → f < b .frames → Agrees b f (pageStates (b .colours) (recordAt (st .tables .records) f)) (m .word f) (st .store)
   pub frames-listed : (space page : ℕ) → m .frame space page ≡ frameIn (mappingOf (st .tables .list) space page)
 
 -- an accepted single call finds its words and keeps the invariant

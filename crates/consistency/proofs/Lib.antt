@@ -3,6 +3,7 @@ pub mod Agrees
 pub mod Invariant
 pub mod Weaker
 pub mod Table
+pub mod Pages
 pub mod Operate
 pub mod Cleared
 pub mod Operations

@@ -6,26 +6,24 @@ use Prim.Native.Nat.{ℕ, _<_}
 use Rattle.board.specs.declared.Board.{Board}
 use Rattle.board.specs.Board.{Regular}
 use Rattle.page_model.specs.declared.FrameRecord.{FrameRecord}
-use Rattle.page_model.specs.Record.{stateOf, keepsRules}
-use Rattle.page_model.specs.Step.{OpBelow, cellOf, stepped}
+use Rattle.page_model.specs.Record.{keepsRules}
+use Rattle.page_model.specs.Step.{OpBelow, stepped}
 use Rattle.page_model.specs.Table.{ColourState, Step}
 use Rattle.page_model.proofs.Theorems.{operations-below}
 use Rattle.manager.specs.Answers.{operationOn, accepted}
 use Rattle.cache.specs.Store.{Store, WellFormedStore}
 use Rattle.machine.specs.Step.{operate, carryOut}
+use Rattle.machine.proofs.StoreLaws.{operate-kept}
 use Rattle.consistency.proofs.Agrees.{Tagged, Agrees}
 use Rattle.consistency.proofs.Cleared.{first, second, bothCleared, after-weaker, spares-first, spares-second}
-use Rattle.consistency.proofs.Operate.{cleared, operate-kept, operate-other, operate-tagged, operate-agrees}
+use Rattle.consistency.proofs.Operate.{cleared, operate-other, operate-tagged, operate-agrees}
+use Rattle.consistency.proofs.Pages.{pageStates, pagesAfter}
 use Rattle.consistency.proofs.Table.{Spares}
 use Rattle.consistency.proofs.Weaker.{weaken, weaken-tagged}
 
 -- the store after the orders of a step of frame f, whose record is r
 abbrev pub ordered : Board → ℕ → Step → FrameRecord → Store → Store
 ordered b f step r s = carryOut b (accepted f (stepped (b .colours) step r .ops)) s
-
--- the states of a record after a step
-abbrev pub statesAfter : Step → FrameRecord → ℕ → ColourState
-statesAfter step r k = cellOf step r k .next
 
 module _ (b : Board) (reg : Regular b) (f : ℕ) (hf : f < b .frames) (s : Store) (wf : WellFormedStore b s) (step : Step) (r : FrameRecord)
     (rules : keepsRules (b .colours) r ≡ true) where
@@ -41,11 +39,11 @@ module _ (b : Board) (reg : Regular b) (f : ℕ) (hf : f < b .frames) (s : Store
 
   between-kept : WellFormedStore b between
   unfolding between
-  between-kept = operate-kept b reg f hf s wf (first (b .colours) step r) first-below
+  between-kept = operate-kept b reg f hf (first (b .colours) step r) first-below s wf
 
   pub ordered-kept : WellFormedStore b (ordered b f step r s)
   unfolding carryOut between
-  ordered-kept = operate-kept b reg f hf between between-kept (second (b .colours) step r) second-below
+  ordered-kept = operate-kept b reg f hf (second (b .colours) step r) second-below between between-kept
 
   pub ordered-other : (g : ℕ) (states : ℕ → ColourState) (words : ℕ → ℕ) → g ≢ f → Agrees b g states words s → Agrees b g states words (ordered b f step r s)
   unfolding carryOut between
@@ -53,18 +51,18 @@ module _ (b : Board) (reg : Regular b) (f : ℕ) (hf : f < b .frames) (s : Store
       operate-other b reg f hf between between-kept (second (b .colours) step r) second-below g states words ne
       (operate-other b reg f hf s wf (first (b .colours) step r) first-below g states words ne a)
 
-  pub ordered-tagged : Tagged b f (stateOf r) s → Tagged b f (statesAfter step r) (ordered b f step r s)
+  pub ordered-tagged : Tagged b f (pageStates (b .colours) r) s → Tagged b f (pagesAfter (b .colours) step r) (ordered b f step r s)
   unfolding carryOut between
   ordered-tagged t =
-      weaken-tagged b f (bothCleared (b .colours) step r) (statesAfter step r) (after-weaker (b .colours) step r rules) (ordered b f step r s)
-      (operate-tagged b reg f hf between between-kept (second (b .colours) step r) second-below (cleared (first (b .colours) step r) (stateOf r))
-      (operate-tagged b reg f hf s wf (first (b .colours) step r) first-below (stateOf r) t))
+      weaken-tagged b f (bothCleared (b .colours) step r) (pagesAfter (b .colours) step r) (after-weaker (b .colours) step r rules) (ordered b f step r s)
+      (operate-tagged b reg f hf between between-kept (second (b .colours) step r) second-below (cleared (b .colours) (first (b .colours) step r) (pageStates (b .colours) r))
+      (operate-tagged b reg f hf s wf (first (b .colours) step r) first-below (pageStates (b .colours) r) t))
 
-  pub ordered-agrees : (words : ℕ → ℕ) → Spares step → Agrees b f (stateOf r) words s → Agrees b f (statesAfter step r) words (ordered b f step r s)
+  pub ordered-agrees : (words : ℕ → ℕ) → Spares step → Agrees b f (pageStates (b .colours) r) words s → Agrees b f (pagesAfter (b .colours) step r) words (ordered b f step r s)
   unfolding carryOut between
   ordered-agrees words spares a =
-      weaken b f (bothCleared (b .colours) step r) (statesAfter step r) (after-weaker (b .colours) step r rules) (ordered b f step r s) words
-      (operate-agrees b reg f hf between between-kept (second (b .colours) step r) second-below (cleared (first (b .colours) step r) (stateOf r)) words
+      weaken b f (bothCleared (b .colours) step r) (pagesAfter (b .colours) step r) (after-weaker (b .colours) step r rules) (ordered b f step r s) words
+      (operate-agrees b reg f hf between between-kept (second (b .colours) step r) second-below (cleared (b .colours) (first (b .colours) step r) (pageStates (b .colours) r)) words
       (spares-second (b .colours) step r rules spares (second (b .colours) step r) refl)
-      (operate-agrees b reg f hf s wf (first (b .colours) step r) first-below (stateOf r) words
+      (operate-agrees b reg f hf s wf (first (b .colours) step r) first-below (pageStates (b .colours) r) words
       (spares-first (b .colours) step r rules spares (first (b .colours) step r) refl) a))

@@ -19,11 +19,11 @@ not-one e = let z : _≡_ {A = ℕ} 0 1 = cc in omega arith
 last-not-one : _≡_ {A = List ℕ} (0 ∷ 0 ∷ 0 ∷ 0 ∷ []) (0 ∷ 0 ∷ 0 ∷ 1 ∷ []) → ⊥
 last-not-one e = let z : _≡_ {A = ℕ} 0 1 = ap (λ (l : List ℕ). getD l 3 0) e in omega arith
 
--- the four lines
+-- the four data lines
 abbrev four : List ℕ
 four = 0 ∷ 1 ∷ 2 ∷ 3 ∷ []
 
-below : (n : ℕ) → Occurs n four → n < 4
+below : (n : ℕ) → Occurs n four → n < 8
 below n = ⊎-elim (λ e. omega arith) (⊎-elim (λ e. omega arith) (⊎-elim (λ e. omega arith) (⊎-elim (λ e. omega arith) (λ e. absurd e))))
 
 every : (n : ℕ) → n < 4 → Occurs n four
@@ -40,6 +40,7 @@ wrong-words =
       read-word = λ h. not-one (h .finds .1 .0 refl);
       page-read = λ h. last-not-one (h .finds .0 refl);
       word-taken = λ h. not-one (h .finds .1 .0 refl);
+      fetched-word = λ h. not-one (h .finds .1 .0 refl);
       unmapped-write = λ h. h .finds .0 refl;
       eviction-refused = λ h. true≢false (h .evicted four below every .0 .0);
       left-in-memory = λ h. let z : _≡_ {A = ℕ} 0 1 = h .evicted four below every .1 .memory-words 0 3 (omega arith) (omega arith) in omega arith;

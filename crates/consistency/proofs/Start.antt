@@ -6,7 +6,7 @@ use Prim.Native.Nat.{ℕ, _<_}
 use native.Mathlib.Omega.{arith}
 use lib.ListN.{length, getD, replicate, length-replicate, getD-replicate}
 use Rattle.board.specs.declared.Board.{Board}
-use Rattle.board.specs.Board.{Regular, memoryWords, cacheWords, lines, lineOf}
+use Rattle.board.specs.Board.{Regular, cachePages, memoryWords, cacheWords, lines, lineOf}
 use Rattle.board.proofs.Geometry.{lineOf-lt}
 use Rattle.page_model.specs.Record.{keepsRules}
 use Rattle.page_model.proofs.Theorems.{start-record}
@@ -15,7 +15,7 @@ use Rattle.mapping.proofs.Laws.{empty-length, empty-rules, mappingOf-empty}
 use Rattle.manager.proofs.RecordLaws.{length-startRecords, recordAt-start}
 use Rattle.cache.specs.Store.{store, WellFormedStore}
 use Rattle.cache.specs.Tag.{emptyTag, names}
-use Rattle.cache.proofs.Laws.Tag.{names-dirty, names-not-empty, rules-all, rules-empty}
+use Rattle.cache.proofs.Laws.Tag.{names-dirty, names-not-empty, rules-all, line-empty}
 use Rattle.consistency.specs.Cacheless.{startCacheless}
 use Rattle.consistency.specs.Demand3.{startState}
 use Rattle.consistency.proofs.Invariant.{frameIn, Invariant}
@@ -32,11 +32,11 @@ module _ (b : Board) (reg : Regular b) (memory words protections : List ℕ) (fu
         memory-length = full;
         words-length = wide;
         tags-length = length-replicate (lines b) 0;
-        tags-rules = rules-all b reg (replicate (lines b) 0) (λ k h. let e : length (replicate {A = ℕ} (lines b) 0) ≡ lines b = length-replicate (lines b) 0 in rw (tag-zero k (omega arith)) (rules-empty b reg));
+        tags-rules = rules-all b reg (replicate (lines b) 0) (λ k h. let e : length (replicate {A = ℕ} (lines b) 0) ≡ lines b = length-replicate (lines b) 0 in rw (tag-zero k (omega arith)) (line-empty b reg k));
       }
 
   -- so no line names a frame
-  unnamed : (f c o : ℕ) → c < b .colours → o < b .page → names (getD (replicate (lines b) 0) (lineOf b c o) 0) f ≡ true → ⊥
+  unnamed : (f c o : ℕ) → c < cachePages b → o < b .page → names (getD (replicate (lines b) 0) (lineOf b c o) 0) f ≡ true → ⊥
   unnamed f c o hc ho n = names-not-empty f (tag-zero (lineOf b c o) (lineOf-lt b reg c o hc ho)) n
 
   pub start-invariant : Invariant b (startState b memory words protections) (startCacheless b memory)

@@ -1,5 +1,5 @@
 -- What the tables' cells say of the states before and after a step: each law is computed at every cell of the step's row.
-use mathlib.Core.Path.{_≡_, refl, sym, subst⁻¹}
+use mathlib.Core.Path.{_≡_, refl, sym, ap, subst⁻¹}
 use mathlib.Core.Bool.{Bool, true, false, not, _&&_, _||_, false≢true}
 use mathlib.Core.Logic.{_≢_}
 use Prim.Native.Nat.{ℕ}
@@ -10,7 +10,7 @@ use Rattle.bits.proofs.Tautology.{and-left, and-right}
 use Rattle.page_model.specs.declared.FrameRecord.{FrameRecord}
 use Rattle.page_model.specs.Record.{stateOf, isHeld, isDirty}
 use Rattle.page_model.specs.Step.{isFlush, isPurge, cellOf}
-use Rattle.page_model.specs.Table.{ColourState, empty, present, dirty, stale, Operation, none, Cell, own, other, roleIf, Step, read, write, deviceRead, deviceWrite, deviceWritePart, beginRead, beginWrite, ownOf}
+use Rattle.page_model.specs.Table.{ColourState, empty, present, dirty, stale, Operation, none, Cell, own, other, roleIf, Step, read, write, deviceRead, deviceWrite, deviceWritePart, beginRead, beginWrite, fetch, ownOf}
 use Rattle.page_model.proofs.Cells.{rowOf, row-cell, each-state}
 use Rattle.consistency.proofs.Weaker.{weaker, is-dirty}
 
@@ -49,6 +49,7 @@ idle-cell deviceWrite = refl
 idle-cell deviceWritePart = refl
 idle-cell beginRead = refl
 idle-cell beginWrite = refl
+idle-cell (fetch c) = refl
 
 idle-from : {op : Operation} (w : Bool) → op ≡ none → (isFlush op || isPurge op || w) ≡ true → w ≡ true
 idle-from w e h = rw e at h
@@ -71,6 +72,10 @@ pub purge-clean : (step : Step) → Spares step → (r : FrameRecord) (k : ℕ) 
 purge-clean step e r k p = clean-from (cellOf step r k .operation) p (cell-law purgesClean step e r k)
 
 -- ---- states after a step
+
+-- an empty state is not dirty
+pub empty-clean : empty ≢ dirty
+empty-clean e = false≢true (ap isDirty e)
 
 not-dirty : {s : ColourState} (t : Bool) → t ≡ false → (t || not (isDirty s)) ≡ true → s ≢ dirty
 not-dirty t q h e = let z : false ≡ true = rw (q, e) at h in false≢true z
@@ -100,6 +105,10 @@ module _ (r : FrameRecord) (c : ℕ) where
 -- after a device's read no colour is dirty
 pub device-read-clean : (r : FrameRecord) (k : ℕ) → cellOf deviceRead r k .next ≢ dirty
 device-read-clean r k = not-dirty false refl (cell-law (λ o s cell. not (isDirty (cell .next))) deviceRead refl r k)
+
+-- and after a fetch
+pub fetch-clean : (r : FrameRecord) (c k : ℕ) → cellOf (fetch c) r k .next ≢ dirty
+fetch-clean r c k = not-dirty false refl (cell-law (λ o s cell. not (isDirty (cell .next))) (fetch c) refl r k)
 
 -- after a step none is present or dirty; `refl` shows it of a device's writes, of a page and of a part
 abbrev leavesNone : Law

@@ -15,7 +15,7 @@ use Rattle.manager.specs.Tables.{tabulate}
 use Rattle.manager.proofs.Laws.{getD-tabulate}
 use Rattle.machine.specs.Call.{mapOf, afterItems, itemAnswer, callCauses, perform}
 use Rattle.machine.specs.Refusals.{causes}
-use Rattle.machine.specs.State.{State, Single, map, unmap, read, write, deviceRead, deviceWrite, deviceWritePart, evict, beginRead, beginWrite, bringWord, takeWord, endTransfer, Call, single, mapAll, Result}
+use Rattle.machine.specs.State.{State, Single, map, unmap, read, write, deviceRead, deviceWrite, deviceWritePart, evict, beginRead, beginWrite, bringWord, takeWord, endTransfer, fetch, Call, single, mapAll, Result}
 use Rattle.machine.specs.Step.{accept, step}
 use Rattle.machine.proofs.CallLaws.{perform-cases, accept-accepted, refused-number}
 use Rattle.consistency.specs.Cacheless.{Cacheless, startCacheless, afterSingle, itemsTaken, isRefused, fed}
@@ -24,7 +24,7 @@ use Rattle.consistency.proofs.Device.{device-read-taken, device-write-t
 use Rattle.consistency.proofs.Evict.{evict-taken}
 use Rattle.consistency.proofs.Invariant.{Invariant, Taken}
 use Rattle.consistency.proofs.Map.{map-taken, unmap-taken}
-use Rattle.consistency.proofs.Processor.{read-taken, write-taken}
+use Rattle.consistency.proofs.Processor.{read-taken, write-taken, fetch-taken}
 use Rattle.consistency.proofs.Begun.{begin-read-taken, begin-write-taken, bring-word-taken, take-word-taken, end-transfer-taken}
 use Rattle.consistency.proofs.Start.{start-invariant}
 use Rattle.consistency.proofs.Evicted.{all-evicted}
@@ -46,6 +46,7 @@ module _ (b : Board) (reg : Regular b) where
   taken st m inv (bringWord frame offset word) = bring-word-taken b reg st m inv frame offset word
   taken st m inv (takeWord frame offset) = take-word-taken b reg st m inv frame offset
   taken st m inv (endTransfer frame) = end-transfer-taken b reg st m inv frame
+  taken st m inv (fetch space page offset) = fetch-taken b reg st m inv space page offset
 
   -- an accepted call finds its words, and every call keeps the invariant
   abbrev Serves : Cacheless → Call → Result → Type 0

@@ -6,7 +6,7 @@ use Prim.Native.Nat.{ℕ, _<_}
 use lib.Dec.{eqb}
 use borrow.Author.Tests.{eqb-true}
 use Rattle.board.specs.declared.Board.{Board}
-use Rattle.board.specs.Board.{lineOf}
+use Rattle.board.specs.Board.{cachePages, lineOf}
 use Rattle.page_model.specs.Record.{isHeld, isDirty, isStale}
 use Rattle.page_model.specs.Table.{ColourState, empty, present, dirty, stale}
 use Rattle.cache.specs.Store.{Store, tagAt}
@@ -54,7 +54,7 @@ weaker-held present z w ne h = refl
 weaker-held dirty z w ne h = refl
 weaker-held stale z w ne h = absurd (true≢false (sym h ∙ stale-held z w))
 
-module _ (b : Board) (f : ℕ) (states after : ℕ → ColourState) (says : (k : ℕ) → k < b .colours → weaker (states k) (after k) ≡ true) (s : Store) where
+module _ (b : Board) (f : ℕ) (states after : ℕ → ColourState) (says : (k : ℕ) → k < cachePages b → weaker (states k) (after k) ≡ true) (s : Store) where
   pub weaken-tagged : Tagged b f states s → Tagged b f after s
   weaken-tagged t =
       record {

@@ -7,7 +7,7 @@ use native.Mathlib.Omega.{arith}
 use native.Mathlib.Decide.{ℕ-discrete}
 use borrow.Author.Tests.{eq-eqb, ne-eqb}
 use Rattle.board.specs.declared.Board.{Board}
-use Rattle.board.specs.Board.{Regular, lineOf}
+use Rattle.board.specs.Board.{Regular, cachePages, lineOf}
 use Rattle.page_model.specs.Record.{isHeld}
 use Rattle.page_model.specs.Table.{ColourState, empty, dirty}
 use Rattle.cache.specs.Store.{Store, WellFormedStore, tagAt, wordAt}
@@ -20,7 +20,7 @@ use Rattle.cache.proofs.Current.Write.{write-current-other, write-current-same}
 use Rattle.consistency.proofs.Agrees.{Agrees, untouched-agrees}
 use Rattle.consistency.proofs.Access.{same-colour, access-words}
 
-module _ (b : Board) (reg : Regular b) (f c o : ℕ) (hf : f < b .frames) (hc : c < b .colours) (ho : o < b .page) (s : Store) (wf : WellFormedStore b s) (v : ℕ) where
+module _ (b : Board) (reg : Regular b) (f c o : ℕ) (hf : f < b .frames) (hc : c < cachePages b) (ho : o < b .page) (s : Store) (wf : WellFormedStore b s) (v : ℕ) where
   -- ---- another frame
 
   module _ (g : ℕ) (hg : g < b .frames) (ne : g ≢ f) where
@@ -41,8 +41,8 @@ module _ (b : Board) (reg : Regular b) (f c o : ℕ) (hf : f < b .frames) (hc : 
   -- ---- its own frame, through a dirty colour beside which none is present or dirty
 
   module _ (states : ℕ → ColourState) (words : ℕ → ℕ) (a : Agrees b f states words s) (own : states c ≡ dirty)
-      (alone : (d : ℕ) → d < b .colours → isHeld (states d) ≡ true → d ≡ c) where
-    others-clean : (d : ℕ) → d < b .colours → d ≢ c → states d ≢ dirty
+      (alone : (d : ℕ) → d < cachePages b → isHeld (states d) ≡ true → d ≡ c) where
+    others-clean : (d : ℕ) → d < cachePages b → d ≢ c → states d ≢ dirty
     others-clean d hd ne e = ne (alone d hd (ap isHeld e))
 
     line-words : (p : ℕ) → p < b .page → lineOf b c p ≡ lineOf b c o → wordAt b (access b f c o s) c p ≡ words p
@@ -51,11 +51,11 @@ module _ (b : Board) (reg : Regular b) (f c o : ℕ) (hf : f < b .frames) (hc : 
     tag-from : (n : ℕ) → n ≢ lineOf b c o → names (tagAt (writeWord b f c o v s) n) f ≡ true → names (tagAt s n) f ≡ true
     tag-from n ne named = sym (ap (λ (x : ℕ). names x f) (writeWord-tag-other b reg f c o hf hc ho s wf v n ne)) ∙ named
 
-    occupied-after : (d p : ℕ) → d < b .colours → p < b .page → names (tagAt (writeWord b f c o v s) (lineOf b d p)) f ≡ true → Dec (lineOf b d p ≡ lineOf b c o) → states d ≢ empty
+    occupied-after : (d p : ℕ) → d < cachePages b → p < b .page → names (tagAt (writeWord b f c o v s) (lineOf b d p)) f ≡ true → Dec (lineOf b d p ≡ lineOf b c o) → states d ≢ empty
     occupied-after d p hd hp n (yes e) = λ q. let z = sym own ∙ ap states (sym (same-colour b reg d p c o hp ho e)) ∙ q in let y : _≡_ {A = ℕ} 0 1 = cc in omega arith
     occupied-after d p hd hp n (no ne) = a .tagged .occupied d p hd hp (tag-from (lineOf b d p) ne n)
 
-    dirty-after : (d p : ℕ) → d < b .colours → p < b .page → tagAt (writeWord b f c o v s) (lineOf b d p) ≡ dirtyTag f → Dec (lineOf b d p ≡ lineOf b c o) → states d ≡ dirty
+    dirty-after : (d p : ℕ) → d < cachePages b → p < b .page → tagAt (writeWord b f c o v s) (lineOf b d p) ≡ dirtyTag f → Dec (lineOf b d p ≡ lineOf b c o) → states d ≡ dirty
     dirty-after d p hd hp t (yes e) = ap states (same-colour b reg d p c o hp ho e) ∙ own
     dirty-after d p hd hp t (no ne) = a .tagged .dirty-colour d p hd hp (sym (writeWord-tag-other b reg f c o hf hc ho s wf v (lineOf b d p) ne) ∙ t)
 
@@ -67,7 +67,7 @@ module _ (b : Board) (reg : Regular b) (f c o : ℕ) (hf : f < b .frames) (hc : 
     word-after p hp n (no ne) (no apart) =
         writeWord-word-other b reg f c o hf hc ho s wf v c p apart ∙ a .held-words c p hc hp (tag-from (lineOf b c p) apart n) (ap isHeld own) ∙ sym (rw (ne-eqb p o ne))
 
-    words-after : (d p : ℕ) → d < b .colours → p < b .page → names (tagAt (writeWord b f c o v s) (lineOf b d p)) f ≡ true → d ≡ c → wordAt b (writeWord b f c o v s) d p ≡ written o v words p
+    words-after : (d p : ℕ) → d < cachePages b → p < b .page → names (tagAt (writeWord b f c o v s) (lineOf b d p)) f ≡ true → d ≡ c → wordAt b (writeWord b f c o v s) d p ≡ written o v words p
     words-after d p hd hp n q =
         ap (λ (x : ℕ). wordAt b (writeWord b f c o v s) x p) q
         ∙ word-after p hp (ap (λ (x : ℕ). names (tagAt (writeWord b f c o v s) (lineOf b x p)) f) (sym q) ∙ n) (ℕ-discrete p o) (ℕ-discrete (lineOf b c p) (lineOf b c o))

@@ -13,7 +13,7 @@ use Rattle.mapping.specs.declared.Mapping.{Mapping}
 use Rattle.manager.specs.Answers.{isRefusal}
 use Rattle.manager.specs.Batch.{itemAt}
 use Rattle.machine.specs.Call.{mapOf}
-use Rattle.machine.specs.State.{Single, map, unmap, read, write, deviceRead, deviceWrite, deviceWritePart, evict, beginRead, beginWrite, bringWord, takeWord, endTransfer, Call, single, mapAll, Answer}
+use Rattle.machine.specs.State.{Single, map, unmap, read, write, deviceRead, deviceWrite, deviceWritePart, evict, beginRead, beginWrite, bringWord, takeWord, endTransfer, fetch, Call, single, mapAll, Answer}
 
 -- a word for each frame and offset, and for each space and page a frame or none
 pub record Cacheless : Type 0 where
@@ -47,7 +47,7 @@ pub data Use : Type 0 where
   noUse : Use
   -- space and page, and the frame that it gets, or none
   setsFrame : ℕ → ℕ → Option ℕ → Use
-  -- a program's, through a page of a space: offset; the word that it writes
+  -- a program's, through a page of a space: offset, of a read or of a fetch (request N8); the word that it writes
   loads : ℕ → ℕ → ℕ → Use
   stores : ℕ → ℕ → ℕ → ℕ → Use
   -- a device's, of a frame: all words read; words sent from an offset on; the word at an offset taken, and brought
@@ -70,6 +70,7 @@ useOf (beginWrite frame) = noUse
 useOf (bringWord frame offset word) = bringsWord frame offset word
 useOf (takeWord frame offset) = takesWord frame offset
 useOf (endTransfer frame) = noUse
+useOf (fetch space page offset) = loads space page offset
 
 abbrev pub afterUse : Cacheless → Use → Cacheless
 afterUse m noUse = m

@@ -1,5 +1,5 @@
--- Demand 3: over any list of calls from the start, every accepted read finds what memory without a cache would give, and once every line
--- has been evicted memory equals that memory word for word. Proved of every regular board. A list of mappings among the calls counts as its
+-- Demand 3: over any list of calls from the start, every accepted read and fetch finds what memory without a cache would give, and once every line of the
+-- data cache has been evicted, instruction lines allowed among them, memory equals that memory word for word. Proved of every regular board. A list of mappings among the calls counts as its
 -- items in order, each by whether that item was refused (`itemsTaken` in `Cacheless`).
 use mathlib.Core.Bool.{false}
 use mathlib.Core.List.{List, [], _∷_}
@@ -9,7 +9,7 @@ use mathlib.Core.Path.{_≡_}
 use Prim.Native.Nat.{ℕ, _<_}
 use lib.ListN.{length, replicate}
 use Rattle.board.specs.declared.Board.{Board}
-use Rattle.board.specs.Board.{memoryWords, cacheWords, lines}
+use Rattle.board.specs.Board.{memoryWords, cacheWords, dataLines, lines}
 use Rattle.mapping.specs.Change.{empty}
 use Rattle.mapping.specs.Entry.{capacity}
 use Rattle.manager.specs.Tables.{tables, tabulate, startRecords}
@@ -24,7 +24,7 @@ abbrev pub startState : Board → List ℕ → List ℕ → List ℕ → State
 startState b memory words protections =
     state (tables empty (startRecords (b .frames) (b .colours)) protections) (store memory words (replicate (lines b) 0))
 
--- ---- what an accepted read must find, a device's too, of a page or of a word; and an accepted write: a frame to write to
+-- ---- what an accepted read or fetch must find, a device's read too, of a page or of a word; and an accepted write: a frame to write to
 
 -- the word at an offset of the page's frame
 abbrev pub pageWord : Cacheless → Option ℕ → ℕ → Option ℕ
@@ -51,7 +51,7 @@ Finds b m (mapAll items answers) a = Unit {0}
 
 -- ---- a list of calls, with the cacheless memory beside it
 
--- every accepted read of the list finds its words
+-- every accepted read and fetch of the list finds its words
 abbrev pub AllFind : Board → State → Cacheless → List Call → Type 0
 AllFind b st m [] = Unit {0}
 AllFind b st m (call ∷ calls) =
@@ -92,7 +92,7 @@ pub record MemoryIs (b : Board) (m : Cacheless) (st : State) : Type 0 where
 pub record Holds (b : Board) (st : State) (m : Cacheless) (calls : List Call) : Type 0 where
   pub finds : AllFind b st m calls
   pub evicted :
-      (ns : List ℕ) → ((n : ℕ) → Occurs n ns → n < lines b) → ((n : ℕ) → n < lines b → Occurs n ns)
+      (ns : List ℕ) → ((n : ℕ) → Occurs n ns → n < lines b) → ((n : ℕ) → n < dataLines b → Occurs n ns)
       → NoneRefused b (stateAfter b st calls) (evictions ns)
       × MemoryIs b (cachelessAfter b st m calls) (stateAfter b (stateAfter b st calls) (evictions ns))
 

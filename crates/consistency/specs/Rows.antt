@@ -6,21 +6,21 @@ use lib.ListN.{replicate}
 use Rattle.board.specs.declared.Board.{Board}
 use Rattle.mapping.specs.Entry.{capacity}
 use Rattle.cache.specs.Store.{store}
-use Rattle.machine.specs.State.{State, state, map, read, write, deviceRead, deviceWrite, beginRead, takeWord, endTransfer, Call, single}
+use Rattle.machine.specs.State.{State, state, map, read, write, deviceRead, deviceWrite, beginRead, takeWord, endTransfer, fetch, Call, single}
 use Rattle.consistency.specs.Cacheless.{Cacheless, startCacheless}
 use Rattle.consistency.specs.Demand3.{startState, stateAfter, Holds}
 
--- one frame of four words, and a cache of four lines in two colours
+-- one frame of four words, and two caches of four lines in two colours
 abbrev pub small : Board
 small = record { page = 4; line = 2; colours = 2; frames = 1 }
 
 -- the start with 0 in every word of memory
 abbrev pub atStart : State
-atStart = startState small (0 ∷ 0 ∷ 0 ∷ 0 ∷ []) (replicate 8 0) (replicate capacity 0)
+atStart = startState small (0 ∷ 0 ∷ 0 ∷ 0 ∷ []) (replicate 16 0) (replicate capacity 0)
 
 -- the same with a tag that breaks the rules
 abbrev pub broken : State
-broken = state (atStart .tables) (store (0 ∷ 0 ∷ 0 ∷ 0 ∷ []) (replicate 8 0) (9 ∷ 0 ∷ 0 ∷ 0 ∷ []))
+broken = state (atStart .tables) (store (0 ∷ 0 ∷ 0 ∷ 0 ∷ []) (replicate 16 0) (9 ∷ replicate 7 0))
 
 -- a cacheless memory that starts with 0 everywhere, and one with 1 at the last offset
 abbrev pub same : Cacheless
@@ -41,6 +41,8 @@ pub record WrongWords : Type 0 where
   pub read-word : NotHolds atStart another (single (map 0 0 0 1) ∷ single (read 0 0 3) ∷ over ∷ [])
   pub page-read : NotHolds atStart another (single (deviceRead 0 (replicate 4 0)) ∷ over ∷ [])
   pub word-taken : NotHolds atStart another (single (beginRead 0) ∷ single (takeWord 0 3) ∷ single (endTransfer 0) ∷ over ∷ [])
+  -- an instruction fetched
+  pub fetched-word : NotHolds atStart another (single (map 0 0 0 3) ∷ single (fetch 0 0 3) ∷ over ∷ [])
   -- a write through a page that the cacheless memory was not told of
   pub unmapped-write : NotHolds (stateAfter small atStart (single (map 0 0 0 2) ∷ [])) same (single (write 0 0 3 5) ∷ over ∷ [])
   -- no call, and an eviction that is refused

@@ -9,20 +9,20 @@ use borrow.Author.Tests.{not-false, leb-false}
 use lib.ListN.{length, getD}
 use Rattle.bits.proofs.Tautology.{and-left}
 use Rattle.board.specs.declared.Board.{Board}
-use Rattle.board.specs.Board.{Regular, colourOf}
-use Rattle.board.proofs.Geometry.{colourOf-lt}
+use Rattle.board.specs.Board.{Regular, colourOf, instructionPage}
+use Rattle.board.proofs.Geometry.{colourOf-lt, data-page, instruction-page}
 use Rattle.page_model.specs.declared.FrameRecord.{FrameRecord}
-use Rattle.page_model.specs.Record.{stateOf, encode, freed}
-use Rattle.page_model.specs.Step.{cellOf, recordAfter, stepped}
+use Rattle.page_model.specs.Record.{stateOf, instructionStateOf, encode, freed}
+use Rattle.page_model.specs.Step.{cellOf, instructionCellOf, recordAfter, stepped}
 use Rattle.page_model.specs.Table as table
 use Rattle.page_model.specs.Theorems.{Idle}
-use Rattle.page_model.proofs.Theorems.{few-operations, state-after}
+use Rattle.page_model.proofs.Theorems.{few-operations, state-after, instruction-state-after}
 use Rattle.mapping.specs.declared.MappingList.{MappingList}
-use Rattle.mapping.specs.Entry.{capacity, readWrite, mappingAt}
+use Rattle.mapping.specs.Entry.{capacity, isRights, readWrite, readFetch, mappingAt}
 use Rattle.manager.specs.Answers.{accepted}
 use Rattle.manager.specs.Calls.{noOps}
-use Rattle.manager.specs.Refusals.{firstRefusal, isRight}
-use Rattle.manager.specs.Tables.{Tables, tables, recordAt, putRecord, lengthsRight, rulesKept, protectionAt, tabulate, refill}
+use Rattle.manager.specs.Refusals.{firstRefusal}
+use Rattle.manager.specs.Tables.{Tables, tables, recordAt, putRecord, lengthsRight, rulesKept, protectionAt, dataPart, tabulate, refill}
 use Rattle.manager.specs.Theorems.{WellFormedTables}
 use Rattle.manager.proofs.AcceptedLaws.{lengths-known, records-rules}
 use Rattle.manager.proofs.CauseLaws.{list-rules, record-rules}
@@ -30,19 +30,20 @@ use Rattle.manager.proofs.KeepsRules.{refill-keeps, step-keeps, end-keeps, map-
 use Rattle.manager.proofs.Laws.{getD-tabulate}
 use Rattle.manager.proofs.ProtectionBuffer.{refill-filled}
 use Rattle.manager.proofs.RecordLaws.{recordAt-putRecord-same, recordAt-putRecord-other}
-use Rattle.manager.proofs.Theorems.{read-protection, write-protection}
+use Rattle.manager.proofs.Theorems.{read-protection, write-protection, fetch-protection}
 use Rattle.cache.specs.Store as hardware
 use Rattle.cache.proofs.Laws.Access.{access-kept, writeWord-kept}
 use Rattle.cache.proofs.Laws.Device.{deviceWrite-kept, bringWord-kept}
 use Rattle.cache.proofs.Laws.Evict.{evict-kept}
 use Rattle.machine.specs.Refusals.{storeLengths, lentCauses, ownCauses, bufferRight, causes}
-use Rattle.machine.specs.State.{State, state, Single, map, unmap, read, write, deviceRead, deviceWrite, deviceWritePart, evict, beginRead, beginWrite, bringWord, takeWord, endTransfer}
+use Rattle.machine.specs.State.{State, state, Single, map, unmap, read, write, deviceRead, deviceWrite, deviceWritePart, evict, beginRead, beginWrite, bringWord, takeWord, endTransfer, fetch}
 use Rattle.machine.specs.Parts.{Effect, steps, ends, nothing, effectOf, outcomeOf, recordsAfter, listAfter, accessed, accessOf}
 use Rattle.machine.specs.Step.{operate, carryOut, tablesLeft, accept, step}
 use Rattle.machine.proofs.StepLaws.{cleared, lengths-clear, store-clear, tables-clear, buffer-length, Tested, effect-tested, part-ready, evict-ready, step-accepted}
 use Rattle.consistency.proofs.Map.{map-clear}
 use Rattle.consistency.proofs.Operations.{ordered-kept}
 use Rattle.demands.specs.Demands.{ByTable, ByEnd, Modelled, Left}
+use Rattle.demands.proofs.Instructions.{instruction-cache-after}
 
 module _ (b : Board) (st : State) (call : Single) (e : firstRefusal (causes b st call) ≡ 0) where
   -- an accepted call was lent tables of their lengths that keep the rules
@@ -85,6 +86,7 @@ module _ (b : Board) (st : State) where
       go (bringWord frame offset word) e w = w
       go (takeWord frame offset) e w = w
       go (endTransfer frame) e w = w
+      go (fetch space page offset) e w = w
 
 -- ---- memory and cache
 
@@ -108,11 +110,11 @@ module _ (b : Board) (reg : Regular b) (st : State) where
       go (map space page frame rights) e s w = w
       go (unmap space page) e s w = w
       go (read space page offset) e s w =
-          access-kept b reg _ (colourOf b page) offset (effect-tested b st (read space page offset) e .0) (colourOf-lt b reg page)
+          access-kept b reg _ (colourOf b page) offset (effect-tested b st (read space page offset) e .0) (data-page b reg _ (colourOf-lt b reg page))
           (leb-false (b .page) offset (cleared b st (read space page offset) 6 e)) s w
       go (write space page offset word) e s w =
-          writeWord-kept b reg _ (colourOf b page) offset (effect-tested b st (write space page offset word) e .0) (colourOf-lt b reg page)
-          (leb-false (b .page) offset (cleared b st (write space page offset word) 6 e)) s w word
+          writeWord-kept b reg _ (colourOf b page) offset (effect-tested b st (write space page offset word) e .0) (data-page b reg _ (colourOf-lt b reg page))
+          (leb-false (b .page) offset (cleared b st (write space page offset word) 6 e)) s w (colourOf-lt b reg page) word
       go (deviceRead frame buffer) e s w = w
       go (deviceWrite frame buffer) e s w =
           let long = buffer-length b st (deviceWrite frame buffer) buffer (b .page) refl e in
@@ -130,6 +132,9 @@ module _ (b : Board) (reg : Regular b) (st : State) where
           bringWord-kept b reg frame (leb-false (b .frames) frame (cleared b st call 4 e)) s w offset word (leb-false (b .page) offset (cleared b st call 6 e))
       go (takeWord frame offset) e s w = w
       go (endTransfer frame) e s w = w
+      go (fetch space page offset) e s w =
+          access-kept b reg _ (instructionPage b (colourOf b page)) offset (effect-tested b st (fetch space page offset) e .0) (instruction-page b reg _ (colourOf-lt b reg page))
+          (leb-false (b .page) offset (cleared b st (fetch space page offset) 6 e)) s w
 
 -- ---- orders and states
 
@@ -138,7 +143,7 @@ module _ (b : Board) (t : Tables) (w : WellFormedTables b t) (f : ℕ) (h : f < 
   pub stepped-by : (s : table.Step)
       → let change = stepped (b .colours) s (recordAt (t .records) f) in
       ByTable b t (refill b (tables list (putRecord (t .records) f (change .next)) (t .protections))) (accepted f (change .ops)) f s
-  unfolding refill cellOf recordAfter encode
+  unfolding refill cellOf instructionCellOf recordAfter encode
   stepped-by s =
       let change = stepped (b .colours) s (recordAt (t .records) f) in
       let kept = record-rules b t (w .1) f h in
@@ -147,6 +152,7 @@ module _ (b : Board) (t : Tables) (w : WellFormedTables b t) (f : ℕ) (h : f < 
         few = few-operations (b .colours) s (recordAt (t .records) f) kept .0;
         ordered = refl;
         states = λ k hk. ap (λ (r : FrameRecord). stateOf r k) (recordAt-putRecord-same (t .records) f (change .next) (omega arith)) ∙ state-after (b .colours) s (recordAt (t .records) f) kept k hk;
+        instructions = λ k hk. ap (λ (r : FrameRecord). instructionStateOf r k) (recordAt-putRecord-same (t .records) f (change .next) (omega arith)) ∙ instruction-state-after (b .colours) s (recordAt (t .records) f) kept k hk;
         mark = ap (λ (r : FrameRecord). r .busy) (recordAt-putRecord-same (t .records) f (change .next) (omega arith));
         others = λ g ne. recordAt-putRecord-other (t .records) f (change .next) g ne;
       }
@@ -237,12 +243,16 @@ module _ (b : Board) (reg : Regular b) (st : State) (call : Single) (e : firstRe
         modelled = modelled-after b st call e;
         list-left = listed-after b st call;
         made = made-after b st call;
+        instruction-cache = instruction-cache-after b reg st call e (effect-ordered b reg st (tables-lent b st call e) (store-clear b st call e) (effectOf b st call) (effect-tested b st call e));
         protections = agree;
         unread = λ ps same. unread-after b st ps same call e;
         read-passes = λ i h.
-            subst⁻¹ (λ (p : ℕ). (1 ≤ p) ↔ ((isRight (mappingAt (t .list) i .rights) ≡ true) × Idle (b .colours) (table.read (colourOf b (mappingAt (t .list) i .page))) (recordAt (t .records) (mappingAt (t .list) i .frame))))
+            subst⁻¹ (λ (p : ℕ). (1 ≤ dataPart p) ↔ ((isRights (mappingAt (t .list) i .rights) ≡ true) × Idle (b .colours) (table.read (colourOf b (mappingAt (t .list) i .page))) (recordAt (t .records) (mappingAt (t .list) i .frame))))
             (byte-at b t w agree i h) (read-protection b t i reg w h);
         write-passes = λ i h.
-            subst⁻¹ (λ (p : ℕ). (2 ≤ p) ↔ ((mappingAt (t .list) i .rights ≡ readWrite) × Idle (b .colours) (table.write (colourOf b (mappingAt (t .list) i .page))) (recordAt (t .records) (mappingAt (t .list) i .frame))))
+            subst⁻¹ (λ (p : ℕ). (2 ≤ dataPart p) ↔ ((mappingAt (t .list) i .rights ≡ readWrite) × Idle (b .colours) (table.write (colourOf b (mappingAt (t .list) i .page))) (recordAt (t .records) (mappingAt (t .list) i .frame))))
             (byte-at b t w agree i h) (write-protection b t i reg w h);
+        fetch-passes = λ i h.
+            subst⁻¹ (λ (p : ℕ). (4 ≤ p) ↔ ((mappingAt (t .list) i .rights ≡ readFetch) × Idle (b .colours) (table.fetch (colourOf b (mappingAt (t .list) i .page))) (recordAt (t .records) (mappingAt (t .list) i .frame))))
+            (byte-at b t w agree i h) (fetch-protection b t i reg w h);
       }

@@ -13,12 +13,12 @@ use Rattle.page_model.specs.Table as table
 use Rattle.mapping.specs.Lookup.{lookup, placeOf, placeFor}
 use Rattle.manager.specs.Answers.{refused}
 use Rattle.manager.specs.Calls.{Result, callResult, changeOf, writeStep, planned, placed, stepResult, listResult, commitMap, commitUnmap, plainResult, endedTables}
-use Rattle.manager.specs.Refusals.{Cause, firstRefusal, placeIn, refusalPlace, inOrder, offsetCause, tableCauses, mapCauses, pageCauses, readCauses, writeCauses, transferCauses, partCauses, wordCauses, endCauses}
+use Rattle.manager.specs.Refusals.{Cause, firstRefusal, placeIn, refusalPlace, inOrder, offsetCause, tableCauses, mapCauses, pageCauses, readCauses, writeCauses, fetchCauses, transferCauses, partCauses, wordCauses, endCauses}
 use Rattle.manager.specs.Tables.{refill}
 use Rattle.cache.specs.Store.{WellFormedStore}
 use Rattle.machine.specs.Scaffold.Plans.{storeCauses, earlier}
 use Rattle.machine.specs.Refusals.{bufferRight, ownCauses, causes}
-use Rattle.machine.specs.State.{State, pageFrame, Single, map, unmap, read, write, deviceRead, deviceWrite, deviceWritePart, evict, beginRead, beginWrite, bringWord, takeWord, endTransfer, single}
+use Rattle.machine.specs.State.{State, pageFrame, Single, map, unmap, read, write, deviceRead, deviceWrite, deviceWritePart, evict, beginRead, beginWrite, bringWord, takeWord, endTransfer, fetch, single}
 use Rattle.machine.specs.State as state-of
 use Rattle.machine.specs.Step.{accept}
 use Rattle.machine.proofs.MergeLaws.{ownPlace, merge, causes-merged}
@@ -54,7 +54,7 @@ abbrev stepping : Board → State → ℕ → table.Step → ℕ → Result
 stepping b st frame s n = stepResult b (st .tables) (planned n (changeOf b (st .tables) frame s))
 
 pub single-agrees : (b : Board) (st : State) (call : Single) → WellFormedStore b (st .store) → ManagerCall b st (single call)
-unfolding accept ownCauses inOrder refusalPlace placeIn firstRefusal mapCauses pageCauses readCauses writeCauses transferCauses partCauses wordCauses endCauses
+unfolding accept ownCauses inOrder refusalPlace placeIn firstRefusal mapCauses pageCauses readCauses writeCauses fetchCauses transferCauses partCauses wordCauses endCauses
 single-agrees b st (map space page frame rights) wf =
     agrees b st (map space page frame rights)
     (λ n. listResult (st .tables) (λ place. commitMap b (st .tables) place (record { space = space; page = page; frame = frame; rights = rights })) (placed n (placeFor (st .tables .list) space page)))
@@ -93,3 +93,6 @@ single-agrees b st (takeWord frame offset) wf =
 single-agrees b st (endTransfer frame) wf =
     agrees b st (endTransfer frame) (λ n. plainResult n (st .tables) (endedTables b (st .tables) frame)) refl (λ n. refl) _
     (managers-first b st (endTransfer frame) wf refl [] (endCauses b (st .tables) frame) refl refl refl refl refl)
+single-agrees b st (fetch space page offset) wf = λ h.
+    agrees b st (fetch space page offset) (stepping b st (pageFrame st space page) (table.fetch (colourOf b page))) refl (λ n. refl) _
+    (managers-first b st (fetch space page offset) wf refl (offsetCause (b .page) offset ∷ []) (fetchCauses b (st .tables) space page) refl refl refl (offset-clear b offset h) refl)

@@ -12,8 +12,10 @@ left-protected b st call after a left =
       agree = left .protections;
       idle-read-passes = λ i h. left .read-passes i h .1;
       idle-write-passes = λ i h. left .write-passes i h .1;
+      idle-fetch-passes = λ i h. left .fetch-passes i h .1;
       read-is-idle = λ i h. left .read-passes i h .0;
       write-is-idle = λ i h. left .write-passes i h .0;
+      fetch-is-idle = λ i h. left .fetch-passes i h .0;
     }
 
 call-protected : (b : Board) (st : State) (call : Call) (after : State) (a : Answer) → CallLeft b st call after a → Changes call a → Protected b (after .tables)

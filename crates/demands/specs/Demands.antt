@@ -7,26 +7,29 @@ use mathlib.Core.Path.{_≡_}
 use Prim.Native.Nat.{ℕ, suc, _≤_, _<_}
 use lib.ListN.{length, getD}
 use Rattle.board.specs.declared.Board.{Board}
-use Rattle.board.specs.Board.{Regular, board01, colourOf}
+use Rattle.board.specs.Board.{Regular, board01, dataLines, lines, colourOf, instructionPage, lineOf, lineColour}
 use Rattle.page_model.specs.Busy.{markAfter}
-use Rattle.page_model.specs.Record.{stateOf, freed}
+use Rattle.page_model.specs.Instructions.{instructionCellAt}
+use Rattle.page_model.specs.Record.{stateOf, instructionStateOf, freed}
 use Rattle.page_model.specs.Step.{operations, firstTwo}
 use Rattle.page_model.specs.Table as table
 use Rattle.page_model.specs.Table.{cellAt}
 use Rattle.page_model.specs.Theorems.{Idle}
 use Rattle.mapping.specs.declared.Mapping.{Mapping}
-use Rattle.mapping.specs.Entry.{capacity, readWrite, mappingAt}
+use Rattle.mapping.specs.Entry.{capacity, isRights, readWrite, readFetch, mappingAt}
 use Rattle.manager.specs.Answers.{Outcome, refused, accepted}
 use Rattle.manager.specs.Batch.{itemAt}
 use Rattle.manager.specs.Calls.{noOps}
-use Rattle.manager.specs.Refusals.{Cause, isRight}
-use Rattle.manager.specs.Tables.{Tables, tables, recordAt, protectionAt, tabulate}
+use Rattle.manager.specs.Refusals.{Cause}
+use Rattle.manager.specs.Tables.{Tables, tables, recordAt, protectionAt, dataPart, tabulate}
 use Rattle.manager.specs.Theorems.{First, WellFormedTables}
 use Rattle.cache.specs.Cache as hardware
 use Rattle.cache.specs.Store as hardware-store
+use Rattle.cache.specs.Store.{tagAt, wordAt}
+use Rattle.cache.specs.Tag.{emptyTag, cleanTag, names}
 use Rattle.machine.specs.Call.{mapOf, callCauses, callBuffer, perform}
 use Rattle.machine.specs.Refusals.{causes}
-use Rattle.machine.specs.State.{State, state, Single, Call, single, mapAll, Answer}
+use Rattle.machine.specs.State.{State, pageFrame, state, Single, evict, fetch, Call, single, mapAll, Answer}
 use Rattle.machine.specs.Parts.{Effect, steps, ends, nothing, effectOf, listAfter, accessed, accessOf}
 use Rattle.machine.specs.Step.{answer, result, carryOut, step}
 use Rattle.consistency.specs.Cacheless.{isRefused}
@@ -55,12 +58,16 @@ Demand1 b = (st : State) (call : Call) → NoCause b st call ⊎ ((n : ℕ) × F
 -- ---- 2. Orders, page states and protections are those of the page model; list, memory, cache words and tags after each call are what the
 -- board's rules leave. An access passes without a stop exactly if its right allows it and the model would order nothing and alter nothing.
 
--- the orders are the table's, in order and on this frame; each of its colours is in the state of its cell, its mark is the step's, and other
--- frames are as they were (its dirty colour is then the one that is dirty, since the tables keep their rules: `DirtyColour`)
+-- the orders are the tables', in order and on this frame; each of its colours is in the state of its cell, for its words and for instructions, its
+-- mark is the step's, and other frames are as they were (its dirty colour is then the one that is dirty, since the tables keep their rules:
+-- `DirtyColour`)
 pub record ByTable (b : Board) (before after : Tables) (o : Outcome) (f : ℕ) (s : table.Step) : Type 0 where
   pub few : length (operations (b .colours) s (recordAt (before .records) f)) ≤ 2
   pub ordered : o ≡ accepted f (firstTwo (operations (b .colours) s (recordAt (before .records) f)))
   pub states : (k : ℕ) → k < b .colours → stateOf (recordAt (after .records) f) k ≡ cellAt s k (stateOf (recordAt (before .records) f) k) .next
+  pub instructions :
+      (k : ℕ) → k < b .colours
+      → instructionStateOf (recordAt (after .records) f) k ≡ instructionCellAt s k (instructionStateOf (recordAt (before .records) f) k) .next
   pub mark : recordAt (after .records) f .busy ≡ markAfter s (recordAt (before .records) f .busy)
   pub others : (g : ℕ) → g ≢ f → recordAt (after .records) g ≡ recordAt (before .records) g
 
@@ -76,6 +83,32 @@ Modelled b before after o (steps f s) = ByTable b before after o f s
 Modelled b before after o (ends f) = ByEnd before after o f
 Modelled b before after o nothing = (o ≡ accepted 0 noOps) × (after .records ≡ before .records)
 
+-- The instruction cache (request N8). No call but a fetch and a line's own eviction changes a line of it; an eviction only empties the line, and
+-- writes nothing to memory. A fetch's orders empty at most the lines there of its frame and colour, and its access changes nothing but its own line,
+-- which then is its frame's.
+pub record InstructionCache (b : Board) (st : State) (call : Single) (after : State) (o : Outcome) : Type 0 where
+  pub tags-left :
+      ((space page offset : ℕ) → call ≢ fetch space page offset)
+      → (n : ℕ) → dataLines b ≤ n → call ≢ evict n → tagAt (after .store) n ≡ tagAt (st .store) n
+  pub words-left :
+      ((space page offset : ℕ) → call ≢ fetch space page offset)
+      → (c p : ℕ) → wordAt b (after .store) (instructionPage b c) p ≡ wordAt b (st .store) (instructionPage b c) p
+  pub evicted : (n : ℕ) → dataLines b ≤ n → call ≡ evict n → (tagAt (after .store) n ≡ emptyTag) × (after .store .memory ≡ st .store .memory)
+  pub purged :
+      (space page offset : ℕ) → call ≡ fetch space page offset
+      → (n : ℕ) → dataLines b ≤ n → n < lines b
+      → let s = carryOut b o (st .store) in
+      (tagAt s n ≡ tagAt (st .store) n)
+      ⊎ ((lineColour b n ≡ instructionPage b (colourOf b page)) × (names (tagAt (st .store) n) (pageFrame st space page) ≡ true) × (tagAt s n ≡ emptyTag))
+  pub fetched :
+      (space page offset : ℕ) → call ≡ fetch space page offset
+      → let s = carryOut b o (st .store) in
+      let line = lineOf b (instructionPage b (colourOf b page)) offset in
+      (after .store .memory ≡ s .memory)
+      × ((n : ℕ) → n ≢ line → tagAt (after .store) n ≡ tagAt s n)
+      × ((c p : ℕ) → lineOf b c p ≢ line → wordAt b (after .store) c p ≡ wordAt b s c p)
+      × (tagAt (after .store) line ≡ cleanTag (pageFrame st space page))
+
 -- what an accepted single call leaves, and answers
 pub record Left (b : Board) (st : State) (call : Single) (after : State) (a : Answer) : Type 0 where
   pub tables-kept : WellFormedTables b (after .tables)
@@ -83,6 +116,7 @@ pub record Left (b : Board) (st : State) (call : Single) (after : State) (a : An
   pub modelled : Modelled b (st .tables) (after .tables) (a .outcome) (effectOf b st call)
   pub list-left : after .tables .list ≡ listAfter (st .tables .list) call
   pub made : accessed (a .word) (a .buffer) (after .store) ≡ accessOf b st call (carryOut b (a .outcome) (st .store))
+  pub instruction-cache : InstructionCache b st call after (a .outcome)
   -- the whole buffer of protections is what list and records give, whatever it held before
   pub protections : after .tables .protections ≡ tabulate capacity (protectionAt b (after .tables .list) (after .tables .records))
   pub unread :
@@ -92,13 +126,18 @@ pub record Left (b : Board) (st : State) (call : Single) (after : State) (a : An
   pub read-passes :
       (i : ℕ) → i < after .tables .list .count
       → let m = mappingAt (after .tables .list) i in
-      (1 ≤ getD (after .tables .protections) i 0)
-      ↔ ((isRight (m .rights) ≡ true) × Idle (b .colours) (table.read (colourOf b (m .page))) (recordAt (after .tables .records) (m .frame)))
+      (1 ≤ dataPart (getD (after .tables .protections) i 0))
+      ↔ ((isRights (m .rights) ≡ true) × Idle (b .colours) (table.read (colourOf b (m .page))) (recordAt (after .tables .records) (m .frame)))
   pub write-passes :
       (i : ℕ) → i < after .tables .list .count
       → let m = mappingAt (after .tables .list) i in
-      (2 ≤ getD (after .tables .protections) i 0)
+      (2 ≤ dataPart (getD (after .tables .protections) i 0))
       ↔ ((m .rights ≡ readWrite) × Idle (b .colours) (table.write (colourOf b (m .page))) (recordAt (after .tables .records) (m .frame)))
+  pub fetch-passes :
+      (i : ℕ) → i < after .tables .list .count
+      → let m = mappingAt (after .tables .list) i in
+      (4 ≤ getD (after .tables .protections) i 0)
+      ↔ ((m .rights ≡ readFetch) × Idle (b .colours) (table.fetch (colourOf b (m .page))) (recordAt (after .tables .records) (m .frame)))
 
 -- no order, no word
 abbrev pub mapped : List ℕ → Answer
@@ -131,8 +170,8 @@ abbrev pub Demand2 : Board → Type 0
 Demand2 b =
     (st : State) (call : Call) → isRefused (perform b st call .answer) ≡ false → CallLeft b st call (perform b st call .after) (perform b st call .answer)
 
--- ---- 3. Over any list of calls from the start, every accepted read finds what memory without a cache would give, and once every line has
--- been evicted memory equals that memory word for word: `Demand3`. A look at the position, which is no call of the machine, joins demands 1 and 3
+-- ---- 3. Over any list of calls from the start, every accepted read and fetch finds what memory without a cache would give, and once every line of the data
+-- cache has been evicted, instruction lines allowed among them, memory equals that memory word for word: `Demand3`. A look at the position, which is no call of the machine, joins demands 1 and 3
 -- in the crate `position_hold`: `LookRefusals` in its specs/Refusals, and `Demand3` over lists of calls and looks in its specs/Demand3.
 
 -- ---- all three, of every regular board, and so of document 01's

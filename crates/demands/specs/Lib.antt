@@ -2,3 +2,4 @@
 pub mod Demands
 pub mod Manager
 pub mod Protected
+pub mod Lines

@@ -8,11 +8,11 @@ use Rattle.board.specs.declared.Board.{Board}
 use Rattle.mapping.specs.declared.Mapping.{Mapping}
 use Rattle.mapping.specs.Batch.{batchOf, itemsOf}
 use Rattle.manager.specs.Batch.{BatchResult, batchResult, mapAllCall}
-use Rattle.manager.specs.Calls.{Result, callResult, mapCall, unmapCall, readCall, writeCall, deviceReadCall, deviceWriteCall, deviceWritePartCall, beginReadCall, beginWriteCall, bringWordCall, takeWordCall, endTransferCall}
+use Rattle.manager.specs.Calls.{Result, callResult, mapCall, unmapCall, readCall, writeCall, fetchCall, deviceReadCall, deviceWriteCall, deviceWritePartCall, beginReadCall, beginWriteCall, bringWordCall, takeWordCall, endTransferCall}
 use Rattle.manager.specs.Tables.{Tables}
 use Rattle.cache.specs.Store.{WellFormedStore}
 use Rattle.machine.specs.Call.{perform}
-use Rattle.machine.specs.State.{State, Single, map, unmap, read, write, deviceRead, deviceWrite, deviceWritePart, evict, beginRead, beginWrite, bringWord, takeWord, endTransfer, Call, single, mapAll}
+use Rattle.machine.specs.State.{State, Single, map, unmap, read, write, deviceRead, deviceWrite, deviceWritePart, evict, beginRead, beginWrite, bringWord, takeWord, endTransfer, fetch, Call, single, mapAll}
 use Rattle.machine.specs.Step.{step}
 
 abbrev pub Agrees : Board → State → Single → Result → Type 0
@@ -39,6 +39,7 @@ ManagerCall b st (single (beginWrite frame)) = Agrees b st (beginWrite frame) (b
 ManagerCall b st (single (bringWord frame offset word)) = Agrees b st (bringWord frame offset word) (bringWordCall b (st .tables) frame offset)
 ManagerCall b st (single (takeWord frame offset)) = Agrees b st (takeWord frame offset) (takeWordCall b (st .tables) frame offset)
 ManagerCall b st (single (endTransfer frame)) = Agrees b st (endTransfer frame) (endTransferCall b (st .tables) frame)
+ManagerCall b st (single (fetch space page offset)) = offset < b .page → Agrees b st (fetch space page offset) (fetchCall b (st .tables) space page)
 ManagerCall b st (mapAll items answers) = BatchAgrees b st (mapAll items answers) (mapAllCall b (st .tables) items answers)
 
 abbrev pub ManagerAgrees : Board → Type 0

@@ -8,9 +8,8 @@ use Rattle.board.specs.declared.Board.{Board}
 use Rattle.board.specs.Board.{colourOf}
 use Rattle.page_model.specs.Table as table
 use Rattle.page_model.specs.Theorems.{Idle}
-use Rattle.mapping.specs.Entry.{capacity, readWrite, mappingAt}
-use Rattle.manager.specs.Refusals.{isRight}
-use Rattle.manager.specs.Tables.{Tables, recordAt, protectionAt, tabulate}
+use Rattle.mapping.specs.Entry.{capacity, isRights, readWrite, readFetch, mappingAt}
+use Rattle.manager.specs.Tables.{Tables, recordAt, protectionAt, dataPart, tabulate}
 use Rattle.manager.specs.Theorems.{WellFormedTables}
 use Rattle.machine.specs.Call.{perform}
 use Rattle.machine.specs.State.{State, Call, single, mapAll, Answer}
@@ -20,21 +19,27 @@ use Rattle.demands.specs.Demands.{Demand2}
 -- a mapping's rights allow an access, and the page model would order nothing for it and alter nothing
 abbrev pub ReadIdle : Board → Tables → ℕ → Type 0
 ReadIdle b t i =
-    let m = mappingAt (t .list) i in (isRight (m .rights) ≡ true) × Idle (b .colours) (table.read (colourOf b (m .page))) (recordAt (t .records) (m .frame))
+    let m = mappingAt (t .list) i in (isRights (m .rights) ≡ true) × Idle (b .colours) (table.read (colourOf b (m .page))) (recordAt (t .records) (m .frame))
 
 abbrev pub WriteIdle : Board → Tables → ℕ → Type 0
 WriteIdle b t i =
     let m = mappingAt (t .list) i in (m .rights ≡ readWrite) × Idle (b .colours) (table.write (colourOf b (m .page))) (recordAt (t .records) (m .frame))
 
+abbrev pub FetchIdle : Board → Tables → ℕ → Type 0
+FetchIdle b t i =
+    let m = mappingAt (t .list) i in (m .rights ≡ readFetch) × Idle (b .colours) (table.fetch (colourOf b (m .page))) (recordAt (t .records) (m .frame))
+
 pub record Protected (b : Board) (t : Tables) : Type 0 where
   pub rules-kept : WellFormedTables b t
   pub agree : t .protections ≡ tabulate capacity (protectionAt b (t .list) (t .records))
   -- no access that may pass is stopped
-  pub idle-read-passes : (i : ℕ) → i < t .list .count → ReadIdle b t i → 1 ≤ getD (t .protections) i 0
-  pub idle-write-passes : (i : ℕ) → i < t .list .count → WriteIdle b t i → 2 ≤ getD (t .protections) i 0
+  pub idle-read-passes : (i : ℕ) → i < t .list .count → ReadIdle b t i → 1 ≤ dataPart (getD (t .protections) i 0)
+  pub idle-write-passes : (i : ℕ) → i < t .list .count → WriteIdle b t i → 2 ≤ dataPart (getD (t .protections) i 0)
+  pub idle-fetch-passes : (i : ℕ) → i < t .list .count → FetchIdle b t i → 4 ≤ getD (t .protections) i 0
   -- and none passes that may not
-  pub read-is-idle : (i : ℕ) → i < t .list .count → 1 ≤ getD (t .protections) i 0 → ReadIdle b t i
-  pub write-is-idle : (i : ℕ) → i < t .list .count → 2 ≤ getD (t .protections) i 0 → WriteIdle b t i
+  pub read-is-idle : (i : ℕ) → i < t .list .count → 1 ≤ dataPart (getD (t .protections) i 0) → ReadIdle b t i
+  pub write-is-idle : (i : ℕ) → i < t .list .count → 2 ≤ dataPart (getD (t .protections) i 0) → WriteIdle b t i
+  pub fetch-is-idle : (i : ℕ) → i < t .list .count → 4 ≤ getD (t .protections) i 0 → FetchIdle b t i
 
 -- an accepted list of mappings of which no item was accepted leaves the protections as they were, whatever they were
 abbrev pub Changes : Call → Answer → Type 0

@@ -21,10 +21,10 @@ pageTwoMapped = record { items = record { space = 0; page = 2; frame = 5; rights
 -- frame 5 has colour 2 held, the page may be read, and line 16 names the frame
 abbrev known : State
 known =
-    machineOf pageTwoMapped (startRecords 5 8 ++ (4 ∷ 0 ∷ 0 ∷ 0 ∷ 8 ∷ startRecords 58 8)) (1 ∷ replicate 255 0)
+    machineOf pageTwoMapped (startRecords 5 8 ++ (4 ∷ 0 ∷ 0 ∷ 0 ∷ 8 ∷ 0 ∷ 0 ∷ startRecords 58 8)) (1 ∷ replicate 255 0)
     (replicate 4096 0)
-    (replicate 512 0)
-    (replicate 16 0 ++ (6 ∷ replicate 47 0))
+    (replicate 1024 0)
+    (replicate 16 0 ++ (6 ∷ replicate 111 0))
 
 first-leaves : readOnce ≡ known
 unfolding opened

@@ -1,6 +1,6 @@
 -- Case 4, lists of 255 and of 256 mappings, and one that a list of mappings fills. That they stand in order is shown and not computed.
 use mathlib.Core.Bool.{true, _&&_}
-use mathlib.Core.Logic.{inl, inr, ⊎-elim}
+use mathlib.Core.Logic.{inr, ⊎-elim}
 use mathlib.Core.Path.{_≡_, refl, sym, ap, subst⁻¹, _∙_}
 use mathlib.Core.List.{[], _∷_}
 use Prim.Native.Nat.{ℕ, zero, suc, _<_, _≤_}
@@ -64,7 +64,7 @@ module _ (n : ℕ) (room : n ≤ capacity) where
   pages-rules =
       record {
         count-le = room;
-        in-range = λ i h. subst⁻¹ (λ (m : Mapping). InRange board01 m) (listed-at i h) (record { space-lt = omega arith; page-lt = omega arith; frame-lt = omega arith; rights-of = inl refl });
+        in-range = λ i h. subst⁻¹ (λ (m : Mapping). InRange board01 m) (listed-at i h) (record { space-lt = omega arith; page-lt = omega arith; frame-lt = omega arith; rights-of = (omega arith, omega arith) });
         ordered = λ i j h k. before-cong₂ (sym (listed-at i (omega arith))) (sym (listed-at j k)) (inr (refl, h));
         rest-zero = rest-at;
       }

@@ -92,6 +92,9 @@ takeWord frame offset = single (machine.takeWord frame offset)
 abbrev pub endTransfer : ℕ → Call
 endTransfer frame = single (machine.endTransfer frame)
 
+abbrev pub fetch : ℕ → ℕ → ℕ → Call
+fetch space page offset = single (machine.fetch space page offset)
+
 -- so many answers as they are lent, of a number that is no answer
 abbrev pub unanswered : ℕ → List ℕ
 unanswered n = replicate n 99
@@ -121,7 +124,7 @@ done = accepts 0 noOps none
 abbrev pub written : ℕ → Answer
 written frame = accepts frame noOps none
 
--- a read on a frame, with no order, and its word
+-- a read or a fetch on a frame, with no order, and its word
 abbrev pub finds : ℕ → ℕ → Answer
 finds frame word = accepts frame noOps (some word)
 
@@ -187,14 +190,26 @@ pagesMapped n = record { items = mappingsBy capacity (itemAt n); count = n }
 abbrev pub listing : ℕ → State
 listing n = withList (pagesMapped n) fresh
 
--- the start with these words as the record of frame 0: held and stale masks, flag, busy mark and dirty colour
-abbrev pub recorded : ℕ → ℕ → ℕ → ℕ → ℕ → State
-recorded held stale dirty busy colour =
-    withRecords (held ∷ (stale ∷ (dirty ∷ (busy ∷ (colour ∷ startRecords 63 8))))) fresh
+-- the start with these words as the record of frame 0: held and stale masks, flag, busy mark, dirty colour, and of the instruction colours held and
+-- stale; with none of these
+abbrev pub recordedBoth : ℕ → ℕ → ℕ → ℕ → ℕ → ℕ → ℕ → State
+recordedBoth held stale dirty busy colour fetched outdated =
+    withRecords (held ∷ stale ∷ dirty ∷ busy ∷ colour ∷ fetched ∷ outdated ∷ startRecords 63 8) fresh
 
--- the first line of the cache with this tag, and word 77 in it
+abbrev pub recorded : ℕ → ℕ → ℕ → ℕ → ℕ → State
+recorded held stale dirty busy colour = recordedBoth held stale dirty busy colour 0 0
+
+-- a line with this tag
+abbrev pub lineTagged : ℕ → ℕ → State
+lineTagged line tag = withCache (fresh .store .words) (set (fresh .store .tags) line tag) fresh
+
+-- the first line of the data cache with this tag, and word 77 in it
 abbrev pub tagged : ℕ → State
 tagged tag = withCache (set (fresh .store .words) 0 77) (set (fresh .store .tags) 0 tag) fresh
+
+-- the first line of the instruction cache with this tag, and word 77 in it
+abbrev pub instructionTagged : ℕ → State
+instructionTagged tag = withCache (set (fresh .store .words) 512 77) (set (fresh .store .tags) 64 tag) fresh
 
 -- a page mapped, and a word of it read
 abbrev pub readOnce : State
@@ -207,6 +222,14 @@ wroteOnce = after fresh (map 0 0 3 2 ∷ write 0 0 0 17 ∷ [])
 -- page 2 mapped to frame 5, and its last word written
 abbrev pub wroteLast : State
 wroteLast = after fresh (map 0 2 5 2 ∷ write 0 2 63 42 ∷ [])
+
+-- frame 5 mapped twice: page 2 to read and write, page 10, of the same colour, to read and fetch
+abbrev pub overlay : State
+overlay = after fresh (map 0 2 5 2 ∷ map 0 10 5 3 ∷ [])
+
+-- and an instruction of it fetched
+abbrev pub fetchedOnce : State
+fetchedOnce = after overlay (fetch 0 10 3 ∷ [])
 
 -- a device has begun to read frame 5, or to write it
 abbrev pub deviceReads : State

@@ -1,9 +1,11 @@
--- Document 01, "The page model": both tables, request N3's row and request N6's two, cell by cell in their order, as rows. Each speaks of the
--- cases by number that the contract of `page_model::table::case_at` names, and so of the code too.
+-- Document 01, "The page model": both tables, request N3's row, request N6's two and request N8's, and N8's table of the instruction colours, cell by
+-- cell in their order, as rows. Each speaks of the cases by number that the contracts of `page_model::table::case_at` and `instruction_case_at` name,
+-- and so of the code too.
 use mathlib.Core.Bool.{Bool, true, false}
 use mathlib.Core.List.{List, [], _∷_, _++_}
 use Prim.Native.Nat.{ℕ}
-use Rattle.page_model.specs.Cases.{stateNumber, operationNumber, caseAt}
+use Rattle.page_model.specs.Cases.{stateNumber, operationNumber, caseAt, instructionNumber, instructionCaseAt}
+use Rattle.page_model.specs.Instructions.{InstructionState, unfetched, fetched, outdated, InstructionCell, _⇛_}
 use Rattle.page_model.specs.Table.{ColourState, empty, present, dirty, stale, none, flush, purge, Cell, _⇒_}
 use Rattle.edges.specs.Rows.{numbers, Row, _gives_}
 
@@ -29,6 +31,9 @@ beginRead = 5
 
 abbrev pub beginWrite : ℕ
 beginWrite = 6
+
+abbrev pub fetch : ℕ
+fetch = 7
 
 -- ---- rows
 
@@ -96,4 +101,67 @@ cells =
     ∷ atEvery beginWrite present (none ⇒ stale)
     ∷ atEvery beginWrite dirty (flush ⇒ empty)
     ∷ atEvery beginWrite stale (none ⇒ stale)
+    -- fetch
+    ∷ atEvery fetch empty (none ⇒ empty)
+    ∷ atEvery fetch present (none ⇒ present)
+    ∷ atEvery fetch dirty (flush ⇒ empty)
+    ∷ atEvery fetch stale (none ⇒ stale)
+    ∷ []
+
+-- ---- the instruction colours
+
+abbrev pub instructionNumbers : ℕ → Bool → InstructionState → List ℕ
+instructionNumbers step own state = instructionCaseAt step own (instructionNumber state) .0 ∷ instructionCaseAt step own (instructionNumber state) .1 ∷ []
+
+abbrev pub instructionCellNumbers : InstructionCell → List ℕ
+instructionCellNumbers cell = operationNumber (cell .operation) ∷ instructionNumber (cell .next) ∷ []
+
+abbrev pub ownInstructions : ℕ → InstructionState → InstructionCell → Row
+ownInstructions step state cell = numbers (instructionNumbers step true state) gives numbers (instructionCellNumbers cell)
+
+abbrev pub otherInstructions : ℕ → InstructionState → InstructionCell → Row
+otherInstructions step state cell = numbers (instructionNumbers step false state) gives numbers (instructionCellNumbers cell)
+
+abbrev pub everyInstructions : ℕ → InstructionState → InstructionCell → Row
+everyInstructions step state cell =
+    numbers (instructionNumbers step true state ++ instructionNumbers step false state)
+    gives numbers (instructionCellNumbers cell ++ instructionCellNumbers cell)
+
+abbrev pub instructionCells : List Row
+instructionCells =
+    -- processor read
+    everyInstructions read unfetched (none ⇛ unfetched)
+    ∷ everyInstructions read fetched (none ⇛ fetched)
+    ∷ everyInstructions read outdated (none ⇛ outdated)
+    -- processor write
+    ∷ everyInstructions write unfetched (none ⇛ unfetched)
+    ∷ everyInstructions write fetched (none ⇛ outdated)
+    ∷ everyInstructions write outdated (none ⇛ outdated)
+    -- device read (memory to device)
+    ∷ everyInstructions deviceRead unfetched (none ⇛ unfetched)
+    ∷ everyInstructions deviceRead fetched (none ⇛ fetched)
+    ∷ everyInstructions deviceRead outdated (none ⇛ outdated)
+    -- device write (device to memory)
+    ∷ everyInstructions deviceWrite unfetched (none ⇛ unfetched)
+    ∷ everyInstructions deviceWrite fetched (none ⇛ outdated)
+    ∷ everyInstructions deviceWrite outdated (none ⇛ outdated)
+    -- part transfer
+    ∷ everyInstructions deviceWritePart unfetched (none ⇛ unfetched)
+    ∷ everyInstructions deviceWritePart fetched (none ⇛ outdated)
+    ∷ everyInstructions deviceWritePart outdated (none ⇛ outdated)
+    -- begin read
+    ∷ everyInstructions beginRead unfetched (none ⇛ unfetched)
+    ∷ everyInstructions beginRead fetched (none ⇛ fetched)
+    ∷ everyInstructions beginRead outdated (none ⇛ outdated)
+    -- begin write
+    ∷ everyInstructions beginWrite unfetched (none ⇛ unfetched)
+    ∷ everyInstructions beginWrite fetched (none ⇛ outdated)
+    ∷ everyInstructions beginWrite outdated (none ⇛ outdated)
+    -- fetch
+    ∷ ownInstructions fetch unfetched (none ⇛ fetched)
+    ∷ ownInstructions fetch fetched (none ⇛ fetched)
+    ∷ ownInstructions fetch outdated (purge ⇛ fetched)
+    ∷ otherInstructions fetch unfetched (none ⇛ unfetched)
+    ∷ otherInstructions fetch fetched (none ⇛ fetched)
+    ∷ otherInstructions fetch outdated (none ⇛ outdated)
     ∷ []

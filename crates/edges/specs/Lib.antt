@@ -7,5 +7,6 @@ pub mod Lists
 pub mod Order
 pub mod Transfers
 pub mod DirtyColours
+pub mod Fetches
 pub mod Cells
 pub mod Table

@@ -41,7 +41,7 @@ double = mapThese (mapping 0 10 5 1 ∷ mapping 0 10 6 2 ∷ mapping 0 1 5 2 ∷
 -- an item for each cause that lies in a mapping's numbers, and one at their limits
 abbrev pub numbered : Call
 numbered =
-    mapThese (mapping 16 0 0 1 ∷ mapping 0 1024 0 1 ∷ mapping 0 0 64 1 ∷ mapping 0 0 0 0 ∷ mapping 0 0 0 3 ∷ mapping 15 1023 63 2 ∷ [])
+    mapThese (mapping 16 0 0 1 ∷ mapping 0 1024 0 1 ∷ mapping 0 0 64 1 ∷ mapping 0 0 0 0 ∷ mapping 0 0 0 4 ∷ mapping 15 1023 63 3 ∷ [])
 
 -- page 1 mapped, with protections that no call has filled
 abbrev pub onePage : State
@@ -64,7 +64,7 @@ abbrev pub shortProtections : State
 shortProtections = holding [] (replicate 255 9)
 
 abbrev pub shortTags : State
-shortTags = withCache (replicate 512 0) (replicate 63 0) fresh
+shortTags = withCache (replicate 1024 0) (replicate 127 0) fresh
 
 -- ---- the rows
 
@@ -84,7 +84,7 @@ lists =
     ∷ (leaves (after wroteLast (double ∷ [])) gives listedWith (mapping 0 1 5 2 ∷ mapping 0 2 5 2 ∷ mapping 0 10 5 1 ∷ []) (0 ∷ 2 ∷ 1 ∷ []))
     -- each item by its own cause
     ∷ (answers (ask fresh (numbered ∷ [])) gives answers (each (3 ∷ 3 ∷ 4 ∷ 5 ∷ 5 ∷ 0 ∷ []) ∷ []))
-    ∷ (leaves (after fresh (numbered ∷ [])) gives listedWith (mapping 15 1023 63 2 ∷ []) (0 ∷ []))
+    ∷ (leaves (after fresh (numbered ∷ [])) gives listedWith (mapping 15 1023 63 3 ∷ []) (0 ∷ []))
     -- no item, or none accepted: the protections stay as they were lent; with one accepted all are filled
     ∷ (answers (ask onePage (mapThese [] ∷ noneTaken ∷ [])) gives answers (each [] ∷ each (7 ∷ 3 ∷ []) ∷ []))
     ∷ (leaves (after onePage (mapThese [] ∷ noneTaken ∷ [])) gives tables (listOf (mapping 0 1 5 1 ∷ [])) unfilled)

@@ -6,7 +6,7 @@ use lib.ListN.{replicate}
 use Rattle.manager.specs.Answers.{refused}
 use Rattle.machine.specs.State.{State, Call, Answer}
 use Rattle.machine.specs.Step.{answer}
-use Rattle.edges.specs.Calls.{after, ask, map, unmap, read, write, deviceRead, deviceWrite, evict, beginRead, beginWrite, bringWord, takeWord, endTransfer, mapThese, refuses, each, done, fresh, wroteLast, sevens, mapping, holding, unfilled, leaves, listedWith}
+use Rattle.edges.specs.Calls.{after, ask, map, unmap, read, write, deviceRead, deviceWrite, evict, beginRead, beginWrite, bringWord, takeWord, endTransfer, fetch, mapThese, refuses, each, done, fresh, wroteLast, sevens, mapping, holding, unfilled, leaves, listedWith}
 use Rattle.edges.specs.Rows.{answers, Row, _gives_}
 
 -- page 2 of spaces 0 and 1, both of frame 5, whose colour 2 is dirty: the one to read and write, the other to read
@@ -16,13 +16,13 @@ twoSpaces = after wroteLast (map 1 2 5 1 ∷ [])
 -- each call
 abbrev pub everyCall : List Call
 everyCall =
-    map 0 3 5 1 ∷ unmap 0 9 ∷ read 0 9 0 ∷ write 0 9 0 7 ∷ deviceRead 5 (replicate 64 7) ∷ deviceWrite 5 (replicate 64 7) ∷ sevens 0 12 ∷ evict 0
+    map 0 3 5 1 ∷ unmap 0 9 ∷ read 0 9 0 ∷ write 0 9 0 7 ∷ fetch 0 9 0 ∷ deviceRead 5 (replicate 64 7) ∷ deviceWrite 5 (replicate 64 7) ∷ sevens 0 12 ∷ evict 0
     ∷ beginRead 5 ∷ beginWrite 5 ∷ bringWord 5 0 7 ∷ takeWord 5 0 ∷ endTransfer 5 ∷ mapThese (mapping 0 3 5 1 ∷ []) ∷ []
 
 -- 2 for each, and for the item of the list
 abbrev pub everyRefusal : List Answer
 everyRefusal =
-    refuses 2 ∷ refuses 2 ∷ refuses 2 ∷ refuses 2 ∷ answer (refused 2) none (replicate 64 7) ∷ refuses 2 ∷ refuses 2 ∷ refuses 2
+    refuses 2 ∷ refuses 2 ∷ refuses 2 ∷ refuses 2 ∷ refuses 2 ∷ answer (refused 2) none (replicate 64 7) ∷ refuses 2 ∷ refuses 2 ∷ refuses 2
     ∷ refuses 2 ∷ refuses 2 ∷ refuses 2 ∷ refuses 2 ∷ refuses 2 ∷ each (2 ∷ []) ∷ []
 
 abbrev pub order : List Row

@@ -1,4 +1,4 @@
--- The sheets of the table: document 01's with its text, one of a single step, and a transfer that takes a while.
+-- The sheets of the table: document 01's with its text, one of a single step, a transfer that takes a while, and an overlay.
 use mathlib.Core.List.{List, [], _∷_, _++_}
 use Prim.Native.Nat.{ℕ}
 
@@ -93,3 +93,32 @@ cardText =
     ++ plainLine 53 45
     -- end 0 0
     ++ 101 ∷ 110 ∷ 100 ∷ 32 ∷ 48 ∷ 32 ∷ 48 ∷ 10 ∷ []
+
+-- ---- a sheet of request N8's kind
+
+-- page 0 of space 0 mapped to frame 3, to read and write, and page 8 of it, of the same colour, to read and fetch: a fetch, a write of 9, and a fetch
+abbrev pub overlaySheet : List ℕ
+overlaySheet =
+    2 ∷ 0
+    ∷ 0 ∷ 0 ∷ 0 ∷ 3 ∷ 2
+    ∷ 0 ∷ 8 ∷ 0 ∷ 3 ∷ 3
+    ∷ 3 ∷ 0
+    ∷ 13 ∷ 0 ∷ 8 ∷ 0 ∷ 0 ∷ 0 ∷ 0 ∷ 0 ∷ 0
+    ∷ 2 ∷ 0 ∷ 0 ∷ 0 ∷ 0 ∷ 9 ∷ 0 ∷ 0 ∷ 0
+    ∷ 13 ∷ 0 ∷ 8 ∷ 0 ∷ 0 ∷ 0 ∷ 0 ∷ 0 ∷ 0
+    ∷ []
+
+abbrev pub overlayText : List ℕ
+overlayText =
+    -- m0 0
+    (109 ∷ 48 ∷ 32 ∷ 48 ∷ 10 ∷ [])
+    -- m1 0
+    ++ (109 ∷ 49 ∷ 32 ∷ 48 ∷ 10 ∷ [])
+    -- 0 0 - - 0
+    ++ plainLine 48 48
+    -- 1 0 - - -
+    ++ plainLine 49 45
+    -- 2 0 F3.0 I3.0 9
+    ++ (50 ∷ 32 ∷ 48 ∷ 32 ∷ 70 ∷ 51 ∷ 46 ∷ 48 ∷ 32 ∷ 73 ∷ 51 ∷ 46 ∷ 48 ∷ 32 ∷ 57 ∷ 10 ∷ [])
+    -- end 1 1
+    ++ 101 ∷ 110 ∷ 100 ∷ 32 ∷ 49 ∷ 32 ∷ 49 ∷ 10 ∷ []

@@ -1,12 +1,12 @@
 -- Document 01, "At the edges" and the sheet of "The run sheet", with spaces, flags and tags at their limits, and at theirs the lists of mappings
--- of request N1, the order of N2, the parts of N3, the transfers of N6 and the dirty colours of N7; a sheet of each kind of step and every cell
--- of the page model. Each row is a case and what it must give, and every row holds.
+-- of request N1, the order of N2, the parts of N3, the transfers of N6, the dirty colours of N7 and the fetches of N8; a sheet of each kind of
+-- step and every cell of the page model. Each row is a case and what it must give, and every row holds.
 use mathlib.Core.List.{List, [], _∷_, _++_}
 use mathlib.Core.Option.{none}
 use Prim.Native.Nat.{_+_, _*_}
 use lib.ListN.{replicate, getD}
 use Rattle.bits.specs.Mask.{digit}
-use Rattle.board.specs.Board.{board01, lineOf}
+use Rattle.board.specs.Board.{board01, instructionPage, lineOf}
 use Rattle.page_model.specs.declared.Op.the-variants.{Flush, Purge}
 use Rattle.manager.specs.Tables.{tabulate}
 use Rattle.cache.specs.Tag.{frameOf, isDirtyTag}
@@ -14,12 +14,13 @@ use Rattle.machine.specs.Call.{perform}
 use Rattle.machine.specs.Step.{result}
 use Rattle.run_sheet.specs.Run.{sheetText}
 use Rattle.edges.specs.Calls.{ask, map, unmap, read, write, deviceWrite, evict, refuses, accepts, only, done, written, finds, fresh, recorded, listing, tagged, readOnce, wroteOnce, wroteLast, sevens}
-use Rattle.edges.specs.Cells.{cells}
+use Rattle.edges.specs.Cells.{cells, instructionCells}
 use Rattle.edges.specs.DirtyColours.{dirtyColours}
+use Rattle.edges.specs.Fetches.{fetches}
 use Rattle.edges.specs.Lists.{lists}
 use Rattle.edges.specs.Order.{order}
 use Rattle.edges.specs.Rows.{text, answers, outcome, numbers, Row, _gives_, EveryRowHolds}
-use Rattle.edges.specs.Sheets.{exampleSheet, exampleText, oneStep, oneLine, cardSheet, cardText}
+use Rattle.edges.specs.Sheets.{exampleSheet, exampleText, oneStep, oneLine, cardSheet, cardText, overlaySheet, overlayText}
 use Rattle.edges.specs.Transfers.{transfers}
 
 -- those of case 4, which take the longest to compute
@@ -36,8 +37,9 @@ mappedPair = answers (ask (listing 256) (map 0 255 0 1 ∷ [])) gives answers (r
 abbrev pub secondRead : Row
 secondRead = outcome (perform board01 readOnce (read 0 2 3)) gives outcome (result (finds 5 0) readOnce)
 
-abbrev pub table : List Row
-table =
+-- document 01's cases, with spaces, flags, tags and the parts of N3 at their limits
+abbrev pub cases : List Row
+cases =
     -- the sheet of "The run sheet"
     (text (sheetText board01 exampleSheet) gives text exampleText)
     -- 1. page 1023 is accepted, 1024 gets 3
@@ -48,6 +50,8 @@ table =
     ∷ (answers (ask fresh (map 0 0 63 1 ∷ map 0 1 64 1 ∷ [])) gives answers (done ∷ refuses 4 ∷ []))
     -- 3. offset 63 lies in line 8c + 7; 64 gets 6
     ∷ (numbers (tabulate 8 (λ c. lineOf board01 c 63)) gives numbers (tabulate 8 (λ c. 8 * c + 7)))
+    -- and of the instruction cache in line 64 + 8c + 7
+    ∷ (numbers (tabulate 8 (λ c. lineOf board01 (instructionPage board01 c) 63)) gives numbers (tabulate 8 (λ c. 64 + (8 * c + 7))))
     ∷ (answers (ask fresh (map 0 0 0 1 ∷ read 0 0 63 ∷ read 0 0 64 ∷ [])) gives answers (done ∷ finds 0 0 ∷ refuses 6 ∷ []))
     -- 4. a map at count 255 is accepted; at 256 a fresh pair gets 9, a mapped pair 7
     ∷ roomForOne
@@ -82,16 +86,21 @@ table =
     -- all 64 words from 0 over a dirty page: one purge; 63 words: one flush, and the word that was not sent survives
     ∷ (answers (ask wroteLast (sevens 0 64 ∷ read 0 2 63 ∷ [])) gives answers (accepts 5 (only (Purge 2)) none ∷ finds 5 7 ∷ []))
     ∷ (answers (ask wroteLast (sevens 0 63 ∷ read 0 2 63 ∷ read 0 2 62 ∷ [])) gives answers (accepts 5 (only (Flush 2)) none ∷ finds 5 42 ∷ finds 5 7 ∷ []))
+    ∷ []
+
+-- a sheet of each kind of step
+abbrev pub kinds : List Row
+kinds =
     -- kind 1, read: offset 64 gets 6
-    ∷ (text (sheetText board01 (oneStep (1 ∷ 0 ∷ 0 ∷ 0 ∷ 64 ∷ 0 ∷ 0 ∷ 0 ∷ 0 ∷ []))) gives text (oneLine (54 ∷ []) 45))
+    (text (sheetText board01 (oneStep (1 ∷ 0 ∷ 0 ∷ 0 ∷ 64 ∷ 0 ∷ 0 ∷ 0 ∷ 0 ∷ []))) gives text (oneLine (54 ∷ []) 45))
     -- kind 2, write: the page is read only, 10
     ∷ (text (sheetText board01 (oneStep (2 ∷ 0 ∷ 0 ∷ 0 ∷ 0 ∷ 0 ∷ 0 ∷ 0 ∷ 0 ∷ []))) gives text (oneLine (49 ∷ 48 ∷ []) 45))
     -- kind 3, device read: the frame's first word
     ∷ (text (sheetText board01 (oneStep (3 ∷ 3 ∷ 0 ∷ 0 ∷ 0 ∷ 0 ∷ 0 ∷ 0 ∷ 0 ∷ []))) gives text (oneLine (48 ∷ []) 48))
     -- kind 4, device write
     ∷ (text (sheetText board01 (oneStep (4 ∷ 3 ∷ 0 ∷ 0 ∷ 0 ∷ 5 ∷ 0 ∷ 0 ∷ 0 ∷ []))) gives text (oneLine (48 ∷ []) 45))
-    -- kind 5, evict: line 64 gets 6
-    ∷ (text (sheetText board01 (oneStep (5 ∷ 64 ∷ 0 ∷ 0 ∷ 0 ∷ 0 ∷ 0 ∷ 0 ∷ 0 ∷ []))) gives text (oneLine (54 ∷ []) 45))
+    -- kind 5, evict: line 128 gets 6
+    ∷ (text (sheetText board01 (oneStep (5 ∷ 128 ∷ 0 ∷ 0 ∷ 0 ∷ 0 ∷ 0 ∷ 0 ∷ 0 ∷ []))) gives text (oneLine (54 ∷ []) 45))
     -- kind 6, unmap: page 1 is not mapped, 8
     ∷ (text (sheetText board01 (oneStep (6 ∷ 0 ∷ 1 ∷ 0 ∷ 0 ∷ 0 ∷ 0 ∷ 0 ∷ 0 ∷ []))) gives text (oneLine (56 ∷ []) 45))
     -- kind 7, device write of a part: 12 words from offset 52 on; from 53 on, and none, 13
@@ -107,8 +116,16 @@ table =
     ∷ (text (sheetText board01 (oneStep (12 ∷ 3 ∷ 0 ∷ 0 ∷ 0 ∷ 0 ∷ 0 ∷ 0 ∷ 0 ∷ []))) gives text (oneLine (49 ∷ 54 ∷ []) 45))
     -- and within one: the word that was brought is taken, and shown
     ∷ (text (sheetText board01 cardSheet) gives text cardText)
-    -- request N1's lists of mappings, request N2's order, request N6's transfers, request N7's dirty colours, and the cells of the page model
-    ∷ (lists ++ (order ++ (transfers ++ (dirtyColours ++ cells))))
+    -- kind 13, fetch: the page is read only, 17
+    ∷ (text (sheetText board01 (oneStep (13 ∷ 0 ∷ 0 ∷ 0 ∷ 0 ∷ 0 ∷ 0 ∷ 0 ∷ 0 ∷ []))) gives text (oneLine (49 ∷ 55 ∷ []) 45))
+    -- and of an overlay: its purge is printed as I, and counts with the purges
+    ∷ (text (sheetText board01 overlaySheet) gives text overlayText)
+    ∷ []
+
+-- these, request N1's lists of mappings, request N2's order, request N6's transfers, request N7's dirty colours, request N8's fetches, and the cells of the
+-- page model
+abbrev pub table : List Row
+table = cases ++ (kinds ++ (lists ++ (order ++ (transfers ++ (dirtyColours ++ (fetches ++ (cells ++ instructionCells)))))))
 
 -- every row of the table holds
 abbrev pub Edges : Type 0

@@ -21,7 +21,7 @@ unfolding mask.bit mask.maskOf mask.countOf mask.all mask.any mask.firstOf mask.
 masks-opened = tt
 
 records-opened : Unit {0}
-unfolding board.lines board.cacheWords board.memoryWords board.colourOf frame-record.stateOf frame-record.keepsRules frame-record.encode record-step.cellOf record-step.recordAfter record-step.operations
+unfolding board.lines board.cacheWords board.memoryWords board.colourOf frame-record.stateOf frame-record.instructionStateOf frame-record.keepsRules frame-record.encode record-step.cellOf record-step.instructionCellOf record-step.recordAfter record-step.operations
 records-opened = tt
 
 list-opened : Unit {0}
@@ -29,7 +29,7 @@ unfolding entry.inRange entry.isZero entry.isAt entry.isBefore list-rules.allInR
 list-opened = tt
 
 tables-opened : Unit {0}
-unfolding refusals.firstRefusal manager-tables.recordAt manager-tables.putRecord manager-tables.startRecords manager-tables.recordsKeepRules manager-tables.lengthsRight manager-tables.rulesKept manager-tables.protection manager-tables.mappingState manager-tables.protectionAt manager-tables.tabulate manager-tables.refill
+unfolding refusals.firstRefusal manager-tables.recordAt manager-tables.putRecord manager-tables.startRecords manager-tables.recordsKeepRules manager-tables.lengthsRight manager-tables.rulesKept manager-tables.protection manager-tables.mappingState manager-tables.instructionsOf manager-tables.protectionAt manager-tables.tabulate manager-tables.refill
 tables-opened = tt
 
 hardware-opened : Unit {0}

@@ -15,12 +15,12 @@ use Rattle.mapping.specs.Lookup.{lookup, placeOf, placeFor}
 use Rattle.mapping.specs.Rules.{keepsRules}
 use Rattle.manager.specs.declared.Plan.{Plan}
 use Rattle.manager.specs.declared.ListPlan.{ListPlan}
-use Rattle.manager.specs.Calls.{changeOf, writeStep, beginStep, planMap, planUnmap, planRead, planWrite, planTransfer, planDeviceWritePart}
-use Rattle.manager.specs.Refusals.{Cause, firstRefusal, refusalPlace, inOrder, tableCauses, frameCause, offsetCause, wordCause, endCause, mapCauses, pageCauses, readCauses, writeCauses, transferCauses, partCauses}
+use Rattle.manager.specs.Calls.{changeOf, writeStep, beginStep, planMap, planUnmap, planRead, planWrite, planFetch, planTransfer, planDeviceWritePart}
+use Rattle.manager.specs.Refusals.{Cause, firstRefusal, refusalPlace, inOrder, tableCauses, frameCause, offsetCause, wordCause, endCause, mapCauses, pageCauses, readCauses, writeCauses, fetchCauses, transferCauses, partCauses}
 use Rattle.manager.specs.Scaffold.Told.{toldTables}
 use Rattle.manager.proofs.CauseLaws.{told-tables, told-own}
 use Rattle.machine.specs.Refusals.{ownCauses, causes}
-use Rattle.machine.specs.State.{State, pageFrame, map, unmap, read, write, deviceRead, deviceWritePart, evict, bringWord, takeWord, endTransfer}
+use Rattle.machine.specs.State.{State, pageFrame, map, unmap, read, write, deviceRead, deviceWritePart, evict, bringWord, takeWord, endTransfer, fetch}
 use Rattle.machine.specs.Scaffold.Plans.{storeCauses, accessCauses, earlier, withStep, withPlace, planStep, planPlace, begins}
 use Rattle.machine.proofs.MergeLaws.{causes-merged, step-merged, place-merged}
 
@@ -48,6 +48,13 @@ module _ (b : Board) (st : State) {own : ℕ} where
   unfolding inOrder refusalPlace ownCauses accessCauses writeCauses
   write-planned space page offset word =
       step-merged _ _ _ (offsetCause (b .page) offset ∷ []) (drop 2 (writeCauses b (st .tables) space page)) refl refl refl _
+
+  pub fetch-planned : (space page offset : ℕ) {plan with : Plan} → with ≡ withStep own plan → own ≡ firstRefusal (accessCauses b (st .store) (b .page) offset)
+      → plan ≡ planFetch b (st .tables) space page
+      → with ≡ planStep b st (fetch space page offset) (changeOf b (st .tables) (pageFrame st space page) (table.fetch (colourOf b page)))
+  unfolding inOrder refusalPlace ownCauses accessCauses fetchCauses
+  fetch-planned space page offset =
+      step-merged _ _ _ (offsetCause (b .page) offset ∷ []) (drop 2 (fetchCauses b (st .tables) space page)) refl refl refl _
 
   pub device-read-planned : (frame : ℕ) (buffer : List ℕ) {plan with : Plan} → with ≡ withStep own plan → own ≡ firstRefusal (storeCauses b (st .store) (eqb (length buffer) (b .page)))
       → plan ≡ planTransfer b (st .tables) frame table.deviceRead → with ≡ planStep b st (deviceRead frame buffer) (changeOf b (st .tables) frame table.deviceRead)

@@ -1,6 +1,6 @@
 -- What a plan tells of a call: where it is a refusal, the call's answer; where it is a change, what the call is ready for and what it leaves.
 -- Each law is over any call of its shape.
-use mathlib.Core.Path.{_≡_, refl, sym, ap, subst, subst⁻¹, _∙_}
+use mathlib.Core.Path.{_≡_, refl, sym, ap, subst, _∙_}
 use mathlib.Core.Bool.{Bool, true, false, cond, _&&_, _||_, true≢false}
 use mathlib.Core.List.{List, []}
 use mathlib.Core.Option.{Option, none}
@@ -11,8 +11,7 @@ use lib.Dec.{eqb, leb, ltb}
 use lib.ListN.{length}
 use Rattle.bits.proofs.Tautology.{and-left, and-right}
 use Rattle.board.specs.declared.Board.{Board}
-use Rattle.board.specs.Board.{Regular, lines, colourOf}
-use Rattle.board.proofs.Geometry.{colourOf-lt}
+use Rattle.board.specs.Board.{Regular, cachePages, lines}
 use Rattle.page_model.specs.Busy.{bars}
 use Rattle.page_model.specs.Table as table
 use Rattle.page_model.proofs.Theorems.{operations-below}
@@ -32,7 +31,7 @@ use Rattle.cache.specs.Store.{Store, WellFormedStore}
 use Rattle.cache.specs.Tag.{tagsKeepRules}
 use Rattle.machine.specs.Scaffold.Ready.{OperationsReady, AccessReady, TransferReady, PartReady}
 use Rattle.machine.specs.Refusals.{storeLengths, bufferRight, causes}
-use Rattle.machine.specs.State.{State, state, Single, map, unmap, read, write, deviceRead, deviceWrite, deviceWritePart, evict, beginRead, beginWrite, bringWord, takeWord, endTransfer, Result, lentBuffer}
+use Rattle.machine.specs.State.{State, state, Single, map, unmap, read, write, deviceRead, deviceWrite, deviceWritePart, evict, beginRead, beginWrite, bringWord, takeWord, endTransfer, fetch, Result, lentBuffer}
 use Rattle.machine.specs.Parts.{Effect, steps, ends, nothing, effectOf, outcomeOf, Access, accessed, accessOf}
 use Rattle.machine.specs.Step.{operate, carryOut, answer, result, tablesLeft, accept, step}
 use Rattle.machine.specs.Scaffold.Plans.{planStep, planPlace, refusalOf, placeRefusal}
@@ -94,6 +93,7 @@ module _ (b : Board) (st : State) (call : Single) where
       go (bringWord frame offset word) = refl
       go (takeWord frame offset) = refl
       go (endTransfer frame) = refl
+      go (fetch space page offset) = refl
 
   -- no refusal: no cause applies, whatever its number
   pub cleared : (n : ℕ) → firstRefusal (causes b st call) ≡ 0 → appliesIn n (causes b st call) ≡ false
@@ -154,6 +154,7 @@ module _ (b : Board) (st : State) where
       go (bringWord frame offset word) kept clear = tt
       go (takeWord frame offset) kept clear = tt
       go (endTransfer frame) kept clear = leb-false (b .frames) frame (clear 4)
+      go (fetch space page offset) kept clear = (mapped-range b (st .tables) kept space page (not-false _ (clear 8)) .frame-lt, clear 15)
 
 -- ---- what the machine's functions require of a call that is a step of a frame's record
 
@@ -165,16 +166,17 @@ module _ (b : Board) (st : State) (call : Single) (f : ℕ) (s : table.Step) (is
       let q = planned-step _ _ change p in
       let tested = subst (Tested b (st .tables .records)) is (effect-tested b st call (q .0)) in
       let below = operations-below (b .colours) s (recordAt (st .tables .records) f) in
-      subst (λ (m : Change). OperationsReady b (st .store) (m .frame) (m .ops)) (q .1) (store-clear b st call (q .0), tested .0, below .1, below .2, reg)
+      subst (λ (m : Change). OperationsReady b (st .store) (m .frame) (m .ops)) (q .1)
+      (store-clear b st call (q .0), tested .0, below .1, below .2, reg)
 
-  -- with an offset and the page's colour, what `load` and `put` require
-  pub access-requires : {change : Change} {colour : ℕ} (page offset : ℕ) → Regular b → planStep b st call (changeOf b (st .tables) f s) ≡ step-plan.Step change
-      → appliesIn 6 (causes b st call) ≡ leb (b .page) offset → colour ≡ colourOf b page
+  -- with an offset and a page of the caches, what `load` and `put` require
+  pub access-requires : {change : Change} {colour : ℕ} (offset : ℕ) → Regular b → planStep b st call (changeOf b (st .tables) f s) ≡ step-plan.Step change
+      → appliesIn 6 (causes b st call) ≡ leb (b .page) offset → colour < cachePages b
       → AccessReady b (st .store) (change .frame) (change .ops) colour offset
-  access-requires {change} page offset reg p o e =
+  access-requires {change} offset reg p o below =
       let r = step-requires {change = change} reg p in
       let h = leb-false (b .page) offset (sym o ∙ cleared b st call 6 (planned-step _ _ change p .0)) in
-      (r .0, r .1, r .2, r .3, subst⁻¹ (λ (k : ℕ). k < b .colours) e (colourOf-lt b reg page), h, reg)
+      (r .0, r .1, r .2, r .3, below, h, reg)
 
   -- with a buffer of a page's words, what `send` requires
   pub transfer-requires : {change : Change} (buffer : List ℕ) → Regular b → planStep b st call (changeOf b (st .tables) f s) ≡ step-plan.Step change

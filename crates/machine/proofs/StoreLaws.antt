@@ -7,9 +7,10 @@ use lib.Dec.{eqb}
 use lib.ListN.{length}
 use Rattle.bits.proofs.Tautology.{and-left, and-right}
 use Rattle.board.specs.declared.Board.{Board}
-use Rattle.board.specs.Board.{Regular, memoryWords, cacheWords, lines}
+use Rattle.board.specs.Board.{Regular, cachePages, instructionPage, memoryWords, cacheWords, lines}
+use Rattle.board.proofs.Geometry.{data-page, instruction-page}
 use Rattle.page_model.specs.declared.Op.{Op}
-use Rattle.page_model.specs.declared.Op.the-variants.{None, Flush, Purge}
+use Rattle.page_model.specs.declared.Op.the-variants.{None, Flush, Purge, PurgeInstructions}
 use Rattle.page_model.specs.declared.Ops.{Ops}
 use Rattle.page_model.specs.Step.{OpBelow}
 use Rattle.manager.specs.Answers.{operationOn, accepted}
@@ -55,8 +56,9 @@ pub operate-kept : (b : Board) → Regular b → (f : ℕ) → f < b .frames →
     → WellFormedStore b (operate b (operationOn f op) s)
 unfolding operate
 operate-kept b reg f hf None below s wf = wf
-operate-kept b reg f hf (Flush c) below s wf = flush-kept b reg f c hf below s wf
-operate-kept b reg f hf (Purge c) below s wf = purge-kept b reg f c below s wf
+operate-kept b reg f hf (Flush c) below s wf = flush-kept b reg f c hf (data-page b reg c below) s wf
+operate-kept b reg f hf (Purge c) below s wf = purge-kept b reg f c (data-page b reg c below) s wf
+operate-kept b reg f hf (PurgeInstructions c) below s wf = purge-kept b reg f (instructionPage b c) (instruction-page b reg c below) s wf
 
 -- and so do two
 pub carryOut-kept : (b : Board) → Regular b → (f : ℕ) → f < b .frames → (ops : Ops) → OpBelow (b .colours) (ops .first) → OpBelow (b .colours) (ops .second)
@@ -66,6 +68,6 @@ carryOut-kept b reg f hf ops first second s wf = operate-kept b reg f hf (ops .s
 
 -- so an access may follow them
 pub access-follows : (b : Board) (f : ℕ) (ops : Ops) (colour offset : ℕ) {s s′ : Store} → AccessReady b s f ops colour offset → s′ ≡ carryOut b (accepted f ops) s
-    → WellFormedStore b s′ × (f < b .frames) × (colour < b .colours) × (offset < b .page) × Regular b
+    → WellFormedStore b s′ × (f < b .frames) × (colour < cachePages b) × (offset < b .page) × Regular b
 access-follows b f ops colour offset r e =
     (subst⁻¹ (WellFormedStore b) e (carryOut-kept b (r .6) f (r .1) ops (r .2) (r .3) _ (r .0)), r .1, r .4, r .5, r .6)

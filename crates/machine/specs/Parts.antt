@@ -4,7 +4,7 @@ use mathlib.Core.List.{List, []}
 use mathlib.Core.Option.{Option, none, some}
 use Prim.Native.Nat.{ℕ}
 use Rattle.board.specs.declared.Board.{Board}
-use Rattle.board.specs.Board.{colourOf}
+use Rattle.board.specs.Board.{colourOf, instructionPage}
 use Rattle.page_model.specs.Record.{freed}
 use Rattle.page_model.specs.Step.{stepped}
 use Rattle.page_model.specs.Table as table
@@ -16,7 +16,7 @@ use Rattle.manager.specs.Calls.{noOps, writeStep}
 use Rattle.manager.specs.Tables.{recordAt, putRecord}
 use Rattle.cache.specs.Cache as hardware
 use Rattle.cache.specs.Store.{Store, memoryWord}
-use Rattle.machine.specs.State.{State, listedFrame, Single, map, unmap, read, write, deviceRead, deviceWrite, deviceWritePart, evict, beginRead, beginWrite, bringWord, takeWord, endTransfer}
+use Rattle.machine.specs.State.{State, listedFrame, Single, map, unmap, read, write, deviceRead, deviceWrite, deviceWritePart, evict, beginRead, beginWrite, bringWord, takeWord, endTransfer, fetch}
 
 -- what a call makes of the record of a frame: a step of the page model, the end of a transfer, or nothing
 pub data Effect : Type 0 where
@@ -38,6 +38,7 @@ effectIn b l (beginWrite frame) = steps frame table.beginWrite
 effectIn b l (bringWord frame offset word) = nothing
 effectIn b l (takeWord frame offset) = nothing
 effectIn b l (endTransfer frame) = ends frame
+effectIn b l (fetch space page offset) = steps (listedFrame l space page) (table.fetch (colourOf b page))
 
 abbrev pub effectOf : Board → State → Single → Effect
 effectOf b st = effectIn b (st .tables .list)
@@ -68,6 +69,7 @@ listAfter l (beginWrite frame) = l
 listAfter l (bringWord frame offset word) = l
 listAfter l (takeWord frame offset) = l
 listAfter l (endTransfer frame) = l
+listAfter l (fetch space page offset) = l
 
 -- what a call answers besides its orders, and the memory and cache that it leaves, where its orders leave s
 pub record Access : Type 0 where
@@ -94,6 +96,10 @@ accessIn b l (beginWrite frame) s = accessed none [] s
 accessIn b l (bringWord frame offset word) s = accessed none [] (hardware.bringWord b frame offset word s)
 accessIn b l (takeWord frame offset) s = accessed (some (memoryWord b s frame offset)) [] s
 accessIn b l (endTransfer frame) s = accessed none [] s
+-- a fetch is a read through the instruction cache
+accessIn b l (fetch space page offset) s =
+    accessed (some (hardware.readWord b (listedFrame l space page) (instructionPage b (colourOf b page)) offset s)) []
+    (hardware.access b (listedFrame l space page) (instructionPage b (colourOf b page)) offset s)
 
 abbrev pub accessOf : Board → State → Single → Store → Access
 accessOf b st = accessIn b (st .tables .list)

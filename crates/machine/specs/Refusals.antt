@@ -9,11 +9,11 @@ use Rattle.board.specs.Board.{memoryWords, cacheWords, lines, colourOf}
 use Rattle.page_model.specs.Busy.{reading, writing}
 use Rattle.page_model.specs.Table as table
 use Rattle.mapping.specs.declared.MappingList.{MappingList}
-use Rattle.manager.specs.Refusals.{Cause, _if_, spaceCause, frameCause, offsetCause, partCause, unmappedCause, readOnlyCause, busyCause, wordCause, endCause, mappingCauses}
+use Rattle.manager.specs.Refusals.{Cause, _if_, spaceCause, frameCause, offsetCause, partCause, unmappedCause, writeRightsCause, fetchRightsCause, busyCause, wordCause, endCause, mappingCauses}
 use Rattle.manager.specs.Tables.{lengthsRight, rulesKept}
 use Rattle.cache.specs.Store.{Store}
 use Rattle.cache.specs.Tag.{tagsKeepRules}
-use Rattle.machine.specs.State.{State, listedFrame, Single, map, unmap, read, write, deviceRead, deviceWrite, deviceWritePart, evict, beginRead, beginWrite, bringWord, takeWord, endTransfer, Exchange, noWords, wordOut, pageOut, pageIn, partIn, exchangeOf}
+use Rattle.machine.specs.State.{State, listedFrame, listedRights, Single, map, unmap, read, write, deviceRead, deviceWrite, deviceWritePart, evict, beginRead, beginWrite, bringWord, takeWord, endTransfer, fetch, Exchange, noWords, wordOut, pageOut, pageIn, partIn, exchangeOf}
 
 -- memory, cache words and tags have their lengths
 unfoldable pub storeLengths : Board → Store → Bool
@@ -56,7 +56,7 @@ causesIn b l records (write space page offset word) =
     spaceCause space page
     ∷ offsetCause (b .page) offset
     ∷ unmappedCause l space page
-    ∷ readOnlyCause l space page
+    ∷ writeRightsCause (listedRights l space page)
     ∷ pageBusy l records space page (table.write (colourOf b page))
     ∷ []
 causesIn b l records (deviceRead frame buffer) = frameCause b frame ∷ busyCause records frame table.deviceRead ∷ []
@@ -80,6 +80,13 @@ causesIn b l records (takeWord frame offset) =
     ∷ wordCause records frame reading
     ∷ []
 causesIn b l records (endTransfer frame) = frameCause b frame ∷ endCause records frame ∷ []
+causesIn b l records (fetch space page offset) =
+    spaceCause space page
+    ∷ offsetCause (b .page) offset
+    ∷ unmappedCause l space page
+    ∷ fetchRightsCause (listedRights l space page)
+    ∷ pageBusy l records space page (table.fetch (colourOf b page))
+    ∷ []
 
 unfoldable pub ownCauses : Board → State → Single → List Cause
 ownCauses b st = causesIn b (st .tables .list) (st .tables .records)

@@ -9,7 +9,7 @@ use Rattle.mapping.specs.Lookup.{listedMapping}
 use Rattle.manager.specs.Tables.{Tables, tables}
 use Rattle.cache.specs.Store.{Store, store}
 
--- the manager's tables, and memory with the cache's words and tags
+-- the manager's tables, and memory with the words and tags of both caches
 pub record State : Type 0 where
   pub tables : Tables
   pub store : Store
@@ -21,9 +21,12 @@ state t s = record { tables = t; store = s }
 abbrev pub machineOf : MappingList → List ℕ → List ℕ → List ℕ → List ℕ → List ℕ → State
 machineOf list records protections memory words tags = state (tables list records protections) (store memory words tags)
 
--- the frame of a page of a space, in a list and in the tables
+-- the frame of a page of a space and its rights, in a list, and the frame in the tables
 abbrev pub listedFrame : MappingList → ℕ → ℕ → ℕ
 listedFrame l space page = listedMapping l space page .frame
+
+abbrev pub listedRights : MappingList → ℕ → ℕ → ℕ
+listedRights l space page = listedMapping l space page .rights
 
 abbrev pub pageFrame : State → ℕ → ℕ → ℕ
 pageFrame st = listedFrame (st .tables .list)
@@ -48,6 +51,8 @@ pub data Single : Type 0 where
   -- frame, offset; the word that a device brings
   bringWord : ℕ → ℕ → ℕ → Single
   takeWord : ℕ → ℕ → Single
+  -- request N8: space, page, offset
+  fetch : ℕ → ℕ → ℕ → Single
 
 -- A call is a single one, or a list of mappings (request N1).
 pub data Call : Type 0 where
@@ -55,7 +60,7 @@ pub data Call : Type 0 where
   -- the items, and the list of answers as it is lent
   mapAll : List Mapping → List ℕ → Call
 
--- The refusal or the orders, the word that a processor reads or a device takes, and what the call leaves in the buffer that it is lent for a device or for answers.
+-- The refusal or the orders, the word that a processor reads or fetches or a device takes, and what the call leaves in the buffer that it is lent for a device or for answers.
 pub record Answer : Type 0 where
   pub outcome : Outcome
   pub word : Option ℕ
@@ -89,6 +94,7 @@ exchangeOf (beginWrite frame) = noWords
 exchangeOf (bringWord frame offset word) = noWords
 exchangeOf (takeWord frame offset) = wordOut
 exchangeOf (endTransfer frame) = noWords
+exchangeOf (fetch space page offset) = wordOut
 
 -- the buffer that a call fills: a device read's, else none
 abbrev pub bufferOut : Exchange → List ℕ

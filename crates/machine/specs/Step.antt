@@ -4,6 +4,7 @@ use mathlib.Core.List.{List, []}
 use mathlib.Core.Option.{Option, none, some}
 use Prim.Native.Nat.{ℕ, zero, suc}
 use Rattle.board.specs.declared.Board.{Board}
+use Rattle.board.specs.Board.{instructionPage}
 use Rattle.manager.specs.Answers as operation
 use Rattle.manager.specs.Answers.{Outcome, refused, accepted, FrameOperation, firstOperation, secondOperation}
 use Rattle.manager.specs.Refusals.{firstRefusal}
@@ -22,6 +23,7 @@ unfoldable pub operate : Board → FrameOperation → Store → Store
 operate b operation.none s = s
 operate b (operation.flush f c) s = hardware.flush b f c s
 operate b (operation.purge f c) s = hardware.purge b f c s
+operate b (operation.purgeInstructions f c) s = hardware.purge b f (instructionPage b c) s
 
 -- the store after an answer's orders, in order
 unfoldable pub carryOut : Board → Outcome → Store → Store

@@ -1,4 +1,4 @@
-// The processor's accesses, and a line turned out of the cache.
+// The processor's accesses, and a line turned out of its cache.
 ghost use mathlib.Core.Path.{_≡_};
 ghost use mathlib.Core.List.{[]};
 ghost use mathlib.Core.Option.{none};
@@ -11,6 +11,7 @@ use super::Loaded;
 use super::operations;
 use super::plans;
 use board::BOARD01;
+use manager::AccessKind;
 use manager::Answer;
 use manager::FrameOps;
 use manager::Plan;
@@ -38,7 +39,15 @@ pub fn read(
 {
     let own = plans::access_refusal(BOARD01, memory, words, tags, BOARD01.page, offset);
     let seen = mapping::look(BOARD01, list, space, page);
-    let managers = plan_access(BOARD01, seen, records, protections, space, page, false);
+    let managers = plan_access(
+        BOARD01,
+        seen,
+        records,
+        protections,
+        space,
+        page,
+        AccessKind::Read,
+    );
     let plan = plans::with_step(own, managers);
     let Plan::Step(change) = plan else {
         return Loaded::Refused(plans::refusal_of(plan));
@@ -82,7 +91,15 @@ pub fn write(
 {
     let own = plans::access_refusal(BOARD01, memory, words, tags, BOARD01.page, offset);
     let seen = mapping::look(BOARD01, list, space, page);
-    let managers = plan_access(BOARD01, seen, records, protections, space, page, true);
+    let managers = plan_access(
+        BOARD01,
+        seen,
+        records,
+        protections,
+        space,
+        page,
+        AccessKind::Write,
+    );
     let plan = plans::with_step(own, managers);
     let Plan::Step(change) = plan else {
         return Answer::Refused(plans::refusal_of(plan));
@@ -104,6 +121,58 @@ pub fn write(
         word,
     );
     Answer::Accepted(FrameOps { frame, ops })
+}
+
+// The processor fetches an instruction: it reads a word through the instruction cache.
+pub fn fetch(
+    list: MappingList,
+    records: &mut [u32],
+    protections: &mut [u8],
+    memory: &mut [u32],
+    words: &mut [u32],
+    tags: &mut [u8],
+    space: u8,
+    page: u16,
+    offset: usize,
+) -> Loaded
+    ensures { λ r. ⌜ result (loaded r)
+        (machineOf list (now (records .exit)) (now (protections .exit)) (now (memory .exit)) (now (words .exit)) (now (tags .exit)))
+        ≡ step board01
+        (machineOf list (now (records .entry)) (now (protections .entry)) (now (memory .entry)) (now (words .entry)) (now (tags .entry)))
+        (call.fetch space page offset) ⌝ }
+{
+    let own = plans::access_refusal(BOARD01, memory, words, tags, BOARD01.page, offset);
+    let seen = mapping::look(BOARD01, list, space, page);
+    let managers = plan_access(
+        BOARD01,
+        seen,
+        records,
+        protections,
+        space,
+        page,
+        AccessKind::Fetch,
+    );
+    let plan = plans::with_step(own, managers);
+    let Plan::Step(change) = plan else {
+        return Loaded::Refused(plans::refusal_of(plan));
+    };
+    let frame = change.frame;
+    let next = change.next;
+    let ops = change.ops;
+    manager::commits::commit_change(COLOURS, list, records, protections, frame, next);
+    let colour = board::colour_of(BOARD01, page as usize);
+    let instructions = board::instruction_page(BOARD01, colour);
+    let instruction = operations::load(
+        BOARD01,
+        memory,
+        words,
+        tags,
+        frame as usize,
+        ops,
+        instructions,
+        offset,
+    );
+    Loaded::Word(FrameOps { frame, ops }, instruction)
 }
 
 // A line is written back if it is dirty, and emptied: document 01's turning out.

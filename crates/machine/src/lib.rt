@@ -15,6 +15,7 @@ ghost use Rattle.machine.specs.Step.{answer, result, step};
 ghost use Rattle.machine.specs.Call.{perform};
 ghost use Rattle.mapping.specs.Batch.{itemsOf};
 pub use accesses::evict;
+pub use accesses::fetch;
 pub use accesses::read;
 pub use accesses::write;
 use board::BOARD01;

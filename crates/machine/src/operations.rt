@@ -22,6 +22,10 @@ fn operate(board: Board, memory: &mut [u32], words: &[u32], tags: &mut [u8], fra
         Op::None => {}
         Op::Flush(colour) => cache::operation::flush(board, memory, words, tags, frame, colour),
         Op::Purge(colour) => cache::operation::purge(board, tags, frame, colour),
+        Op::PurgeInstructions(colour) => {
+            let page = board::instruction_page(board, colour);
+            cache::operation::purge(board, tags, frame, page)
+        }
     }
 }
 
@@ -44,7 +48,7 @@ pub fn carry_out(
     operate(board, memory, words, tags, frame, second);
 }
 
-// Reads a word of a frame after its operations.
+// Reads a word of a frame through a page of the caches, after its operations.
 pub fn load(
     board: Board,
     memory: &mut [u32],
@@ -77,7 +81,7 @@ pub fn put(
     offset: usize,
     word: u32,
 )
-    requires { ⌜ AccessReady board (store (now memory) (now words) (now tags)) frame ops colour offset ⌝ }
+    requires { ⌜ AccessReady board (store (now memory) (now words) (now tags)) frame ops colour offset × (colour < board .colours) ⌝ }
     ensures { λ _. ⌜ store (now (memory .exit)) (now (words .exit)) (now (tags .exit))
         ≡ writeWord board frame colour offset word (carryOut board (accepted frame ops) (store (now (memory .entry)) (now (words .entry)) (now (tags .entry)))) ⌝ }
 {

@@ -1,7 +1,7 @@
 -- What tables that keep their rules, and a map of which no cause of refusal applies, tell part by part.
 use mathlib.Core.Path.{_≡_, refl, sym, _∙_}
 use mathlib.Core.Bool.{Bool, true, false, _&&_, _||_, false≢true}
-use mathlib.Core.Logic.{_≢_, inl, inr, ⊎-elim}
+use mathlib.Core.Logic.{_≢_}
 use Prim.Native.Nat.{_*_, _<_}
 use native.Mathlib.Omega.{arith}
 use borrow.Author.Tests.{eqb-true, eqb-false, leb-false, not-false}
@@ -18,7 +18,7 @@ use Rattle.mapping.specs.Entry.{capacity}
 use Rattle.mapping.specs.Facts.{InRange}
 use Rattle.mapping.specs.Lookup.{lookup, found}
 use Rattle.mapping.specs.Rules as list-of
-use Rattle.mapping.proofs.Tests.{or-either}
+use Rattle.mapping.proofs.Laws.{rights-known}
 use Rattle.manager.specs.Refusals.{firstRefusal, tableCauses, mapCauses, mappingCauses}
 use Rattle.manager.specs.Scaffold.Inserted.{mappingRefusal}
 use Rattle.manager.specs.Tables.{Tables, recordWords, recordsKeepRules, lengthsRight, rulesKept}
@@ -63,7 +63,7 @@ mapping-accepted b l m e =
         space-lt = leb-false _ _ (within .0);
         page-lt = leb-false _ _ (within .1);
         frame-lt = leb-false _ _ (cleared-in cs 4 refl e);
-        rights-of = ⊎-elim (λ r. inl (eqb-true _ _ r)) (λ r. inr (eqb-true _ _ r)) (or-either _ _ (not-false _ (cleared-in cs 5 refl e)));
+        rights-of = rights-known (m .rights) (not-false _ (cleared-in cs 5 refl e));
       },
       not-found _ (cleared-in cs 7 refl e),
       eqb-false (l .count) capacity (cleared-in cs 9 refl e),

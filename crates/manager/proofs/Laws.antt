@@ -2,7 +2,7 @@
 use mathlib.Core.Path.{_≡_, refl, sym, ap, ap₂, subst, _∙_}
 use mathlib.Core.Bool.{Bool, true, false, cond, _&&_}
 use mathlib.Core.List.{List}
-use Prim.Native.Nat.{ℕ, zero, suc, _+_, _<_}
+use Prim.Native.Nat.{ℕ, zero, suc, _+_, _*_, _<_}
 use native.Mathlib.Omega.{arith}
 use borrow.Author.Count.{below-more}
 use native.Mathlib.Nat.{lt-irrefl}
@@ -14,13 +14,14 @@ use Rattle.bits.specs.Mask.{digit}
 use Rattle.board.specs.declared.Board.{Board}
 use Rattle.board.specs.Board.{colourOf}
 use Rattle.page_model.specs.declared.FrameRecord.{FrameRecord}
-use Rattle.page_model.specs.Record.{stateOf, isHeld, isDirty}
+use Rattle.page_model.specs.Instructions.{InstructionState}
+use Rattle.page_model.specs.Record.{stateOf, instructionStateOf, isHeld, isDirty, isFetched}
 use Rattle.page_model.specs.Table.{ColourState, empty, present, dirty, stale}
 use Rattle.mapping.specs.declared.Mapping.{Mapping}
-use Rattle.mapping.specs.Entry.{readWrite}
+use Rattle.mapping.specs.Entry.{readWrite, readFetch}
 use Rattle.manager.specs.declared.ListPlan.the-variants as list-plan
 use Rattle.manager.specs.Calls.{placed}
-use Rattle.manager.specs.Tables.{recordAt, protection, mappingState, tabulate}
+use Rattle.manager.specs.Tables.{recordAt, protection, mappingState, instructionsOf, tabulate}
 
 -- ---- f at each place below n
 
@@ -50,23 +51,33 @@ set-more l i v f li h e =
 
 -- ---- protections
 
--- a read passes if the colour is held, and a write too if it is dirty and the rights allow it
-pub protection-sum : (s : ColourState) (rights : ℕ) → boolByte (isHeld s) + boolByte (isDirty s && eqb rights readWrite) ≡ protection s rights
+-- a read passes if the colour is held, and a write too if it is dirty and the rights allow it; a fetch if it is held for instructions and they allow that
+pub protection-sum : (s : ColourState) (i : InstructionState) (rights : ℕ)
+    → boolByte (isHeld s) + boolByte (isDirty s && eqb rights readWrite) + 4 * boolByte (isFetched i && eqb rights readFetch) ≡ protection s i rights
 unfolding protection
-protection-sum s rights = go s (eqb rights readWrite)
+protection-sum s i rights = ap₂ _+_ (words s (eqb rights readWrite)) (instructions (isFetched i && eqb rights readFetch))
   where
-    go : (s : ColourState) (t : Bool) → boolByte (isHeld s) + boolByte (isDirty s && t) ≡ cond (isDirty s && t) 2 (digit (isHeld s))
-    go empty t = refl
-    go present t = refl
-    go dirty true = refl
-    go dirty false = refl
-    go stale t = refl
+    words : (s : ColourState) (t : Bool) → boolByte (isHeld s) + boolByte (isDirty s && t) ≡ cond (isDirty s && t) 2 (digit (isHeld s))
+    words empty t = refl
+    words present t = refl
+    words dirty true = refl
+    words dirty false = refl
+    words stale t = refl
+
+    instructions : (t : Bool) → 4 * boolByte t ≡ cond t 4 0
+    instructions true = refl
+    instructions false = refl
 
 -- the state of the colour through which a mapping goes, from its record and its colour
 pub state-at : (b : Board) (rs : List ℕ) (m : Mapping) {r : FrameRecord} {k : ℕ} → r ≡ recordAt rs (m .frame) → k ≡ colourOf b (m .page)
     → stateOf r k ≡ mappingState b rs m
 unfolding mappingState
 state-at b rs m er ek = ap₂ stateOf er ek
+
+pub instructions-at : (b : Board) (rs : List ℕ) (m : Mapping) {r : FrameRecord} {k : ℕ} → r ≡ recordAt rs (m .frame) → k ≡ colourOf b (m .page)
+    → instructionStateOf r k ≡ instructionsOf b rs m
+unfolding instructionsOf
+instructions-at b rs m er ek = ap₂ instructionStateOf er ek
 
 -- ---- plans of the list
 

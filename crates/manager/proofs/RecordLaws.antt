@@ -1,68 +1,93 @@
 -- The laws of the frame records in their words: a record stored is read back, the others stay, and so does the number of words.
 use mathlib.Core.Path.{_≡_, refl, ap, _∙_}
 use mathlib.Core.Bool.{Bool, true, false}
-use mathlib.Core.List.{List, _∷_}
-use mathlib.Core.Logic.{_≢_}
-use Prim.Native.Nat.{ℕ, zero, suc, _+_, _*_, _%_, _<_}
+use mathlib.Core.List.{List, [], _∷_, _++_}
+use mathlib.Core.Logic.{_≢_, _⊎_, inl, inr}
+use Prim.Native.Nat.{ℕ, zero, suc, _+_, _*_, _%_, _≤_, _<_}
 use native.Mathlib.Omega.{arith}
 use borrow.Author.Tests.{eqb-true, eqb-false}
 use lib.Dec.{eqb}
 use lib.ListN.{length, getD, set, length-set}
-use lib.Seq.{getD-set-same, getD-set-other}
+use lib.Seq.{getD-set-same, getD-set-other, getD-drop}
 use Rattle.bits.proofs.Mask.{all-at, all-of}
 use Rattle.board.specs.declared.Board.{Board}
 use Rattle.page_model.specs.declared.FrameRecord.{FrameRecord}
 use Rattle.page_model.specs.Record.{keepsRules, startRecord}
-use Rattle.manager.specs.Tables.{recordWords, recordAt, putRecord, startRecords, startWord, recordsKeepRules, tabulate}
+use Rattle.mapping.proofs.Tests.{lt-or-le}
+use Rattle.manager.specs.Tables.{wordsOf, recordWords, recordAt, putWords, putRecord, startRecords, startWord, recordsKeepRules, tabulate}
 use Rattle.manager.specs.Theorems.{StartRecords}
+
+-- ---- words stored one after the other
+
+pub length-putWords : (rs : List ℕ) (i j : ℕ) (ws : List ℕ) → length (putWords rs i j ws) ≡ length rs
+unfolding putWords
+length-putWords rs i j [] = refl
+length-putWords rs i j (w ∷ ws) = length-putWords (set rs (i + j) w) i (suc j) ws ∙ length-set rs (i + j) w
+
+-- a word before or behind them stays
+putWords-other : (rs : List ℕ) (i j : ℕ) (ws : List ℕ) (k : ℕ) → (k < i + j) ⊎ (i + j + length ws ≤ k) → getD (putWords rs i j ws) k 0 ≡ getD rs k 0
+unfolding putWords
+putWords-other rs i j [] k apart = refl
+putWords-other rs i j (w ∷ ws) k (inl h) = putWords-other (set rs (i + j) w) i (suc j) ws k (inl (omega arith)) ∙ getD-set-other rs (i + j) k w 0 (omega arith)
+putWords-other rs i j (w ∷ ws) k (inr h) = putWords-other (set rs (i + j) w) i (suc j) ws k (inr (omega arith)) ∙ getD-set-other rs (i + j) k w 0 (omega arith)
+
+-- and each is the one stored at its place
+putWords-same : (rs : List ℕ) (i j : ℕ) (ws : List ℕ) (k : ℕ) → k < length ws → i + j + length ws ≤ length rs → getD (putWords rs i j ws) (i + (j + k)) 0 ≡ getD ws k 0
+unfolding putWords
+putWords-same rs i j [] k h fits = absurd (omega arith)
+putWords-same rs i j (w ∷ ws) zero h fits =
+    let e : i + (j + zero) ≡ i + j = omega arith in
+    rw e (putWords-other (set rs (i + j) w) i (suc j) ws (i + j) (inl (omega arith)) ∙ getD-set-same rs (i + j) w 0 (omega arith))
+putWords-same rs i j (w ∷ ws) (suc k) h fits =
+    let e : i + (j + suc k) ≡ i + (suc j + k) = omega arith in
+    rw e (putWords-same (set rs (i + j) w) i (suc j) ws k (omega arith) (let l = length-set rs (i + j) w in omega arith))
+
+-- ---- a frame's record
+
+-- its words: word j of frame f's record
+abbrev pub recordWord : List ℕ → ℕ → ℕ → ℕ
+recordWord rs f j = getD rs (f * recordWords + j) 0
+
+pub recordAt-words : (rs : List ℕ) (f : ℕ)
+    → recordAt rs f
+    ≡ record {
+      masks = record { held = recordWord rs f 0; stale = recordWord rs f 1 };
+      dirty = recordWord rs f 2;
+      busy = recordWord rs f 3;
+      «dirty_colour» = recordWord rs f 4;
+      instructions = record { held = recordWord rs f 5; stale = recordWord rs f 6 };
+    }
+unfolding recordAt
+recordAt-words rs f =
+    let at = getD-drop (f * recordWords) rs in
+    rw (at 0 0, at 1 0, at 2 0, at 3 0, at 4 0, at 5 0, at 6 0)
 
 module _ (rs : List ℕ) (f : ℕ) (r : FrameRecord) where
   pub length-putRecord : length (putRecord rs f r) ≡ length rs
   unfolding putRecord
-  length-putRecord = simp length-set
+  length-putRecord = length-putWords rs (f * recordWords) 0 (wordsOf r)
 
-  pub recordAt-putRecord-same : f * recordWords + 4 < length rs → recordAt (putRecord rs f r) f ≡ r
-  unfolding recordAt putRecord
-  recordAt-putRecord-same h =
-      let a = f * recordWords in
-      let one = set rs a (r .masks .held) in
-      let two = set one (a + 1) (r .masks .stale) in
-      let three = set two (a + 2) (r .dirty) in
-      let four = set three (a + 3) (r .busy) in
-      let held =
-      getD-set-other four (a + 4) a (r .«dirty_colour») 0 (omega arith)
-      ∙ getD-set-other three (a + 3) a (r .busy) 0 (omega arith)
-      ∙ getD-set-other two (a + 2) a (r .dirty) 0 (omega arith)
-      ∙ getD-set-other one (a + 1) a (r .masks .stale) 0 (omega arith)
-      ∙ getD-set-same rs a (r .masks .held) 0 (omega arith) in
-      let stale =
-      getD-set-other four (a + 4) (a + 1) (r .«dirty_colour») 0 (omega arith)
-      ∙ getD-set-other three (a + 3) (a + 1) (r .busy) 0 (omega arith)
-      ∙ getD-set-other two (a + 2) (a + 1) (r .dirty) 0 (omega arith)
-      ∙ getD-set-same one (a + 1) (r .masks .stale) 0 (simp length-set (omega arith)) in
-      let dirty =
-      getD-set-other four (a + 4) (a + 2) (r .«dirty_colour») 0 (omega arith)
-      ∙ getD-set-other three (a + 3) (a + 2) (r .busy) 0 (omega arith)
-      ∙ getD-set-same two (a + 2) (r .dirty) 0 (simp length-set (omega arith)) in
-      let busy = getD-set-other four (a + 4) (a + 3) (r .«dirty_colour») 0 (omega arith) ∙ getD-set-same three (a + 3) (r .busy) 0 (simp length-set (omega arith)) in
-      let colour = getD-set-same four (a + 4) (r .«dirty_colour») 0 (simp length-set (omega arith)) in
-      rw (held, stale, dirty, busy, colour)
-
-  -- a word that is none of the record's
-  word-other : (i : ℕ) → i ≢ f * recordWords → i ≢ f * recordWords + 1 → i ≢ f * recordWords + 2 → i ≢ f * recordWords + 3 → i ≢ f * recordWords + 4
-      → getD (putRecord rs f r) i 0 ≡ getD rs i 0
+  -- word j of its record
+  word-of-same : f * recordWords + recordWords ≤ length rs → (j : ℕ) → j < recordWords → recordWord (putRecord rs f r) f j ≡ getD (wordsOf r) j 0
   unfolding putRecord
-  word-other i h k l m o = rw (getD-set-other, getD-set-other, getD-set-other, getD-set-other, getD-set-other)
+  word-of-same h j l =
+      let e : f * recordWords + j ≡ f * recordWords + (0 + j) = omega arith in rw e (putWords-same rs (f * recordWords) 0 (wordsOf r) j l (omega arith))
+
+  pub recordAt-putRecord-same : f * recordWords + recordWords ≤ length rs → recordAt (putRecord rs f r) f ≡ r
+  recordAt-putRecord-same h = rw (recordAt-words, word-of-same h 0 (omega arith), word-of-same h 1 (omega arith), word-of-same h 2 (omega arith), word-of-same h 3 (omega arith), word-of-same h 4 (omega arith), word-of-same h 5 (omega arith), word-of-same h 6 (omega arith))
 
   -- word j of another frame's record
-  word-of-other : (g j : ℕ) → g ≢ f → j < recordWords → getD (putRecord rs f r) (g * recordWords + j) 0 ≡ getD rs (g * recordWords + j) 0
-  word-of-other g j h l = word-other (g * recordWords + j) (omega arith) (omega arith) (omega arith) (omega arith) (omega arith)
+  word-of-other : (g j : ℕ) → g ≢ f → j < recordWords → recordWord (putRecord rs f r) g j ≡ recordWord rs g j
+  unfolding putRecord
+  word-of-other g j h l = putWords-other rs (f * recordWords) 0 (wordsOf r) (g * recordWords + j) (apart (lt-or-le g f))
+    where
+      apart : (g < f) ⊎ (f ≤ g) → (g * recordWords + j < f * recordWords + 0) ⊎ (f * recordWords + 0 + recordWords ≤ g * recordWords + j)
+      apart (inl less) = inl (omega arith)
+      apart (inr more) = inr (omega arith)
 
   pub recordAt-putRecord-other : (g : ℕ) → g ≢ f → recordAt (putRecord rs f r) g ≡ recordAt rs g
-  unfolding recordAt
   recordAt-putRecord-other g h =
-      let held = word-other (g * recordWords) (omega arith) (omega arith) (omega arith) (omega arith) (omega arith) in
-      rw (held, word-of-other g 1 h (omega arith), word-of-other g 2 h (omega arith), word-of-other g 3 h (omega arith), word-of-other g 4 h (omega arith))
+      rw (recordAt-words, recordAt-words rs g, word-of-other g 0 h (omega arith), word-of-other g 1 h (omega arith), word-of-other g 2 h (omega arith), word-of-other g 3 h (omega arith), word-of-other g 4 h (omega arith), word-of-other g 5 h (omega arith), word-of-other g 6 h (omega arith))
 
 -- records that keep the rules still do with one that keeps them in the place of another
 pub putRecord-rules : (b : Board) (rs : List ℕ) (f : ℕ) (r : FrameRecord) → length rs ≡ b .frames * recordWords → f < b .frames
@@ -81,36 +106,24 @@ unfolding startRecords
 length-startRecords zero n = refl
 length-startRecords (suc frames) n = let ih = length-startRecords frames n in omega arith
 
--- a word past those of the first record
-word-later : (frames n i j : ℕ) → j ≡ i + recordWords → getD (startRecords (suc frames) n) j 0 ≡ getD (startRecords frames n) i 0
-unfolding startRecords
-word-later frames n i j h = let e : j ≡ suc (suc (suc (suc (suc i)))) = omega arith in rw e
-
 -- every record is that of the start
 pub recordAt-start : (frames n f : ℕ) → f < frames → recordAt (startRecords frames n) f ≡ startRecord n
 unfolding recordAt startRecords
 recordAt-start zero n f h = absurd (omega arith)
 recordAt-start (suc frames) n zero h = refl
 recordAt-start (suc frames) n (suc f) h =
-    let a = f * recordWords in
-    let b = suc f * recordWords in
-    let held = word-later frames n a b (omega arith) in
-    let stale = word-later frames n (a + 1) (b + 1) (omega arith) in
-    let dirty = word-later frames n (a + 2) (b + 2) (omega arith) in
-    let busy = word-later frames n (a + 3) (b + 3) (omega arith) in
-    let colour = word-later frames n (a + 4) (b + 4) (omega arith) in
-    rw (held, stale, dirty, busy, colour) (recordAt-start frames n f (omega arith))
+    let e : suc f * recordWords ≡ suc (suc (suc (suc (suc (suc (suc (f * recordWords))))))) = omega arith in rw e (recordAt-start frames n f (omega arith))
 
 -- and each word is what its place tells
 pub start-words : (frames n : ℕ) → tabulate (frames * recordWords) (startWord n) ≡ startRecords frames n
 unfolding startRecords tabulate
 start-words zero n = refl
 start-words (suc frames) n =
-    let e : suc frames * recordWords ≡ suc (suc (suc (suc (suc (frames * recordWords))))) = omega arith in
-    rw e (ap (λ (l : List ℕ). 0 ∷ (0 ∷ (0 ∷ (0 ∷ (n ∷ l))))) (ap (tabulate (frames * recordWords)) (λ j i. again i j) ∙ start-words frames n))
+    let e : suc frames * recordWords ≡ suc (suc (suc (suc (suc (suc (suc (frames * recordWords))))))) = omega arith in
+    rw e (ap (λ (l : List ℕ). wordsOf (startRecord n) ++ l) (ap (tabulate (frames * recordWords)) (λ j i. again i j) ∙ start-words frames n))
   where
-    again : (i : ℕ) → startWord n (suc (suc (suc (suc (suc i))))) ≡ startWord n i
-    again i = let e : suc (suc (suc (suc (suc i)))) % recordWords ≡ i % recordWords = omega arith in rw e
+    again : (i : ℕ) → startWord n (suc (suc (suc (suc (suc (suc (suc i))))))) ≡ startWord n i
+    again i = let e : suc (suc (suc (suc (suc (suc (suc i)))))) % recordWords ≡ i % recordWords = omega arith in rw e
 
 pub start-records : StartRecords
 start-records frames n = (start-words frames n, recordAt-start frames n)

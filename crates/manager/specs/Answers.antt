@@ -3,7 +3,7 @@
 use mathlib.Core.Bool.{Bool, true, false}
 use Prim.Native.Nat.{ℕ}
 use Rattle.page_model.specs.declared.Op.{Op}
-use Rattle.page_model.specs.declared.Op.the-variants.{None, Flush, Purge}
+use Rattle.page_model.specs.declared.Op.the-variants.{None, Flush, Purge, PurgeInstructions}
 use Rattle.page_model.specs.declared.Ops.{Ops}
 use Rattle.manager.specs.declared.Answer.{Answer}
 use Rattle.manager.specs.declared.Answer.the-variants.{Refused, Accepted}
@@ -27,15 +27,16 @@ abbrev pub numberOf : Outcome → ℕ
 numberOf (refused n) = n
 numberOf (accepted f ops) = 0
 
--- an operation on a frame and a colour, or none; document 01 calls it an order
+-- an operation on a frame and a colour, or none; document 01 calls it an order. Request N8's purge in the instruction cache is one of its own.
 pub data FrameOperation : Type 0 where
   none : FrameOperation
-  flush purge : ℕ → ℕ → FrameOperation
+  flush purge purgeInstructions : ℕ → ℕ → FrameOperation
 
 abbrev pub operationOn : ℕ → Op → FrameOperation
 operationOn f None = none
 operationOn f (Flush c) = flush f c
 operationOn f (Purge c) = purge f c
+operationOn f (PurgeInstructions c) = purgeInstructions f c
 
 -- the operations with their frame: of a refusal none, on frame 0
 abbrev pub operationsOf : Outcome → FrameOps

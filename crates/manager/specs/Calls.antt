@@ -10,17 +10,19 @@ use Rattle.page_model.specs.declared.Ops.{Ops}
 use Rattle.page_model.specs.Step.{stepped}
 use Rattle.page_model.specs.Busy.{reading, writing}
 use Rattle.page_model.specs.Record.{freed}
-use Rattle.page_model.specs.Table.{Step, read, write, deviceRead, deviceWrite, deviceWritePart, beginRead, beginWrite}
+use Rattle.page_model.specs.Table.{Step, read, write, deviceRead, deviceWrite, deviceWritePart, beginRead, beginWrite, fetch}
 use Rattle.mapping.specs.declared.Mapping.{Mapping}
 use Rattle.mapping.specs.Change.{insertAt, remove}
 use Rattle.mapping.specs.Lookup.{lookup, placeOf, listedMapping, placeFor}
+use Rattle.manager.specs.declared.AccessKind.{AccessKind}
+use Rattle.manager.specs.declared.AccessKind.the-variants as access
 use Rattle.manager.specs.declared.Change.{Change}
 use Rattle.manager.specs.declared.Plan.{Plan}
 use Rattle.manager.specs.declared.Plan.the-variants as step-plan
 use Rattle.manager.specs.declared.ListPlan.{ListPlan}
 use Rattle.manager.specs.declared.ListPlan.the-variants as list-plan
 use Rattle.manager.specs.Answers.{Outcome, refused, accepted}
-use Rattle.manager.specs.Refusals.{firstRefusal, mapCauses, pageCauses, readCauses, writeCauses, transferCauses, partCauses, wordCauses, endCauses}
+use Rattle.manager.specs.Refusals.{firstRefusal, mapCauses, pageCauses, readCauses, writeCauses, fetchCauses, transferCauses, partCauses, wordCauses, endCauses}
 use Rattle.manager.specs.Tables.{Tables, tables, recordAt, putRecord, refill}
 
 -- ---- steps of a frame's record
@@ -43,9 +45,15 @@ abbrev pub planWrite : Board → Tables → ℕ → ℕ → Plan
 planWrite b t space page =
     planned (firstRefusal (writeCauses b t space page)) (changeOf b t (listedMapping (t .list) space page .frame) (write (colourOf b page)))
 
--- either of the two
-abbrev pub planAccess : Board → Tables → ℕ → ℕ → Bool → Plan
-planAccess b t space page writes = cond writes (planWrite b t space page) (planRead b t space page)
+abbrev pub planFetch : Board → Tables → ℕ → ℕ → Plan
+planFetch b t space page =
+    planned (firstRefusal (fetchCauses b t space page)) (changeOf b t (listedMapping (t .list) space page .frame) (fetch (colourOf b page)))
+
+-- each of the three
+abbrev pub planAccess : Board → Tables → ℕ → ℕ → AccessKind → Plan
+planAccess b t space page access.Read = planRead b t space page
+planAccess b t space page access.Write = planWrite b t space page
+planAccess b t space page access.Fetch = planFetch b t space page
 
 -- a transfer of a page, or the beginning of one
 abbrev pub planTransfer : Board → Tables → ℕ → Step → Plan
@@ -113,6 +121,9 @@ readCall b t space page = stepResult b t (planRead b t space page)
 
 abbrev pub writeCall : Board → Tables → ℕ → ℕ → Result
 writeCall b t space page = stepResult b t (planWrite b t space page)
+
+abbrev pub fetchCall : Board → Tables → ℕ → ℕ → Result
+fetchCall b t space page = stepResult b t (planFetch b t space page)
 
 abbrev pub deviceReadCall : Board → Tables → ℕ → Result
 deviceReadCall b t frame = stepResult b t (planTransfer b t frame deviceRead)

@@ -7,10 +7,10 @@ use lib.ListN.{length}
 use Rattle.board.specs.declared.Board.{Board}
 use Rattle.board.specs.Board.{spaces, pages, colourOf}
 use Rattle.page_model.specs.Busy.{free, bars}
-use Rattle.page_model.specs.Table.{Step, read, write, deviceWritePart}
+use Rattle.page_model.specs.Table.{Step, read, write, deviceWritePart, fetch}
 use Rattle.mapping.specs.declared.MappingList.{MappingList}
 use Rattle.mapping.specs.Batch.{batchSize}
-use Rattle.mapping.specs.Entry.{capacity, readOnly, readWrite}
+use Rattle.mapping.specs.Entry.{capacity, isRights, readWrite, readFetch}
 use Rattle.mapping.specs.Lookup.{isMapped, listedMapping}
 use Rattle.manager.specs.Tables.{Tables, recordAt, lengthsRight, rulesKept}
 
@@ -36,7 +36,7 @@ orElse n later = cond (not (eqb n 0)) n later
 
 -- the numbers in the order in which document 01, with the requests, has them tested
 abbrev pub refusalOrder : List ℕ
-refusalOrder = 1 ∷ 12 ∷ 2 ∷ 3 ∷ 4 ∷ 5 ∷ 6 ∷ 13 ∷ 7 ∷ 8 ∷ 9 ∷ 10 ∷ 15 ∷ 16 ∷ []
+refusalOrder = 1 ∷ 12 ∷ 2 ∷ 3 ∷ 4 ∷ 5 ∷ 6 ∷ 13 ∷ 7 ∷ 8 ∷ 9 ∷ 10 ∷ 17 ∷ 15 ∷ 16 ∷ []
 
 -- the first place of a number in a list, past its end where it is not listed
 unfoldable pub placeIn : List ℕ → ℕ → ℕ
@@ -63,9 +63,6 @@ outOfSpace space page = leb spaces space || leb pages page
 abbrev pub outOfPage : Board → ℕ → ℕ → Bool
 outOfPage b first number = eqb number 0 || ltb (b .page) (first + number)
 
-abbrev pub isRight : ℕ → Bool
-isRight rights = eqb rights readOnly || eqb rights readWrite
-
 -- ---- the causes that lie in a call's numbers, the list and the records: each has its number in document 01's table or in a request
 
 abbrev pub spaceCause : ℕ → ℕ → Cause
@@ -75,7 +72,7 @@ abbrev pub frameCause : Board → ℕ → Cause
 frameCause b frame = 4 if leb (b .frames) frame
 
 abbrev pub rightsCause : ℕ → Cause
-rightsCause rights = 5 if not (isRight rights)
+rightsCause rights = 5 if not (isRights rights)
 
 -- an offset in a page, or a line, past its limit
 abbrev pub offsetCause : ℕ → ℕ → Cause
@@ -93,8 +90,12 @@ unmappedCause l space page = 8 if not (isMapped l space page)
 abbrev pub fullCause : MappingList → Cause
 fullCause l = 9 if eqb (l .count) capacity
 
-abbrev pub readOnlyCause : MappingList → ℕ → ℕ → Cause
-readOnlyCause l space page = 10 if eqb (listedMapping l space page .rights) readOnly
+-- a write through rights other than those to read and write, and a fetch through others than those to read and fetch (request N8)
+abbrev pub writeRightsCause : ℕ → Cause
+writeRightsCause rights = 10 if not (eqb rights readWrite)
+
+abbrev pub fetchRightsCause : ℕ → Cause
+fetchRightsCause rights = 17 if not (eqb rights readFetch)
 
 -- request N6: the mark of the frame's record bars this step
 abbrev pub busyCause : List ℕ → ℕ → Step → Cause
@@ -145,8 +146,16 @@ unfoldable pub writeCauses : Board → Tables → ℕ → ℕ → List Cause
 unfolding pageCauses
 writeCauses b t space page =
     pageCauses b t space page
-    ++ readOnlyCause (t .list) space page
+    ++ writeRightsCause (listedMapping (t .list) space page .rights)
     ∷ busyCause (t .records) (listedMapping (t .list) space page .frame) (write (colourOf b page))
+    ∷ []
+
+unfoldable pub fetchCauses : Board → Tables → ℕ → ℕ → List Cause
+unfolding pageCauses
+fetchCauses b t space page =
+    pageCauses b t space page
+    ++ fetchRightsCause (listedMapping (t .list) space page .rights)
+    ∷ busyCause (t .records) (listedMapping (t .list) space page .frame) (fetch (colourOf b page))
     ∷ []
 
 -- a transfer of a page, and the beginning of one

@@ -6,7 +6,8 @@ ghost use Rattle.mapping.specs.Batch.{itemsOf};
 ghost use Rattle.manager.specs.Answers.{outcome};
 ghost use Rattle.manager.specs.Batch.{batchResult, mapAllCall};
 ghost use Rattle.manager.specs.Tables.{tables, tabulate, startWord};
-ghost use Rattle.manager.specs.Calls.{callResult, mapCall, unmapCall, readCall, writeCall, deviceReadCall, deviceWriteCall, deviceWritePartCall, beginReadCall, beginWriteCall, moveWordCall, bringWordCall, takeWordCall, endTransferCall};
+ghost use Rattle.manager.specs.Calls.{callResult, mapCall, unmapCall, readCall, writeCall, fetchCall, deviceReadCall, deviceWriteCall, deviceWritePartCall, beginReadCall, beginWriteCall, moveWordCall, bringWordCall, takeWordCall, endTransferCall};
+use super::AccessKind;
 use super::Answer;
 use super::ListPlan;
 use super::Listed;
@@ -115,7 +116,15 @@ pub fn read(
         ≡ readCall board01 (tables list (now (records .entry)) (now (protections .entry))) space page ⌝ }
 {
     let seen = mapping::look(BOARD01, list, space, page);
-    let plan = plan_access(BOARD01, seen, records, protections, space, page, false);
+    let plan = plan_access(
+        BOARD01,
+        seen,
+        records,
+        protections,
+        space,
+        page,
+        AccessKind::Read,
+    );
     carry_out(COLOURS, list, records, protections, plan)
 }
 
@@ -131,7 +140,39 @@ pub fn write(
         ≡ writeCall board01 (tables list (now (records .entry)) (now (protections .entry))) space page ⌝ }
 {
     let seen = mapping::look(BOARD01, list, space, page);
-    let plan = plan_access(BOARD01, seen, records, protections, space, page, true);
+    let plan = plan_access(
+        BOARD01,
+        seen,
+        records,
+        protections,
+        space,
+        page,
+        AccessKind::Write,
+    );
+    carry_out(COLOURS, list, records, protections, plan)
+}
+
+// The processor fetches an instruction of a page of a space.
+pub fn fetch(
+    list: MappingList,
+    records: &mut [u32],
+    protections: &mut [u8],
+    space: u8,
+    page: u16,
+) -> Answer
+    ensures { λ r. ⌜ callResult (outcome r) (tables list (now (records .exit)) (now (protections .exit)))
+        ≡ fetchCall board01 (tables list (now (records .entry)) (now (protections .entry))) space page ⌝ }
+{
+    let seen = mapping::look(BOARD01, list, space, page);
+    let plan = plan_access(
+        BOARD01,
+        seen,
+        records,
+        protections,
+        space,
+        page,
+        AccessKind::Fetch,
+    );
     carry_out(COLOURS, list, records, protections, plan)
 }
 

@@ -17,6 +17,7 @@ pub use calls::device_read;
 pub use calls::device_write;
 pub use calls::device_write_part;
 pub use calls::end_transfer;
+pub use calls::fetch;
 pub use calls::map;
 pub use calls::map_all;
 pub use calls::read;
@@ -39,6 +40,13 @@ pub struct FrameOps {
 pub enum Answer {
     Refused(u8),
     Accepted(FrameOps),
+}
+
+// The accesses of the processor.
+pub enum AccessKind {
+    Read,
+    Write,
+    Fetch,
 }
 
 // What a step makes of one frame's record.

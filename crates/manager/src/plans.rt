@@ -9,6 +9,7 @@ ghost use Rattle.mapping.specs.Entry.{capacity};
 ghost use Rattle.mapping.specs.Look.{look};
 ghost use Rattle.manager.specs.Calls.{planMap, planUnmap, planned, planAccess, planTransfer, beginStep, planDeviceWritePart};
 ghost use Rattle.manager.specs.Tables.{tables};
+use super::AccessKind;
 use super::Change;
 use super::ListPlan;
 use super::Plan;
@@ -63,7 +64,7 @@ pub fn plan_unmap(
     ListPlan::Place(seen.place)
 }
 
-// What an access of the processor, a write or a read, makes of the page's frame, where seen is what a look at the list told of the page. The list
+// What an access of the processor makes of the page's frame, where seen is what a look at the list told of the page. The list
 // itself is not handed on: that would copy it once more.
 pub fn plan_access(
     board: Board,
@@ -72,27 +73,34 @@ pub fn plan_access(
     protections: &[u8],
     space: u8,
     page: u16,
-    writes: bool,
+    kind: AccessKind,
 ) -> Plan
     requires { ⌜ Regular board ⌝ }
     ensures { λ r. ⌜ ((list : any.MappingList) → length (list .items) ≡ capacity → seen ≡ look board list space page
-        → r ≡ planAccess board (tables list (now (records .entry)) (now (protections .entry))) space page writes) ⌝ }
+        → r ≡ planAccess board (tables list (now (records .entry)) (now (protections .entry))) space page kind) ⌝ }
 {
-    let refusal = access_refusal(board, seen, records, protections, space, page, writes);
+    let refusal = access_refusal(board, seen, records, protections, space, page, kind);
     if refusal != 0 {
         return Plan::Refused(refusal);
     }
     let frame = seen.mapping.frame;
     let colour = board::colour_of(board, page as usize);
     let record = record_at(records, frame);
-    if writes {
-        return step_of(frame, record.is_busy(), record.write(board.colours, colour));
+    match kind {
+        AccessKind::Read => step_of(
+            frame,
+            record.bars_read(),
+            record.read(board.colours, colour),
+        ),
+        AccessKind::Write => {
+            step_of(frame, record.is_busy(), record.write(board.colours, colour))
+        }
+        AccessKind::Fetch => step_of(
+            frame,
+            record.bars_fetch(),
+            record.fetch(board.colours, colour),
+        ),
     }
-    step_of(
-        frame,
-        record.bars_read(),
-        record.read(board.colours, colour),
-    )
 }
 
 // What a device read makes of a frame.

@@ -3,15 +3,15 @@ ghost use mathlib.Core.Path.{_≡_};
 ghost use lib.ListN.{length, getD, set};
 ghost use Rattle.board.specs.declared.Board as any;
 ghost use Rattle.board.specs.Board.{Regular};
-ghost use Rattle.manager.specs.Tables.{recordAt, putRecord, startWord, recordsKeepRules, mappingState, protection, protectionAt, tabulate, Colours};
+ghost use Rattle.manager.specs.Tables.{recordAt, putRecord, startWord, recordsKeepRules, mappingState, instructionsOf, protection, protectionAt, tabulate, Colours};
 use board::Board;
 use mapping::Mapping;
 use mapping::MappingList;
 use page_model::FrameRecord;
 use page_model::masks::Masks;
 
-// The words of a record: held, stale, dirty, busy, dirty colour.
-pub const RECORD_WORDS: usize = 5;
+// The words of a record: held, stale, dirty, busy, dirty colour; held and stale in the instruction cache.
+pub const RECORD_WORDS: usize = 7;
 
 // The word at a place, 0 past the end.
 fn word_at(words: &[u32], i: usize) -> u32
@@ -34,27 +34,37 @@ pub fn record_at(records: &[u32], frame: u8) -> FrameRecord
     ensures { λ r. ⌜ r ≡ recordAt (now (records .entry)) frame ⌝ }
 {
     let at = frame as usize * RECORD_WORDS;
-    if at + 4 < records.len() {
+    if at + 6 < records.len() {
         let masks = Masks {
             held: records[at],
             stale: records[at + 1],
+        };
+        let instructions = Masks {
+            held: records[at + 5],
+            stale: records[at + 6],
         };
         return FrameRecord {
             masks,
             dirty: records[at + 2],
             busy: records[at + 3],
             dirty_colour: records[at + 4],
+            instructions,
         };
     }
     let masks = Masks {
         held: word_at(records, at),
         stale: word_at(records, at + 1),
     };
+    let instructions = Masks {
+        held: word_at(records, at + 5),
+        stale: word_at(records, at + 6),
+    };
     FrameRecord {
         masks,
         dirty: word_at(records, at + 2),
         busy: word_at(records, at + 3),
         dirty_colour: word_at(records, at + 4),
+        instructions,
     }
 }
 
@@ -68,6 +78,8 @@ pub fn put_record(records: &mut [u32], frame: u8, record: FrameRecord)
     put_word(records, at + 2, record.dirty);
     put_word(records, at + 3, record.busy);
     put_word(records, at + 4, record.dirty_colour);
+    put_word(records, at + 5, record.instructions.held);
+    put_word(records, at + 6, record.instructions.stale);
 }
 
 // Makes every record that of the start: nothing cached, and no dirty colour.
@@ -108,16 +120,17 @@ pub fn records_keep_rules(board: Board, records: &[u32]) -> bool
     true
 }
 
-// What a mapping lets its program do without a stop: 0 nothing, 1 read, 2 read and write. The sum of two tests, not a branch on
+// What a mapping lets its program do without a stop: 0 nothing, 1 read, 2 read and write, and 4 more to fetch. The sum of three tests, not a branch on
 // what the record holds, which a processor could not foresee.
 fn protection_of(colours: usize, records: &[u32], m: Mapping) -> u8
     requires { ⌜ Colours colours ⌝ }
-    ensures { λ r. ⌜ ((b : any.Board) → b .colours ≡ colours → r ≡ protection (mappingState b (now (records .entry)) m) (m .rights)) ⌝ }
+    ensures { λ r. ⌜ ((b : any.Board) → b .colours ≡ colours → r ≡ protection (mappingState b (now (records .entry)) m) (instructionsOf b (now (records .entry)) m) (m .rights)) ⌝ }
 {
     let r = record_at(records, m.frame);
     let colour = m.page as usize % colours;
     let written = r.holds_dirty(colour) & (m.rights == mapping::READ_WRITE);
-    r.holds(colour) as u8 + written as u8
+    let fetched = r.holds_instructions(colour) & (m.rights == mapping::READ_FETCH);
+    r.holds(colour) as u8 + written as u8 + 4 * (fetched as u8)
 }
 
 // Fills the whole buffer of protections as the list and the records say, where a page's colour is its number modulo colours. The list is read

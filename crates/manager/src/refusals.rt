@@ -3,8 +3,9 @@ ghost use mathlib.Core.Bool.{cond};
 ghost use mathlib.Core.List.{[], _∷_, _++_};
 ghost use mathlib.Core.Path.{_≡_};
 ghost use Rattle.board.specs.Board.{Regular};
-ghost use Rattle.manager.specs.Refusals.{firstRefusal, orElse, refusalPlace, frameCause, partCause, offsetCause, wordCause, endCause, outOfSpace, outOfPage, isRight};
-ghost use Rattle.manager.specs.Scaffold.Told.{toldTables, toldMapping, toldPage, toldAccess};
+ghost use Rattle.manager.specs.Refusals.{firstRefusal, orElse, refusalPlace, frameCause, partCause, offsetCause, wordCause, endCause, outOfSpace, outOfPage};
+ghost use Rattle.manager.specs.Scaffold.Told.{toldTables, toldMapping, toldPage, toldRights, toldAccess};
+use super::AccessKind;
 use super::records::RECORD_WORDS;
 use super::records::record_at;
 use super::records::records_keep_rules;
@@ -14,9 +15,9 @@ use mapping::Seen;
 use page_model::busy;
 
 // How many refusals there are, and their numbers in the order in which they are tested.
-const REFUSALS: usize = 14;
+const REFUSALS: usize = 15;
 
-const ORDER: [u8; REFUSALS] = [1, 12, 2, 3, 4, 5, 6, 13, 7, 8, 9, 10, 15, 16];
+const ORDER: [u8; REFUSALS] = [1, 12, 2, 3, 4, 5, 6, 13, 7, 8, 9, 10, 17, 15, 16];
 
 // The place of a refusal in the order, past its end where it is not listed.
 pub fn place(number: u8) -> usize
@@ -69,7 +70,7 @@ pub fn mapping_refusal(board: Board, seen: Seen, m: Mapping) -> u8
 {
     let full = first(seen.count == mapping::CAPACITY, 9, 0);
     let mapped = first(seen.mapped, 7, full);
-    let rights = first(!is_right(m.rights), 5, mapped);
+    let rights = first(!mapping::is_rights(m.rights), 5, mapped);
     let frame = first(m.frame as usize >= board.frames, 4, rights);
     first(out_of_space(m.space, m.page), 3, frame)
 }
@@ -93,7 +94,7 @@ pub fn page_refusal(
     )
 }
 
-// The refusal of an access of the processor, a write or a read, but for the frame's busy mark.
+// The refusal of an access of the processor but for the frame's busy mark.
 pub fn access_refusal(
     board: Board,
     seen: Seen,
@@ -101,15 +102,26 @@ pub fn access_refusal(
     protections: &[u8],
     space: u8,
     page: u16,
-    writes: bool,
+    kind: AccessKind,
 ) -> u8
     requires { ⌜ Regular board ⌝ }
-    ensures { λ r. ⌜ r ≡ firstRefusal (toldTables board (seen .kept) (now (records .entry)) (now (protections .entry)) ++ toldAccess writes space page seen) ⌝ }
+    ensures { λ r. ⌜ r ≡ firstRefusal (toldTables board (seen .kept) (now (records .entry)) (now (protections .entry)) ++ toldAccess kind space page seen) ⌝ }
 {
     or_else(
         page_refusal(board, seen, records, protections, space, page),
-        first(writes & (seen.mapping.rights == mapping::READ_ONLY), 10, 0),
+        rights_refusal(kind, seen.mapping.rights),
     )
+}
+
+// The refusal of an access in the rights of its mapping.
+fn rights_refusal(kind: AccessKind, rights: u8) -> u8
+    ensures { λ r. ⌜ r ≡ firstRefusal (toldRights kind rights) ⌝ }
+{
+    match kind {
+        AccessKind::Read => 0,
+        AccessKind::Write => first(rights != mapping::READ_WRITE, 10, 0),
+        AccessKind::Fetch => first(rights != mapping::READ_FETCH, 17, 0),
+    }
 }
 
 // The refusal of a device's transfer of a page but for the frame's busy mark.
@@ -193,16 +205,6 @@ pub fn or_else(refusal: u8, later: u8) -> u8
     ensures { λ r. ⌜ r ≡ orElse refusal later ⌝ }
 {
     first(refusal != 0, refusal, later)
-}
-
-// Whether rights are to read, or to read and write.
-fn is_right(rights: u8) -> bool
-    ensures { λ r. ⌜ r ≡ isRight rights ⌝ }
-{
-    if rights == mapping::READ_ONLY {
-        return true;
-    }
-    rights == mapping::READ_WRITE
 }
 
 // Whether the space or the page is past its limit.

@@ -1,17 +1,23 @@
 -- What the tests of one mapping say.
-use mathlib.Core.Path.{_≡_, refl, sym, ap, ap₂, subst, _∙_}
-use mathlib.Core.Bool.{Bool, true, false, _&&_, _||_, and-true, and-false, or-true, false≢true}
-use mathlib.Core.Logic.{inl, inr, ⊎-elim}
-use Prim.Native.Nat.{ℕ, zero, suc, _+_}
+use mathlib.Core.Path.{_≡_, refl, sym, ap₂, subst, _∙_}
+use mathlib.Core.Bool.{Bool, true, false, _&&_, and-true, and-false, false≢true}
+use Prim.Native.Nat.{ℕ, zero, suc, _+_, _≤_}
 use native.Mathlib.Numerals.{unary-clauses}
 use native.Mathlib.Omega.{arith}
 use lib.Dec.{eqb}
-use borrow.Author.Tests.{ltb-true, lt-ltb, eqb-true, eq-eqb, ne-eqb}
+use borrow.Author.Tests.{ltb-true, lt-ltb, leb-true, le-leb, eqb-true, eq-eqb, ne-eqb}
 use Rattle.board.specs.declared.Board.{Board}
 use Rattle.mapping.specs.declared.Mapping.{Mapping}
-use Rattle.mapping.specs.Entry.{readOnly, readWrite, zeroMapping, inRange, isZero, isAt}
+use Rattle.mapping.specs.Entry.{readOnly, readFetch, isRights, zeroMapping, inRange, isZero, isAt}
 use Rattle.mapping.specs.Facts.{InRange, MapsTo}
-use Rattle.mapping.proofs.Tests.{and-both, or-either, chain-last}
+use Rattle.mapping.proofs.Tests.{and-both, chain-last}
+
+-- rights as a test and as a range
+pub rights-known : (rights : ℕ) → isRights rights ≡ true → (readOnly ≤ rights) × (rights ≤ readFetch)
+rights-known rights e = let r = and-both _ _ e in (leb-true _ _ (r .0), leb-true _ _ (r .1))
+
+pub known-rights : (rights : ℕ) → (readOnly ≤ rights) × (rights ≤ readFetch) → isRights rights ≡ true
+known-rights rights r = ap₂ _&&_ (le-leb _ _ (r .0)) (le-leb _ _ (r .1))
 
 module _ (b : Board) (m : Mapping) where
   pub inRange-true : inRange b m ≡ true → InRange b m
@@ -24,19 +30,13 @@ module _ (b : Board) (m : Mapping) where
         space-lt = ltb-true _ _ (u .0);
         page-lt = ltb-true _ _ (u .1);
         frame-lt = ltb-true _ _ (t .1);
-        rights-of = ⊎-elim (λ r. inl (eqb-true _ _ r)) (λ r. inr (eqb-true _ _ r)) (or-either _ _ (s .1));
+        rights-of = rights-known (m .rights) (s .1);
       }
 
   pub range-inRange : InRange b m → inRange b m ≡ true
   unfolding inRange
   range-inRange r =
-      sym (chain-last _ _ _ _ true (lt-ltb _ _ (r .space-lt)) (lt-ltb _ _ (r .page-lt)) (lt-ltb _ _ (r .frame-lt)) (sym (⊎-elim read write (r .rights-of))))
-    where
-      read : m .rights ≡ readOnly → (eqb (m .rights) readOnly || eqb (m .rights) readWrite) ≡ true
-      read e = ap (λ (t : Bool). t || eqb (m .rights) readWrite) (eq-eqb _ _ e)
-
-      write : m .rights ≡ readWrite → (eqb (m .rights) readOnly || eqb (m .rights) readWrite) ≡ true
-      write e = ap (λ (t : Bool). eqb (m .rights) readOnly || t) (eq-eqb _ _ e) ∙ or-true (eqb (m .rights) readOnly)
+      sym (chain-last _ _ _ _ true (lt-ltb _ _ (r .space-lt)) (lt-ltb _ _ (r .page-lt)) (lt-ltb _ _ (r .frame-lt)) (sym (known-rights (m .rights) (r .rights-of))))
 
 -- the only mapping whose fields are all 0
 pub isZero-true : (m : Mapping) → isZero m ≡ true → m ≡ zeroMapping

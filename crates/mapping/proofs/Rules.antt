@@ -1,33 +1,63 @@
 -- The test of the list's rules and the facts that it says, for any board and any list.
-use mathlib.Core.Path.{_≡_, refl, sym, ap, _∙_}
-use mathlib.Core.Bool.{Bool, true, false, _||_, or-true, and-false}
+use mathlib.Core.Path.{_≡_, refl, sym, ap, _∙_, fun-ext}
+use mathlib.Core.Bool.{Bool, true, false, _&&_, _||_, or-true, and-false}
+use mathlib.Core.List.{List, [], _∷_}
 use mathlib.Core.Logic.{⊎-elim}
-use Prim.Native.Nat.{ℕ, _≤_, _<_}
+use Prim.Native.Nat.{ℕ, zero, suc, _≤_, _<_}
 use native.Mathlib.Omega.{arith}
 use native.Mathlib.Nat.{le-refl}
 use lib.Dec.{ltb}
-use lib.ListN.{length, List·getD-eq-default}
+use lib.ListN.{length, getD, drop, List·getD-eq-default}
 use borrow.Author.Tests.{leb-true, le-leb, lt-leb, lt-ltb, le-ltb}
+use Rattle.bits.specs.Mask.{all}
 use Rattle.bits.proofs.Mask.{all-at, all-of}
 use Rattle.board.specs.declared.Board.{Board}
 use Rattle.mapping.specs.declared.Mapping.{Mapping}
 use Rattle.mapping.specs.declared.MappingList.{MappingList}
 use Rattle.mapping.specs.Entry.{capacity, zeroMapping, isZero, mappingAt}
-use Rattle.mapping.specs.Rules.{allInRange, rising, restZero, keepsRules}
+use Rattle.mapping.specs.Rules.{allInRange, rising, everyZero, restZero, keepsRules}
 use Rattle.mapping.specs.Facts.{Rules}
 use Rattle.mapping.proofs.Tests.{chain-last, and-both, lt-or-le}
 use Rattle.mapping.proofs.Entry.{inRange-true, range-inRange, isZero-true, isZero-zero}
 use Rattle.mapping.proofs.Order.{neighbours-order}
 
+-- ---- the places past the count, one by one
+
+at-each : (ms : List Mapping) → everyZero ms ≡ all (length ms) (λ i. isZero (getD ms i zeroMapping))
+unfolding everyZero all
+at-each [] = refl
+at-each (m ∷ ms) = ap (λ (t : Bool). isZero m && t) (at-each ms)
+
+-- two tests that agree at each place
+all-same : (n : ℕ) (p q : ℕ → Bool) → ((i : ℕ) → p i ≡ q i) → all n p ≡ all n q
+all-same n p q e = ap (all n) (fun-ext e)
+
+suc-ltb : (i c : ℕ) → ltb i c ≡ ltb (suc i) (suc c)
+suc-ltb i c = ⊎-elim (λ h. lt-ltb i c h ∙ sym (lt-ltb (suc i) (suc c) (omega arith))) (λ h. le-ltb i c h ∙ sym (le-ltb (suc i) (suc c) (omega arith))) (lt-or-le i c)
+
+past-each : (ms : List Mapping) (c : ℕ) → everyZero (drop c ms) ≡ all (length ms) (λ i. ltb i c || isZero (getD ms i zeroMapping))
+unfolding everyZero all
+past-each [] zero = refl
+past-each [] (suc c) = refl
+past-each (m ∷ ms) zero =
+    at-each (m ∷ ms) ∙ all-same (length (m ∷ ms)) _ _ (λ i. ap (λ (t : Bool). t || isZero (getD (m ∷ ms) i zeroMapping)) (sym (le-ltb i 0 (omega arith))))
+past-each (m ∷ ms) (suc c) =
+    past-each ms c
+    ∙ all-same (length ms) _ _ (λ i. ap (λ (t : Bool). t || isZero (getD ms i zeroMapping)) (suc-ltb i c))
+    ∙ ap (λ (t : Bool). (t || isZero m) && all (length ms) (λ i. ltb (suc i) (suc c) || isZero (getD ms i zeroMapping))) (sym (lt-ltb 0 (suc c) (omega arith)))
+
+pub rest-at-each : (l : MappingList) → restZero l ≡ all (length (l .items)) (λ i. ltb i (l .count) || isZero (mappingAt l i))
+unfolding restZero
+rest-at-each l = past-each (l .items) (l .count)
+
 module _ (b : Board) (l : MappingList) where
   -- ---- from the test to the facts
 
   zero-past : restZero l ≡ true → (i : ℕ) → l .count ≤ i → mappingAt l i ≡ zeroMapping
-  unfolding restZero
   zero-past e i h = ⊎-elim inside (λ k. List·getD-eq-default (l .items) zeroMapping k) (lt-or-le i (length (l .items)))
     where
       inside : i < length (l .items) → mappingAt l i ≡ zeroMapping
-      inside k = isZero-true _ (ap (λ (t : Bool). t || isZero (mappingAt l i)) (sym (le-ltb _ _ h)) ∙ all-at _ _ e i k)
+      inside k = isZero-true _ (ap (λ (t : Bool). t || isZero (mappingAt l i)) (sym (le-ltb _ _ h)) ∙ all-at _ _ (sym (rest-at-each l) ∙ e) i k)
 
   -- what a list that passes the test keeps
   pub keepsRules-true : keepsRules b l ≡ true → Rules b l
@@ -64,8 +94,7 @@ module _ (b : Board) (l : MappingList) where
   -- ---- from the facts to the test
 
   all-zero : Rules b l → restZero l ≡ true
-  unfolding restZero
-  all-zero r = all-of _ _ (λ i h. ⊎-elim listed rest (lt-or-le i (l .count)))
+  all-zero r = rest-at-each l ∙ all-of _ _ (λ i h. ⊎-elim listed rest (lt-or-le i (l .count)))
     where
       test : ℕ → Bool
       test i = ltb i (l .count) || isZero (mappingAt l i)
@@ -89,4 +118,4 @@ module _ (b : Board) (l : MappingList) where
       past : length (l .items) < l .count → l .count ≤ length (l .items)
       past h =
           let e = ap (λ (m : Mapping). m .rights) (List·getD-eq-default (l .items) zeroMapping (le-refl (length (l .items)))) in
-          ⊎-elim (λ f. absurd (omega arith)) (λ f. absurd (omega arith)) (r .in-range (length (l .items)) h .rights-of)
+          let f = r .in-range (length (l .items)) h .rights-of in absurd (omega arith)

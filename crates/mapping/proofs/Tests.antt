@@ -13,10 +13,6 @@ use Rattle.bits.proofs.Mask.{all-at}
 pub chain-last : (a b c d e : Bool) → a ≡ true → b ≡ true → c ≡ true → e ≡ d → e ≡ (a && b && c && d)
 chain-last a b c d e p q r s = simp (p, q, r) s
 
--- one of two, where the first does not hold
-pub or-second : (a b : Bool) → a ≡ false → b ≡ (a || b)
-or-second a b p = simp p
-
 -- both of two hold, one of two holds
 pub and-both : (a b : Bool) → (a && b) ≡ true → (a ≡ true) × (b ≡ true)
 and-both true b e = (refl, e)

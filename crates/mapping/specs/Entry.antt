@@ -1,7 +1,7 @@
 -- Document 01, "Frame records and mapping list": one mapping, request N2's order of space, then page, and the mapping at a place of the list.
 use mathlib.Core.Bool.{Bool, _&&_, _||_}
 use Prim.Native.Nat.{ℕ, _+_, _*_}
-use lib.Dec.{eqb, ltb}
+use lib.Dec.{eqb, leb, ltb}
 use lib.ListN.{getD}
 use Rattle.board.specs.declared.Board.{Board}
 use Rattle.board.specs.Board.{spaces, pages}
@@ -12,12 +12,19 @@ use Rattle.mapping.specs.declared.MappingList.{MappingList}
 abbrev pub capacity : ℕ
 capacity = 256
 
--- the two rights
+-- the three rights: read; read and write; read and fetch (request N8)
 abbrev pub readOnly : ℕ
 readOnly = 1
 
 abbrev pub readWrite : ℕ
 readWrite = 2
+
+abbrev pub readFetch : ℕ
+readFetch = 3
+
+-- whether a number is that of rights (request N8: 1 to 3)
+abbrev pub isRights : ℕ → Bool
+isRights rights = leb readOnly rights && leb rights readFetch
 
 -- the record of a place that holds no mapping
 abbrev pub zeroMapping : Mapping
@@ -26,7 +33,7 @@ zeroMapping = record { space = 0; page = 0; frame = 0; rights = 0 }
 -- whether space, page, frame and rights lie in their ranges
 unfoldable pub inRange : Board → Mapping → Bool
 inRange b m =
-    ltb (m .space) spaces && ltb (m .page) pages && ltb (m .frame) (b .frames) && (eqb (m .rights) readOnly || eqb (m .rights) readWrite)
+    ltb (m .space) spaces && ltb (m .page) pages && ltb (m .frame) (b .frames) && isRights (m .rights)
 
 -- whether all fields are 0
 unfoldable pub isZero : Mapping → Bool

@@ -7,14 +7,14 @@ use Rattle.board.specs.declared.Board.{Board}
 use Rattle.board.specs.Board.{spaces, pages}
 use Rattle.mapping.specs.declared.Mapping.{Mapping}
 use Rattle.mapping.specs.declared.MappingList.{MappingList}
-use Rattle.mapping.specs.Entry.{capacity, readOnly, readWrite, zeroMapping, mappingAt}
+use Rattle.mapping.specs.Entry.{capacity, readOnly, readFetch, zeroMapping, mappingAt}
 
 -- the fields of m lie in their ranges
 pub record InRange (b : Board) (m : Mapping) : Type 0 where
   pub space-lt : m .space < spaces
   pub page-lt : m .page < pages
   pub frame-lt : m .frame < b .frames
-  pub rights-of : (m .rights ≡ readOnly) ⊎ (m .rights ≡ readWrite)
+  pub rights-of : (readOnly ≤ m .rights) × (m .rights ≤ readFetch)
 
 -- m is the mapping of this page of this space
 abbrev pub MapsTo : Mapping → ℕ → ℕ → Type 0

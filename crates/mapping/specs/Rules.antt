@@ -1,11 +1,13 @@
 -- Document 01, "Frame records and mapping list", with request N2: the rules of the list, as a test of any content. The first `count` places are
 -- listed.
-use mathlib.Core.Bool.{Bool, _&&_, _||_}
+use mathlib.Core.Bool.{Bool, true, _&&_}
+use mathlib.Core.List.{List, [], _∷_}
 use Prim.Native.Nat.{ℕ, suc, _-_}
-use lib.Dec.{leb, ltb}
-use lib.ListN.{length}
+use lib.Dec.{leb}
+use lib.ListN.{drop}
 use Rattle.bits.specs.Mask.{all}
 use Rattle.board.specs.declared.Board.{Board}
+use Rattle.mapping.specs.declared.Mapping.{Mapping}
 use Rattle.mapping.specs.declared.MappingList.{MappingList}
 use Rattle.mapping.specs.Entry.{capacity, inRange, isZero, isBefore, mappingAt}
 
@@ -22,8 +24,13 @@ unfoldable pub rising : MappingList → Bool
 rising l = all (l .count - 1) (risesAt l)
 
 -- past the count all fields are 0
+unfoldable pub everyZero : List Mapping → Bool
+everyZero [] = true
+everyZero (m ∷ ms) = isZero m && everyZero ms
+
 unfoldable pub restZero : MappingList → Bool
-restZero l = all (length (l .items)) (λ i. ltb i (l .count) || isZero (mappingAt l i))
+unfolding everyZero
+restZero l = everyZero (drop (l .count) (l .items))
 
 -- whether the list keeps its rules
 unfoldable pub keepsRules : Board → MappingList → Bool

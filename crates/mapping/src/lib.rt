@@ -6,7 +6,7 @@ ghost use mathlib.Core.Bool.{true};
 ghost use Prim.Native.Nat.{_^_, _≤_, _<_};
 ghost use lib.Dec.{eqb};
 ghost use Rattle.board.specs.declared.Board as any;
-ghost use Rattle.mapping.specs.Entry.{zeroMapping, pageNumbers, keyOf, inRange, isZero, isAt};
+ghost use Rattle.mapping.specs.Entry.{isRights, zeroMapping, pageNumbers, keyOf, inRange, isZero, isAt};
 ghost use Rattle.mapping.specs.Rules.{keepsRules};
 ghost use Rattle.mapping.specs.Change.{empty, insertAt, remove};
 ghost use Rattle.mapping.specs.Look.{find, look, ToldWithin};
@@ -24,10 +24,19 @@ const PAGE_NUMBERS: u32 = 65536;
 
 const FRAME_NUMBERS: u32 = 16777216;
 
-// The rights of a mapping: read; read and write.
+// The rights of a mapping: read; read and write; read and fetch (request N8).
 pub const READ_ONLY: u8 = 1;
 
 pub const READ_WRITE: u8 = 2;
+
+pub const READ_FETCH: u8 = 3;
+
+// Whether a number is that of rights.
+pub fn is_rights(rights: u8) -> bool
+    ensures { λ r. ⌜ r ≡ isRights rights ⌝ }
+{
+    (READ_ONLY <= rights) & (rights <= READ_FETCH)
+}
 
 pub struct Mapping {
     pub space: u8,
@@ -92,7 +101,7 @@ impl Mapping {
         if self.frame as usize >= board.frames {
             return false;
         }
-        self.rights == READ_ONLY || self.rights == READ_WRITE
+        is_rights(self.rights)
     }
 
     // Whether this is the mapping of a page of a space.

@@ -1,20 +1,22 @@
 -- What the record after a step says: it keeps the rules, if its mark did not bar the step, and each colour's state is its cell's.
 use mathlib.Core.Path.{_≡_, refl, sym, ap, _∙_}
 use mathlib.Core.Bool.{Bool, true, false, not, _&&_, _||_, false≢true, and-false}
-use Prim.Native.Nat.{ℕ}
+use Prim.Native.Nat.{ℕ, _<_}
 use native.Mathlib.Omega.{arith}
 use borrow.Author.Tests.{eqb-true, eqb-false, not-false}
 use lib.Dec.{eqb}
 use Rattle.bits.specs.Mask.{bit}
 use Rattle.bits.proofs.Tautology.{and-left, and-right}
 use Rattle.page_model.specs.declared.FrameRecord.{FrameRecord}
-use Rattle.page_model.specs.Record.{stateOf, keepsRules, isHeld, isDirty}
+use Rattle.page_model.specs.Record.{stateOf, instructionStateOf, keepsRules, isHeld, isDirty, isFetched}
 use Rattle.page_model.specs.Busy.{free, bars, markAfter}
-use Rattle.page_model.specs.Step.{cellOf, recordAfter}
-use Rattle.page_model.specs.Table.{ColourState, Step, read, write, deviceRead, deviceWrite, deviceWritePart, beginRead, beginWrite}
-use Rattle.page_model.specs.Theorems.{StepKeepsRules, StateAfter, OneDirty, MarkFits}
+use Rattle.page_model.specs.Step.{cellOf, instructionCellOf, recordAfter}
+use Rattle.page_model.specs.Table.{ColourState, Step, read, write, deviceRead, deviceWrite, deviceWritePart, beginRead, beginWrite, fetch}
+use Rattle.page_model.specs.Instructions.{InstructionState, InstructionCell}
+use Rattle.page_model.specs.Theorems.{StepKeepsRules, StateAfter, InstructionStateAfter, OneDirty, MarkFits}
 use Rattle.page_model.proofs.Rules.{Keeps, keeps, flag}
 use Rattle.page_model.proofs.Cells.{Agree, apart, stateTest, nextTest, at-law, kept-next}
+use Rattle.page_model.proofs.Instructions.{left-stays, never-held, beside-held}
 use Rattle.page_model.proofs.Encoding.{kept-mark, decode-encode}
 
 own-left : (o h : Bool) {d : Bool} → d ≡ true → (o || h && not d) ≡ true → o ≡ true
@@ -41,19 +43,48 @@ one-dirty n deviceWrite r kr j k lj lk ej ek = no-dirty n deviceWrite r kr refl 
 one-dirty n deviceWritePart r kr j k lj lk ej ek = no-dirty n deviceWritePart r kr refl j k lj lk ej ek
 one-dirty n beginRead r kr j k lj lk ej ek = no-dirty n beginRead r kr refl j k lj lk ej ek
 one-dirty n beginWrite r kr j k lj lk ej ek = no-dirty n beginWrite r kr refl j k lj lk ej ek
+one-dirty n (fetch c) r kr j k lj lk ej ek = no-dirty n (fetch c) r kr refl j k lj lk ej ek
 
 -- ---- the mark after a step
 
+-- no colour is dirty beside one that is held for instructions
+abbrev Beside : (n : ℕ) → (ℕ → ColourState) → (ℕ → InstructionState) → Type 0
+Beside n states instructions = (j k : ℕ) → j < n → k < n → isFetched (instructions j) ≡ true → isDirty (states k) ≡ false
+
+none-beside : (n : ℕ) (step : Step) (r : FrameRecord) → Keeps n r → Agree apart (λ o s h d. false) (nextTest step isDirty)
+    → Beside n (λ k. cellOf step r k .next) (λ k. instructionCellOf step r k .next)
+none-beside n step r kr e j k lj lk _ = sym (kept-next n r kr step isDirty (λ o s h d. false) e k lk)
+
+beside-after : (n : ℕ) (step : Step) (r : FrameRecord) → Keeps n r → Beside n (λ k. cellOf step r k .next) (λ k. instructionCellOf step r k .next)
+unfolding instructionCellOf
+beside-after n (read c) r kr j k lj lk e =
+    let held = ap (λ (x : InstructionCell). isFetched (x .next)) (sym (left-stays (instructionStateOf r j))) ∙ e in
+    sym (kept-next n r kr (read c) isDirty (λ o s h d. d && (h && o)) refl k lk) ∙ ap (λ (b : Bool). b && (bit (r .masks .held) k && eqb c k)) (beside-held n r kr j lj held .0)
+beside-after n (write c) r kr j k lj lk e = absurd (false≢true (sym (never-held (instructionStateOf r j)) ∙ e))
+beside-after n deviceRead r kr j k lj lk e = none-beside n deviceRead r kr refl j k lj lk e
+beside-after n deviceWrite r kr j k lj lk e = none-beside n deviceWrite r kr refl j k lj lk e
+beside-after n deviceWritePart r kr j k lj lk e = none-beside n deviceWritePart r kr refl j k lj lk e
+beside-after n beginRead r kr j k lj lk e = none-beside n beginRead r kr refl j k lj lk e
+beside-after n beginWrite r kr j k lj lk e = none-beside n beginWrite r kr refl j k lj lk e
+beside-after n (fetch c) r kr j k lj lk e = none-beside n (fetch c) r kr refl j k lj lk e
+
 -- a frame that is not busy
-free-fits : (n mark : ℕ) (states : ℕ → ColourState) → not (eqb mark free) ≡ false → MarkFits n mark states
-free-fits n mark states e =
+free-fits : (n mark : ℕ) (states : ℕ → ColourState) (instructions : ℕ → InstructionState) → Beside n states instructions → not (eqb mark free) ≡ false
+    → MarkFits n mark states instructions
+free-fits n mark states instructions beside e =
     let z = eqb-true mark free (not-false _ e) in
-    record { is-mark = omega arith; none-dirty = λ m. absurd (omega arith); none-held = λ m. absurd (omega arith) }
+    record {
+      is-mark = omega arith;
+      none-dirty = λ m. absurd (omega arith);
+      none-held = λ m. absurd (omega arith);
+      none-fetched = λ m. absurd (omega arith);
+      beside-fetched = beside;
+    }
 
 -- the mark after a step that it did not bar goes with the states after it
 mark-after : (n : ℕ) (step : Step) (r : FrameRecord) → keepsRules n r ≡ true → bars (r .busy) step ≡ false
-    → MarkFits n (markAfter step (r .busy)) (λ k. cellOf step r k .next)
-unfolding stateOf
+    → MarkFits n (markAfter step (r .busy)) (λ k. cellOf step r k .next) (λ k. instructionCellOf step r k .next)
+unfolding stateOf instructionCellOf
 mark-after n (read c) r e f =
     let before = kept-mark n r e in
     let writes = eqb-false (r .busy) _ f in
@@ -65,22 +96,37 @@ mark-after n (read c) r e f =
           (at-law r 0 k apart (λ o s h d. h && d) (stateTest isDirty) refl (keeps n r e .masks .apart k l) ∙ before .none-dirty m k l)
           ∙ and-false (eqb c k);
       none-held = λ m. absurd (writes m);
+      none-fetched = λ m. absurd (writes m);
+      beside-fetched = beside-after n (read c) r (keeps n r e);
     }
-mark-after n (write c) r e f = free-fits n (r .busy) _ f
-mark-after n deviceRead r e f = free-fits n (r .busy) _ f
-mark-after n deviceWrite r e f = free-fits n (r .busy) _ f
-mark-after n deviceWritePart r e f = free-fits n (r .busy) _ f
+mark-after n (write c) r e f = free-fits n (r .busy) _ _ (beside-after n (write c) r (keeps n r e)) f
+mark-after n deviceRead r e f = free-fits n (r .busy) _ _ (beside-after n deviceRead r (keeps n r e)) f
+mark-after n deviceWrite r e f = free-fits n (r .busy) _ _ (beside-after n deviceWrite r (keeps n r e)) f
+mark-after n deviceWritePart r e f = free-fits n (r .busy) _ _ (beside-after n deviceWritePart r (keeps n r e)) f
 mark-after n beginRead r e f =
     record {
       is-mark = omega arith;
       none-dirty = λ m k l. sym (kept-next n r (keeps n r e) beginRead isDirty (λ o s h d. false) refl k l);
       none-held = λ m. absurd (omega arith);
+      none-fetched = λ m. absurd (omega arith);
+      beside-fetched = beside-after n beginRead r (keeps n r e);
     }
 mark-after n beginWrite r e f =
     record {
       is-mark = omega arith;
       none-dirty = λ m. absurd (omega arith);
       none-held = λ m k l. sym (kept-next n r (keeps n r e) beginWrite isHeld (λ o s h d. false) refl k l);
+      none-fetched = λ m k l. never-held (instructionStateOf r k);
+      beside-fetched = beside-after n beginWrite r (keeps n r e);
+    }
+mark-after n (fetch c) r e f =
+    let writes = eqb-false (r .busy) _ f in
+    record {
+      is-mark = kept-mark n r e .is-mark;
+      none-dirty = λ m k l. sym (kept-next n r (keeps n r e) (fetch c) isDirty (λ o s h d. false) refl k l);
+      none-held = λ m. absurd (writes m);
+      none-fetched = λ m. absurd (writes m);
+      beside-fetched = beside-after n (fetch c) r (keeps n r e);
     }
 
 -- ---- the record after a step
@@ -88,8 +134,14 @@ mark-after n beginWrite r e f =
 pub step-keeps-rules : StepKeepsRules
 unfolding recordAfter
 step-keeps-rules n step r e f =
-    decode-encode n (markAfter step (r .busy)) (λ k. cellOf step r k .next) (one-dirty n step r (keeps n r e)) .0 (mark-after n step r e f)
+    decode-encode n (markAfter step (r .busy)) (λ k. cellOf step r k .next) (λ k. instructionCellOf step r k .next) (one-dirty n step r (keeps n r e)) .0 (mark-after n step r e f)
 
 pub state-after : StateAfter
 unfolding recordAfter
-state-after n step r e = decode-encode n (markAfter step (r .busy)) (λ k. cellOf step r k .next) (one-dirty n step r (keeps n r e)) .1
+state-after n step r e =
+    decode-encode n (markAfter step (r .busy)) (λ k. cellOf step r k .next) (λ k. instructionCellOf step r k .next) (one-dirty n step r (keeps n r e)) .1
+
+pub instruction-state-after : InstructionStateAfter
+unfolding recordAfter
+instruction-state-after n step r e =
+    decode-encode n (markAfter step (r .busy)) (λ k. cellOf step r k .next) (λ k. instructionCellOf step r k .next) (one-dirty n step r (keeps n r e)) .2

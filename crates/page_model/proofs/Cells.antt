@@ -10,7 +10,7 @@ use Rattle.page_model.specs.declared.FrameRecord.{FrameRecord}
 use Rattle.page_model.specs.Cases.{stepNumber, rowAt}
 use Rattle.page_model.specs.Record.{stateFrom, stateOf}
 use Rattle.page_model.specs.Step.{cellOf}
-use Rattle.page_model.specs.Table.{ColourState, empty, present, dirty, stale, Operation, Role, Cell, Step, read, write, deviceRead, deviceWrite, deviceWritePart, beginRead, beginWrite, roleIf, ownOf}
+use Rattle.page_model.specs.Table.{ColourState, empty, present, dirty, stale, Operation, Role, Cell, Step, read, write, deviceRead, deviceWrite, deviceWritePart, beginRead, beginWrite, fetch, roleIf, ownOf}
 use Rattle.page_model.proofs.Rules.{Keeps, flag}
 
 -- a test of whether a colour is the step's own, its stale bit, its held bit and the flag
@@ -43,6 +43,7 @@ row-cell deviceWrite r k = refl
 row-cell deviceWritePart r k = refl
 row-cell beginRead r k = refl
 row-cell beginWrite r k = refl
+row-cell (fetch c) r k = refl
 
 abbrev pub nextTest : Step → (ColourState → Bool) → Test
 nextTest step f o s h d = f (rowOf step (roleIf o) (stateFrom s h d) .next)

@@ -1,7 +1,7 @@
 -- A step as the code takes it: one cell for its own colour, and one for each class of the others.
 use mathlib.Core.Path.{_≡_, refl, sym, ap, ap₂, _∙_}
-use mathlib.Core.Bool.{Bool, true, false, not, _&&_, _||_, cond, or-false, and-false, false≢true}
-use mathlib.Core.List.{_++_, map}
+use mathlib.Core.Bool.{Bool, true, false, not, _&&_, _||_, cond, or-false, and-false, and-true, false≢true}
+use mathlib.Core.List.{[], _∷_, _++_, map, append-assoc}
 use Prim.Native.Nat.{ℕ, _≤_, _<_}
 use native.Mathlib.Decide.{decLt}
 use native.Mathlib.Omega.{arith}
@@ -13,17 +13,20 @@ use Rattle.bits.proofs.Tautology.{all4, equalIf, law4}
 use Rattle.page_model.specs.declared.FrameRecord.{FrameRecord}
 use Rattle.page_model.specs.declared.masks.Classes.{Classes}
 use Rattle.page_model.specs.declared.Op.{Op}
-use Rattle.page_model.specs.declared.Op.the-variants.{None, Flush, Purge}
-use Rattle.page_model.specs.Cases.{stateNumber, operationNumber, stepNumber, rowAt, caseOf, caseAt, markAt, operationAt}
+use Rattle.page_model.specs.declared.Op.the-variants.{None, Flush, Purge, PurgeInstructions}
+use Rattle.page_model.specs.declared.Ops.{Ops}
+use Rattle.page_model.specs.Cases.{stateNumber, operationNumber, stepNumber, rowAt, caseOf, caseAt, instructionNumber, instructionRowAt, instructionCaseOf, instructionCaseAt, instructionClasses, markAt, operationAt, instructionOperationAt}
 use Rattle.page_model.specs.Busy.{markAfter}
-use Rattle.page_model.specs.Masks.{inHeld, inStale, numberAt, moved}
-use Rattle.page_model.specs.Record.{stateFrom, stateOf, isHeld, isDirty, isStale}
-use Rattle.page_model.specs.Step.{isFlush, isPurge, cellOf, recordAfter, operations, opList, firstTwo, stepped}
-use Rattle.page_model.specs.Table.{ColourState, empty, present, dirty, stale, Operation, none, flush, purge, Cell, _⇒_, own, other, Step, read, write, deviceRead, deviceWrite, deviceWritePart, beginRead, beginWrite, roleIf, ownOf, reach}
+use Rattle.page_model.specs.Masks.{inHeld, inStale, moved}
+use Rattle.page_model.specs.Record.{stateFrom, stateOf, instructionStateFrom, instructionStateOf, isHeld, isDirty, isStale, isFetched, isOutdated}
+use Rattle.page_model.specs.Step.{isFlush, isPurge, cellOf, instructionCellOf, recordAfter, instructionOperations, operations, opList, firstTwo, stepped}
+use Rattle.page_model.specs.Table.{ColourState, empty, present, dirty, stale, Operation, none, flush, purge, Cell, _⇒_, own, other, Step, read, write, deviceRead, deviceWrite, deviceWritePart, beginRead, beginWrite, fetch, roleIf, ownOf, reach}
+use Rattle.page_model.specs.Instructions.{InstructionState, unfetched, fetched, outdated, InstructionCell}
 use Rattle.page_model.proofs.Rules.{Keeps, flag, dirty-only, dirty-at}
 use Rattle.page_model.proofs.Cells.{Test, Agree, apart, row-cell, nextTest, operationTest, kept-next, kept-operation}
 use Rattle.page_model.proofs.Encoding.{encode-is}
-use Rattle.page_model.proofs.Moving.{masksOf-cong}
+use Rattle.page_model.proofs.Moving.{moved-of}
+use Rattle.page_model.proofs.Instructions.{instruction-row, not-held, purged-by-fetch}
 
 -- ---- the numbers
 
@@ -35,6 +38,12 @@ case-cell step b present = refl
 case-cell step b dirty = refl
 case-cell step b stale = refl
 
+pub instruction-case : (step : ℕ) (b : Bool) (state : InstructionState) → instructionCaseAt step b (instructionNumber state) ≡ instructionCaseOf (instructionRowAt step (roleIf b) state)
+unfolding instructionCaseAt
+instruction-case step b unfetched = refl
+instruction-case step b fetched = refl
+instruction-case step b outdated = refl
+
 -- the mark of a step's number is the step's
 pub mark-number : (s : Step) (mark : ℕ) → markAt (stepNumber s) mark ≡ markAfter s mark
 mark-number (read c) mark = refl
@@ -44,19 +53,21 @@ mark-number deviceWrite mark = refl
 mark-number deviceWritePart mark = refl
 mark-number beginRead mark = refl
 mark-number beginWrite mark = refl
+mark-number (fetch c) mark = refl
 
 -- what computes to true at each step's number holds of every step
-each-step : (p : ℕ → Bool) → all 7 p ≡ true → (s : Step) → p (stepNumber s) ≡ true
-each-step p e (read c) = all-at 7 p e 0 (omega arith)
-each-step p e (write c) = all-at 7 p e 1 (omega arith)
-each-step p e deviceRead = all-at 7 p e 2 (omega arith)
-each-step p e deviceWrite = all-at 7 p e 3 (omega arith)
-each-step p e deviceWritePart = all-at 7 p e 4 (omega arith)
-each-step p e beginRead = all-at 7 p e 5 (omega arith)
-each-step p e beginWrite = all-at 7 p e 6 (omega arith)
+each-step : (p : ℕ → Bool) → all 8 p ≡ true → (s : Step) → p (stepNumber s) ≡ true
+each-step p e (read c) = all-at 8 p e 0 (omega arith)
+each-step p e (write c) = all-at 8 p e 1 (omega arith)
+each-step p e deviceRead = all-at 8 p e 2 (omega arith)
+each-step p e deviceWrite = all-at 8 p e 3 (omega arith)
+each-step p e deviceWritePart = all-at 8 p e 4 (omega arith)
+each-step p e beginRead = all-at 8 p e 5 (omega arith)
+each-step p e beginWrite = all-at 8 p e 6 (omega arith)
+each-step p e (fetch c) = all-at 8 p e 7 (omega arith)
 
 -- so two tests of each step's row agree
-each-row : (p q : ℕ → Test) → all 7 (λ x. all4 (λ o s h d. equalIf (apart o s h d) (p x o s h d) (q x o s h d))) ≡ true → (s : Step) → Agree apart (p (stepNumber s)) (q (stepNumber s))
+each-row : (p q : ℕ → Test) → all 8 (λ x. all4 (λ o s h d. equalIf (apart o s h d) (p x o s h d) (q x o s h d))) ≡ true → (s : Step) → Agree apart (p (stepNumber s)) (q (stepNumber s))
 each-row p q = each-step (λ x. all4 (λ o s h d. equalIf (apart o s h d) (p x o s h d) (q x o s h d)))
 
 -- ---- the cells, by a step's number: of the own colour in a state, and of the other colours that are held, by the flag
@@ -99,6 +110,12 @@ of-number present x y = (refl, refl, refl, refl)
 of-number dirty x y = (refl, refl, refl, refl)
 of-number stale x y = (refl, refl, refl, refl)
 
+-- and for instructions
+of-instruction : (state : InstructionState) → (inHeld (instructionNumber state) ≡ isFetched state) × (inStale (instructionNumber state) ≡ isOutdated state)
+of-instruction unfetched = (refl, refl)
+of-instruction fetched = (refl, refl)
+of-instruction outdated = (refl, refl)
+
 -- a colour past the board's is empty, and only a transfer goes through it
 past-state : (n : ℕ) (r : FrameRecord) → Keeps n r → (k : ℕ) → n ≤ k → stateOf r k ≡ empty
 unfolding stateOf
@@ -112,6 +129,7 @@ past-own n r kr deviceWrite t l = rw (past-state n r kr 0 l)
 past-own n r kr deviceWritePart t l = rw (past-state n r kr 0 l)
 past-own n r kr beginRead t l = rw (past-state n r kr 0 l)
 past-own n r kr beginWrite t l = rw (past-state n r kr 0 l)
+past-own n r kr (fetch c) t l = absurd (omega arith)
 
 -- ---- its operations, on the dirty colour and on the own colour
 
@@ -210,19 +228,15 @@ module _ (n : ℕ) (r : FrameRecord) (kr : Keeps n r) (s : Step) (reaches : reac
         empty = stateNumber (rowAt (stepNumber s) other empty .next);
       }
 
-  -- it is the one that each colour goes to by its own cell
-  number-at : (k : ℕ) → numberAt c to (r .masks) k ≡ stateNumber (cellOf s r k .next)
-  unfolding stateOf
-  number-at k = go (eqb c k) refl ∙ sym (ap (λ (x : Cell). stateNumber (x .next)) (row-cell s r k))
-    where
-      others : (t h : Bool) → cond t (to .stale) (cond h (to .held) (to .empty)) ≡ stateNumber (rowAt (stepNumber s) other (stateFrom t h (flag r)) .next)
-      others true h = refl
-      others false true = refl
-      others false false = refl
+  -- and that a colour goes to by its own cell, for data and for instructions
+  abbrev number : Bool → Bool → Bool → ℕ
+  number o t h = stateNumber (rowAt (stepNumber s) (roleIf o) (stateFrom t h (flag r)) .next)
 
-      go : (o : Bool) → eqb c k ≡ o → cond o (to .own) (cond (bit (r .masks .stale) k) (to .stale) (cond (bit (r .masks .held) k) (to .held) (to .empty))) ≡ stateNumber (rowAt (stepNumber s) (roleIf o) (stateOf r k) .next)
-      go true e = ap (λ (j : ℕ). stateNumber (ownCell (stepNumber s) (stateOf r j) .next)) (eqb-true c k e)
-      go false e = others (bit (r .masks .stale) k) (bit (r .masks .held) k)
+  abbrev instructionNumberAt : Bool → Bool → Bool → ℕ
+  instructionNumberAt o t h = instructionNumber (instructionRowAt (stepNumber s) (roleIf o) (instructionStateFrom t h) .next)
+
+  abbrev instructionNow : InstructionCell
+  instructionNow = instructionRowAt (stepNumber s) own (instructionStateOf r c)
 
   dirty-is : (k : ℕ) → k < n → isDirty (cellOf s r k .next) ≡ (isDirty (ownNow .next) && eqb c k)
   unfolding stateOf
@@ -234,17 +248,22 @@ module _ (n : ℕ) (r : FrameRecord) (kr : Keeps n r) (s : Step) (reaches : reac
       → next .dirty ≡ cond (eqb (to .own) (stateNumber dirty)) 1 0
       → next .busy ≡ markAfter s (r .busy)
       → next .«dirty_colour» ≡ cond (eqb (to .own) (stateNumber dirty)) c n
+      → next .instructions ≡ moved n c (instructionClasses (stepNumber s) (instructionNumber (instructionNow .next))) (r .instructions)
       → next ≡ recordAfter n s r
-  unfolding recordAfter moved
-  step-record next masks flag mark colour =
+  unfolding recordAfter stateOf instructionStateOf instructionCaseAt
+  step-record next masks flag mark colour instructions =
       let below = own-below (λ x. isDirty (x .next)) refl in
       let own = of-number (ownNow .next) c n in
-      encode-is n (markAfter s (r .busy)) (λ k. cellOf s r k .next) next
+      encode-is n (markAfter s (r .busy)) (λ k. cellOf s r k .next) (λ k. instructionCellOf s r k .next) next
       (masks
-      ∙ masksOf-cong n _ _ _ _ (λ k l. ap inHeld (number-at k) ∙ of-number (cellOf s r k .next) 0 0 .0) (λ k l. ap inStale (number-at k) ∙ of-number (cellOf s r k .next) 0 0 .1))
+      ∙ moved-of number refl c (r .masks) n _ _ (λ k. ap (λ (x : Cell). inHeld (stateNumber (x .next))) (sym (row-cell s r k)) ∙ of-number (cellOf s r k .next) 0 0 .0)
+      (λ k. ap (λ (x : Cell). inStale (stateNumber (x .next))) (sym (row-cell s r k)) ∙ of-number (cellOf s r k .next) 0 0 .1))
       (flag ∙ own .3 ∙ ap digit (sym (any-one n c (isDirty (ownNow .next)) _ below dirty-is)))
       mark
       (colour ∙ own .2 ∙ sym (first-one n c (isDirty (ownNow .next)) _ below dirty-is))
+      (instructions
+      ∙ moved-of instructionNumberAt refl c (r .instructions) n _ _ (λ k. ap (λ (x : InstructionCell). inHeld (instructionNumber (x .next))) (sym (instruction-row s r k)) ∙ of-instruction (instructionCellOf s r k .next) .0)
+      (λ k. ap (λ (x : InstructionCell). inStale (instructionNumber (x .next))) (sym (instruction-row s r k)) ∙ of-instruction (instructionCellOf s r k .next) .1))
 
   -- the operation on the dirty colour, if that is not the own colour
   abbrev onDirty : Operation
@@ -288,18 +307,53 @@ module _ (n : ℕ) (r : FrameRecord) (kr : Keeps n r) (s : Step) (reaches : reac
       go true a = not-own f z a (r .«dirty_colour») c k
       go false a = rw (and-false (f a), z)
 
-  step-operations : opList (cond (eqb (r .«dirty_colour») c) None (operationAt (operationNumber (othersNow .operation)) (r .«dirty_colour»))) ++ opList (operationAt (operationNumber (ownNow .operation)) c) ≡ operations n s r
+  -- the operation on the own colour in the instruction cache, where a fetch alone has one
+  instruction-operation : opList (instructionOperationAt (operationNumber (instructionNow .operation)) c) ≡ instructionOperations n s r
+  instruction-operation = listed (instructionNow .operation) ∙ ap (map PurgeInstructions) (sym (places-one n c (isPurge (instructionNow .operation)) _ below (λ k l. at k (eqb c k) refl)))
+    where
+      listed : (o : Operation) → opList (instructionOperationAt (operationNumber o) c) ≡ map PurgeInstructions (cond (isPurge o) (c ∷ []) [])
+      listed none = refl
+      listed flush = refl
+      listed purge = refl
+
+      here : (k : ℕ) → eqb c k ≡ true → isPurge (instructionCellOf s r k .operation) ≡ isPurge (instructionNow .operation)
+      here k q =
+          ap (λ (x : InstructionCell). isPurge (x .operation)) (instruction-row s r k ∙ ap (λ (b : Bool). instructionRowAt (stepNumber s) (roleIf b) (instructionStateOf r k)) q)
+          ∙ ap (λ (j : ℕ). isPurge (instructionRowAt (stepNumber s) own (instructionStateOf r j) .operation)) (sym (eqb-true c k q))
+
+      below : isPurge (instructionNow .operation) ≡ true → c < n
+      below e = let q = ap reach (purged-by-fetch s r c (here c (eq-eqb c c refl) ∙ e)) in omega arith
+
+      at : (k : ℕ) (o : Bool) → eqb c k ≡ o → isPurge (instructionCellOf s r k .operation) ≡ (isPurge (instructionNow .operation) && o)
+      at k true q = here k q ∙ sym (and-true _)
+      at k false q = not-held _ (λ e. false≢true (sym q ∙ eq-eqb c k (ap ownOf (purged-by-fetch s r k e)))) ∙ sym (and-false (isPurge (instructionNow .operation)))
+
+  abbrev firstNow : Op
+  firstNow = cond (eqb (r .«dirty_colour») c) None (operationAt (operationNumber (othersNow .operation)) (r .«dirty_colour»))
+
+  abbrev secondNow : Op
+  secondNow = operationAt (operationNumber (ownNow .operation)) c
+
+  abbrev thirdNow : Op
+  thirdNow = instructionOperationAt (operationNumber (instructionNow .operation)) c
+
+  step-operations : opList firstNow ++ (opList secondNow ++ opList thirdNow) ≡ operations n s r
   unfolding operations
   step-operations =
-      ap (λ (a : Op). opList a ++ opList (operationAt (operationNumber (ownNow .operation)) c)) on-dirty
+      sym (append-assoc (opList firstNow) (opList secondNow) (opList thirdNow))
+      ∙ ap₂ _++_
+      (ap (λ (a : Op). opList a ++ opList secondNow) on-dirty
       ∙ two-places n (r .«dirty_colour») c onDirty (ownNow .operation) _ _ in-order dirty-colour-below (own-below (λ x. not (isNone (x .operation))) refl)
-      (picks isFlush refl (flush-after s)) (picks isPurge refl (purge-after s))
+      (picks isFlush refl (flush-after s)) (picks isPurge refl (purge-after s)))
+      instruction-operation
 
-  pub step-is : {next : FrameRecord} {first second : Op}
+  pub step-is : {next : FrameRecord} {ops : Ops} {first second third : Op}
       → next ≡ recordAfter n s r
-      → first ≡ cond (eqb (r .«dirty_colour») c) None (operationAt (operationNumber (othersNow .operation)) (r .«dirty_colour»))
-      → second ≡ operationAt (operationNumber (ownNow .operation)) c
-      → record { next = next; ops = firstTwo (opList first ++ opList second) } ≡ stepped n s r
-  step-is next first second =
-      let ops = ap₂ (λ (a b : Op). opList a ++ opList b) first second ∙ step-operations in
-      λ i. record { next = next i; ops = firstTwo (ops i) }
+      → ops ≡ firstTwo (opList first ++ (opList second ++ opList third))
+      → first ≡ firstNow
+      → second ≡ secondNow
+      → third ≡ thirdNow
+      → record { next = next; ops = ops } ≡ stepped n s r
+  step-is next ops first second third =
+      let all-ops = ops ∙ (λ i. firstTwo (opList (first i) ++ (opList (second i) ++ opList (third i)))) ∙ ap firstTwo step-operations in
+      λ i. record { next = next i; ops = all-ops i }

@@ -1,6 +1,6 @@
 -- Encoding and decoding are inverse, and a record keeps the rules of its mark exactly if that goes with its states.
 use mathlib.Core.Path.{_≡_, refl, sym, ap, ap₂, _∙_}
-use mathlib.Core.Bool.{Bool, true, false, cond, not, _&&_, _||_, false≢true}
+use mathlib.Core.Bool.{Bool, true, false, cond, not, _&&_, _||_, false≢true, true≢false, or-true}
 use Prim.Native.Nat.{ℕ, zero, suc, _≤_, _<_}
 use native.Mathlib.Omega.{arith}
 use borrow.Author.Tests.{eq-eqb, ne-eqb, eqb-true}
@@ -11,23 +11,27 @@ use Rattle.bits.proofs.Mask.{mask-of, bit-maskOf, any-cong, any-none, any-false
 use Rattle.bits.proofs.Tautology.{and-right}
 use Rattle.page_model.specs.declared.FrameRecord.{FrameRecord}
 use Rattle.page_model.specs.Masks.{masksOf}
-use Rattle.page_model.specs.Record.{stateFrom, stateOf, markFits, dirtyColourOf, encode, isHeld, isDirty, isStale, freed}
-use Rattle.page_model.specs.Step.{cellOf, recordAfter, operations}
+use Rattle.page_model.specs.Record.{stateFrom, stateOf, instructionStateFrom, instructionStateOf, markFits, dirtyColourOf, encode, isHeld, isDirty, isStale, isFetched, isOutdated, freed}
+use Rattle.page_model.specs.Busy.{writing}
+use Rattle.page_model.specs.Instructions.{InstructionState, unfetched, fetched, outdated}
+use Rattle.page_model.specs.Step.{cellOf, instructionCellOf, recordAfter, operations}
 use Rattle.page_model.specs.Table.{ColourState, empty, present, dirty, stale}
 use Rattle.page_model.specs.Theorems.{EncodeDecode, OneDirty, MarkFits, DecodeEncode, KeptMark, FreedRecord, DirtyColour, DirtyColourAside}
 use Rattle.page_model.proofs.Rules.{Keeps, keeps, kept, flag, flag-digit, dirty-only, dirty-at, no-dirty-colour, any-dirty, first-dirty}
 use Rattle.page_model.proofs.Cells.{kept-state, each-state}
+use Rattle.page_model.proofs.Instructions.{each-instruction, instructions-are, not-held, beside-held}
 use Rattle.page_model.proofs.Moving.{masksOf-keep, masksOf-is}
 
 -- the record whose every part is the one that states and a mark encode to
-pub encode-is : (n mark : ℕ) (states : ℕ → ColourState) (r : FrameRecord)
+pub encode-is : (n mark : ℕ) (states : ℕ → ColourState) (instructions : ℕ → InstructionState) (r : FrameRecord)
     → r .masks ≡ masksOf n (λ k. isHeld (states k)) (λ k. isStale (states k))
     → r .dirty ≡ digit (any n (λ k. isDirty (states k)))
     → r .busy ≡ mark
     → r .«dirty_colour» ≡ firstOf n (λ k. isDirty (states k))
-    → r ≡ encode n mark states
+    → r .instructions ≡ masksOf n (λ k. isFetched (instructions k)) (λ k. isOutdated (instructions k))
+    → r ≡ encode n mark states instructions
 unfolding encode
-encode-is n mark states r m d b c = λ i. record { masks = m i; dirty = d i; busy = b i; «dirty_colour» = c i }
+encode-is n mark states instructions r m d b c f = λ i. record { masks = m i; dirty = d i; busy = b i; «dirty_colour» = c i; instructions = f i }
 
 -- ---- a record that is decoded and encoded
 
@@ -39,7 +43,7 @@ encode-decode n r e =
     let dirties = says isDirty (λ o s h d. d && h) refl in
     let d = flag-digit (kr .flag-le) ∙ ap digit (sym (any-dirty n r kr) ∙ any-cong n _ _ dirties) in
     let c = sym (first-dirty n r kr) ∙ first-cong n _ _ dirties in
-    sym (encode-is n (r .busy) (stateOf r) r m d refl c)
+    sym (encode-is n (r .busy) (stateOf r) (instructionStateOf r) r m d refl c (instructions-are n r kr (instructionStateOf r) (λ k l. refl)))
 
 -- what the mark tells of flag and held mask
 fits-le : (mark flag held : ℕ) → markFits mark flag held ≡ true → mark ≤ 2
@@ -60,10 +64,18 @@ kept-mark n r e =
       none-held = λ m k l.
           let z = eqb-true (r .masks .held) 0 (ap (λ (x : ℕ). markFits x (r .dirty) (r .masks .held)) (sym m) ∙ fits) in
           sym (kept-state n r kr isHeld (λ o s h d. h) refl k l) ∙ ap (λ (x : ℕ). bit x k) z ∙ bit-none k;
+      none-fetched = λ m k l. not-held _ (λ e. true≢false (sym (eq-eqb (r .busy) writing m) ∙ beside-held n r kr k l e .1));
+      beside-fetched = λ j k lj lk e.
+          sym (kept-state n r kr isDirty (λ o s h d. d && h) refl k lk) ∙ ap (λ (b : Bool). b && bit (r .masks .held) k) (beside-held n r kr j lj e .0);
     }
 
+or-more : (a b c : Bool) → (a || b && c) ≡ true → (a || b && true) ≡ true
+or-more true b c e = refl
+or-more false true c e = refl
+or-more false false c e = e
+
 pub freed-record : FreedRecord
-unfolding stateOf dirtyColourOf
+unfolding stateOf instructionStateOf dirtyColourOf
 freed-record n r e =
     let kr = keeps n r e in (
       kept n (freed r)
@@ -73,7 +85,10 @@ freed-record n r e =
             one-held = kr .one-held;
             mark-fits = refl;
             dirty-colour-is = kr .dirty-colour-is;
+            instructions = kr .instructions;
+            beside = or-more (eqb (r .instructions .held) 0) (not (flag r)) (not (eqb (r .busy) writing)) (kr .beside);
           }),
+      λ k. refl,
       λ k. refl,
       refl,
     )
@@ -106,12 +121,15 @@ dirty-colour n r e = (bound (flag r) refl, λ k l. (λ z. written k l z, λ z. d
     dirties k l false f z = let none = no-dirty-colour n r kr f in absurd (omega arith)
 
 pub dirty-colour-aside : DirtyColourAside
-unfolding stateOf recordAfter operations cellOf
-dirty-colour-aside n c s r = (refl, λ k. refl, refl, refl)
+unfolding stateOf instructionStateOf recordAfter operations cellOf instructionCellOf
+dirty-colour-aside n c s r = (refl, λ k. refl, λ k. refl, refl, refl)
 
 -- ---- states that are encoded and decoded
 
-module _ (n : ℕ) (states : ℕ → ColourState) (one : OneDirty n states) where
+no-mask : {n : ℕ} {p : ℕ → Bool} → ((k : ℕ) → k < n → p k ≡ false) → eqb (maskOf n p) 0 ≡ true
+no-mask {n} {p} none = eq-eqb _ 0 (sym (mask-of n 0 p (pow-pos n) (λ k l. bit-none k ∙ sym (none k l))))
+
+module _ (n : ℕ) (states : ℕ → ColourState) (instructions : ℕ → InstructionState) (one : OneDirty n states) where
   -- with a dirty colour, the held ones are that one
   held-only : (d : ℕ) → d < n → isDirty (states d) ≡ true → (k : ℕ) → k < n → isHeld (states k) ≡ eqb d k
   held-only d ld e k lk = go (isHeld (states k)) refl
@@ -123,7 +141,7 @@ module _ (n : ℕ) (states : ℕ → ColourState) (one : OneDirty n states) wher
       go true h = sym (eq-eqb d k (one d k ld lk here h))
       go false h = sym (ne-eqb d k (λ q. false≢true (sym h ∙ ap (λ (j : ℕ). isHeld (states j)) (sym q) ∙ ap isHeld here)))
 
-  encode-keeps : (mark : ℕ) → MarkFits n mark states → Keeps n (encode n mark states)
+  encode-keeps : (mark : ℕ) → MarkFits n mark states instructions → Keeps n (encode n mark states instructions)
   unfolding encode dirtyColourOf
   encode-keeps mark fits =
       record {
@@ -132,8 +150,21 @@ module _ (n : ℕ) (states : ℕ → ColourState) (one : OneDirty n states) wher
         one-held = single (any n (λ k. isDirty (states k))) refl;
         mark-fits = marked mark fits;
         dirty-colour-is = first (any n (λ k. isDirty (states k))) refl;
+        instructions = masksOf-keep n _ _ (λ k l. each-instruction (λ s. not (isFetched s && isOutdated s)) refl (instructions k));
+        beside = alone (any n (λ k. isFetched (instructions k))) refl;
       }
     where
+      -- no colour is held for instructions, or none is dirty and no device writes
+      alone : (b : Bool) → any n (λ k. isFetched (instructions k)) ≡ b
+          → (eqb (maskOf n (λ k. isFetched (instructions k))) 0 || not (eqb (digit (any n (λ k. isDirty (states k)))) 1) && not (eqb mark writing)) ≡ true
+      alone true e =
+          let j = any-at n (λ k. isFetched (instructions k)) e in
+          ap (λ (b : Bool). eqb (maskOf n (λ k. isFetched (instructions k))) 0 || b)
+          (ap₂ (λ (b c : Bool). not (eqb (digit b) 1) && not c) (any-none n _ (λ k l. fits .beside-fetched (j .0) k (j .1) l (j .2)))
+          (ne-eqb mark writing (λ m. false≢true (sym (fits .none-fetched m (j .0) (j .1)) ∙ j .2)))) ∙ or-true (eqb (maskOf n (λ k. isFetched (instructions k))) 0)
+      alone false e =
+          ap (λ (b : Bool). b || not (eqb (digit (any n (λ k. isDirty (states k)))) 1) && not (eqb mark writing)) (no-mask (any-false n (λ k. isFetched (instructions k)) e))
+
       first : (b : Bool) → any n (λ k. isDirty (states k)) ≡ b
           → firstOf n (λ k. isDirty (states k)) ≡ cond (eqb (digit b) 1) (firstOf n (bit (maskOf n (λ k. isHeld (states k))))) n
       first true e =
@@ -142,10 +173,10 @@ module _ (n : ℕ) (states : ℕ → ColourState) (one : OneDirty n states) wher
           ∙ sym (first-one n (d .0) true _ (λ z. d .1) (λ k l. bit-maskOf n _ k l ∙ held-only (d .0) (d .1) (d .2) k l))
       first false e = first-none n _ (any-false n _ e)
 
-      marked : (mark : ℕ) → MarkFits n mark states → markFits mark (digit (any n (λ k. isDirty (states k)))) (maskOf n (λ k. isHeld (states k))) ≡ true
+      marked : (mark : ℕ) → MarkFits n mark states instructions → markFits mark (digit (any n (λ k. isDirty (states k)))) (maskOf n (λ k. isHeld (states k))) ≡ true
       marked zero f = refl
       marked (suc zero) f = ap (λ (b : Bool). eqb (digit b) 0) (any-none n _ (f .none-dirty refl))
-      marked (suc (suc zero)) f = eq-eqb _ 0 (sym (mask-of n 0 _ (pow-pos n) (λ k l. bit-none k ∙ sym (f .none-held refl k l))))
+      marked (suc (suc zero)) f = no-mask (f .none-held refl)
       marked (suc (suc (suc mark))) f = let l = f .is-mark in absurd (omega arith)
 
       single : (b : Bool) → any n (λ k. isDirty (states k)) ≡ b → (not (eqb (digit b) 1) || eqb (countOf n (bit (maskOf n (λ k. isHeld (states k))))) 1) ≡ true
@@ -170,11 +201,19 @@ module _ (n : ℕ) (states : ℕ → ColourState) (one : OneDirty n states) wher
       go dirty e = ap (stateFrom false true) (any-of n (λ j. isDirty (states j)) k l (ap isDirty e))
       go stale e = refl
 
+decoded-instruction : (s : InstructionState) → instructionStateFrom (isOutdated s) (isFetched s) ≡ s
+decoded-instruction unfetched = refl
+decoded-instruction fetched = refl
+decoded-instruction outdated = refl
+
 pub decode-encode : DecodeEncode
-unfolding encode stateOf
-decode-encode n mark states one = (
-  λ fits. kept n (encode n mark states) (encode-keeps n states one mark fits),
+unfolding encode stateOf instructionStateOf
+decode-encode n mark states instructions one = (
+  λ fits. kept n (encode n mark states instructions) (encode-keeps n states instructions one mark fits),
   λ k l.
       (λ i. stateFrom (bit-maskOf n (λ j. isStale (states j)) k l i) (bit-maskOf n (λ j. isHeld (states j)) k l i) (eqb-digit (any n (λ j. isDirty (states j))) i))
-      ∙ decoded n states one k l,
+      ∙ decoded n states instructions one k l,
+  λ k l.
+      (λ i. instructionStateFrom (bit-maskOf n (λ j. isOutdated (instructions j)) k l i) (bit-maskOf n (λ j. isFetched (instructions j)) k l i))
+      ∙ decoded-instruction (instructions k),
 )

@@ -1,6 +1,7 @@
 -- The page model's laws and theorems.
 pub mod Rules
 pub mod Cells
+pub mod Instructions
 pub mod Idle
 pub mod Start
 pub mod Encoding
@@ -11,3 +12,4 @@ pub mod Colours
 pub mod Passing
 pub mod Theorems
 pub mod Listed
+pub mod Unused

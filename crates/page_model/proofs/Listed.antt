@@ -8,8 +8,9 @@ use native.Mathlib.Omega.{arith}
 use Rattle.bits.specs.Mask.{placesOf, withZero}
 use Rattle.bits.proofs.Mask.{places-at}
 use Rattle.page_model.specs.declared.FrameRecord.{FrameRecord}
-use Rattle.page_model.specs.declared.Op.the-variants.{Flush, Purge}
-use Rattle.page_model.specs.Step.{isFlush, isPurge, cellOf, operations}
+use Rattle.page_model.specs.declared.Op.{Op}
+use Rattle.page_model.specs.declared.Op.the-variants.{Flush, Purge, PurgeInstructions}
+use Rattle.page_model.specs.Step.{isFlush, isPurge, cellOf, instructionCellOf, dataOperations, operations}
 use Rattle.page_model.specs.Table.{Step}
 
 -- a place below n that p picks is among the places
@@ -23,26 +24,45 @@ places-listed (suc n) p (suc k) l e = go (p 0) (Memᴰ·map suc (places-listed n
     go true m = List·Memᴰ·tail m
     go false m = m
 
-module _ (n : ℕ) (s : Step) (r : FrameRecord) (k : ℕ) where
-  pub flush-listed : k < n → isFlush (cellOf s r k .operation) ≡ true → List·Memᴰ (Flush k) (operations n s r)
+module _ (n : ℕ) (s : Step) (r : FrameRecord) where
+  pub flush-listed : (k : ℕ) → k < n → isFlush (cellOf s r k .operation) ≡ true → List·Memᴰ (Flush k) (operations n s r)
   unfolding operations
-  flush-listed l e = Memᴰ·append-left _ (Memᴰ·map Flush (places-listed n (λ j. isFlush (cellOf s r j .operation)) k l e))
+  flush-listed k l e = Memᴰ·append-left _ (Memᴰ·append-left _ (Memᴰ·map Flush (places-listed n (λ j. isFlush (cellOf s r j .operation)) k l e)))
 
-  pub purge-listed : k < n → isPurge (cellOf s r k .operation) ≡ true → List·Memᴰ (Purge k) (operations n s r)
+  pub purge-listed : (k : ℕ) → k < n → isPurge (cellOf s r k .operation) ≡ true → List·Memᴰ (Purge k) (operations n s r)
   unfolding operations
-  purge-listed l e =
-      Memᴰ·append-right (map Flush (placesOf n (λ j. isFlush (cellOf s r j .operation)))) (Memᴰ·map Purge (places-listed n (λ j. isPurge (cellOf s r j .operation)) k l e))
+  purge-listed k l e =
+      Memᴰ·append-left _
+      (Memᴰ·append-right (map Flush (placesOf n (λ j. isFlush (cellOf s r j .operation)))) (Memᴰ·map Purge (places-listed n (λ j. isPurge (cellOf s r j .operation)) k l e)))
 
-  pub listed-purge : List·Memᴰ (Purge k) (operations n s r) → isPurge (cellOf s r k .operation) ≡ true
+  pub instruction-purge-listed : (k : ℕ) → k < n → isPurge (instructionCellOf s r k .operation) ≡ true → List·Memᴰ (PurgeInstructions k) (operations n s r)
   unfolding operations
-  listed-purge m = ⊎-elim flushed purged (List·Memᴰ·append-cases (map Flush (placesOf n (λ j. isFlush (cellOf s r j .operation)))) m)
+  instruction-purge-listed k l e = Memᴰ·append-right (dataOperations n s r) (Memᴰ·map PurgeInstructions (places-listed n (λ j. isPurge (instructionCellOf s r j .operation)) k l e))
+
+  -- a listed operation is one of the three, at a colour below n whose cell has it
+  pub listed-cases : {o : Op} {Q : Type 0}
+      → ((k : ℕ) → k < n → isFlush (cellOf s r k .operation) ≡ true → Flush k ≡ o → Q)
+      → ((k : ℕ) → k < n → isPurge (cellOf s r k .operation) ≡ true → Purge k ≡ o → Q)
+      → ((k : ℕ) → k < n → isPurge (instructionCellOf s r k .operation) ≡ true → PurgeInstructions k ≡ o → Q)
+      → List·Memᴰ o (operations n s r) → Q
+  unfolding operations
+  listed-cases {o} {Q} flushed purged purged-instructions m =
+      ⊎-elim (λ d. ⊎-elim (at Flush _ flushed) (at Purge _ purged) (List·Memᴰ·append-cases (map Flush (placesOf n (λ j. isFlush (cellOf s r j .operation)))) d))
+      (at PurgeInstructions _ purged-instructions) (List·Memᴰ·append-cases (dataOperations n s r) m)
     where
-      flushed : List·Memᴰ (Purge k) (map Flush (placesOf n (λ j. isFlush (cellOf s r j .operation)))) → isPurge (cellOf s r k .operation) ≡ true
-      flushed m = let c = Memᴰ·of-map Flush (placesOf n (λ j. isFlush (cellOf s r j .operation))) m in let e = c .2 in let z : _≡_ {A = ℕ} 0 1 = cc in absurd (omega arith)
+      at : (op : ℕ → Op) (p : ℕ → Bool) → ((k : ℕ) → k < n → p k ≡ true → op k ≡ o → Q) → List·Memᴰ o (map op (placesOf n p)) → Q
+      at op p h m =
+          let c = Memᴰ·of-map op (placesOf n p) m in
+          let there = places-at n p (c .0) (c .1) in h (c .0) (there .0) (there .1) (c .2)
 
-      purged : List·Memᴰ (Purge k) (map Purge (placesOf n (λ j. isPurge (cellOf s r j .operation)))) → isPurge (cellOf s r k .operation) ≡ true
-      purged m =
-          let c = Memᴰ·of-map Purge (placesOf n (λ j. isPurge (cellOf s r j .operation))) m in
-          let e = c .2 in
-          let q : c .0 ≡ k = cc in
-          subst (λ (j : ℕ). isPurge (cellOf s r j .operation) ≡ true) q (places-at n (λ j. isPurge (cellOf s r j .operation)) (c .0) (c .1) .1)
+  pub listed-purge : (k : ℕ) → List·Memᴰ (Purge k) (operations n s r) → isPurge (cellOf s r k .operation) ≡ true
+  listed-purge k =
+      listed-cases (λ j l p e. let z : _≡_ {A = ℕ} 0 1 = cc in absurd (omega arith))
+      (λ j l p e. let q : j ≡ k = cc in subst (λ (i : ℕ). isPurge (cellOf s r i .operation) ≡ true) q p)
+      (λ j l p e. let z : _≡_ {A = ℕ} 0 1 = cc in absurd (omega arith))
+
+  pub listed-instruction-purge : (k : ℕ) → List·Memᴰ (PurgeInstructions k) (operations n s r) → isPurge (instructionCellOf s r k .operation) ≡ true
+  listed-instruction-purge k =
+      listed-cases (λ j l p e. let z : _≡_ {A = ℕ} 0 1 = cc in absurd (omega arith))
+      (λ j l p e. let z : _≡_ {A = ℕ} 0 1 = cc in absurd (omega arith))
+      (λ j l p e. let q : j ≡ k = cc in subst (λ (i : ℕ). isPurge (instructionCellOf s r i .operation) ≡ true) q p)

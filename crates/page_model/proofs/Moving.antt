@@ -1,15 +1,15 @@
 -- The laws of two masks: when they keep the rules, which tests they are the masks of, and that moved class by class, as the code does it, they
 -- are those of the states that the colours went to.
-use mathlib.Core.Path.{_≡_, sym, ap, ap₂, _∙_}
+use mathlib.Core.Path.{_≡_, refl, sym, ap, ap₂, _∙_}
 use mathlib.Core.Bool.{Bool, true, false, not, _&&_, _||_, cond, or-false, and-false, and-true}
 use Prim.Native.Nat.{ℕ, _^_, _<_}
 use native.Mathlib.Omega.{arith}
-use borrow.Author.Tests.{ltb-true, lt-ltb}
+use borrow.Author.Tests.{ltb-true, lt-ltb, eqb-true}
 use lib.Bits.{bitAnd, bitOr, bitXor, or-lt, xor-lt, and-le-l}
-use lib.Dec.{eqb}
+use lib.Dec.{eqb, ltb}
 use lib.Pow.{pow-pos}
-use Rattle.bits.specs.Mask.{bit, withBit, maskOf}
-use Rattle.bits.proofs.Mask.{all-at, all-of, mask-of, maskOf-lt, maskOf-cong, bit-maskOf, bit-none, bit-and, bit-or, bit-xor, bit-with}
+use Rattle.bits.specs.Mask.{bit, withBit, maskOf, all}
+use Rattle.bits.proofs.Mask.{all-at, all-of, mask-of, maskOf-lt, maskOf-cong, bit-maskOf, bit-none, bit-and, bit-or, bit-xor, bit-with, or-within, disjoint-all}
 use Rattle.bits.proofs.Tautology.{and-left, and-right}
 use Rattle.page_model.specs.declared.masks.Masks.{Masks}
 use Rattle.page_model.specs.declared.masks.Classes.{Classes}
@@ -34,6 +34,15 @@ masks-keep n m e =
 pub masks-kept : (n : ℕ) (m : Masks) → MasksKeep n m → masksKeepRules n m ≡ true
 masks-kept n m k = ap₂ _&&_ (ap₂ _&&_ (lt-ltb _ _ (k .held-lt)) (lt-ltb _ _ (k .stale-lt))) (all-of n _ (k .apart))
 
+-- the rules by operations on whole masks
+pub masks-are : (n : ℕ) (m : Masks) → masksKeepRules n m ≡ (ltb (bitOr (m .held) (m .stale)) (2 ^ n) && eqb (bitAnd (m .held) (m .stale)) 0)
+masks-are n m = go (ltb (m .held) (2 ^ n)) (ltb (m .stale) (2 ^ n)) refl ∙ ap (λ (b : Bool). b && eqb (bitAnd (m .held) (m .stale)) 0) (sym (or-within n (m .held) (m .stale)))
+  where
+    go : (h s : Bool) → ltb (m .held) (2 ^ n) ≡ h → (h && s && all n (λ k. not (bit (m .held) k && bit (m .stale) k))) ≡ ((h && s) && eqb (bitAnd (m .held) (m .stale)) 0)
+    go true true e = disjoint-all n (m .held) (m .stale) (ltb-true _ _ e)
+    go true false e = refl
+    go false s e = refl
+
 pub noMasks-keep : (n : ℕ) → MasksKeep n noMasks
 noMasks-keep n = record { held-lt = pow-pos n; stale-lt = pow-pos n; apart = λ k l. ap not (ap₂ _&&_ (bit-none k) (bit-none k)) }
 
@@ -49,6 +58,43 @@ module _ (n : ℕ) (h s : ℕ → Bool) where
 
   pub masksOf-cong : (h′ s′ : ℕ → Bool) → ((k : ℕ) → k < n → h k ≡ h′ k) → ((k : ℕ) → k < n → s k ≡ s′ k) → masksOf n h s ≡ masksOf n h′ s′
   masksOf-cong h′ s′ eh es = λ i. record { held = maskOf-cong n h h′ eh i; stale = maskOf-cong n s s′ es i }
+
+-- ---- the classes of colours
+
+-- the number of the state that each class goes to, where one is given for a colour by whether it is the own one, its stale bit and its held bit
+abbrev pub classesOf : (Bool → Bool → Bool → ℕ) → ℕ → Masks → Classes
+classesOf number c m =
+    record {
+      own = number true (bit (m .stale) c) (bit (m .held) c);
+      held = number false false true;
+      stale = number false true false;
+      empty = number false false false;
+    }
+
+-- it is the one that is given for each colour, if a stale bit hides a held one
+module _ (number : Bool → Bool → Bool → ℕ) (hides : number false true true ≡ number false true false) (c : ℕ) (m : Masks) where
+  number-at : (k : ℕ) → numberAt c (classesOf number c m) m k ≡ number (eqb c k) (bit (m .stale) k) (bit (m .held) k)
+  number-at k = go (eqb c k) refl
+    where
+      others : (t h : Bool) → cond t (number false true false) (cond h (number false false true) (number false false false)) ≡ number false t h
+      others true true = sym hides
+      others true false = refl
+      others false true = refl
+      others false false = refl
+
+      go : (o : Bool) → eqb c k ≡ o
+          → cond o (number true (bit (m .stale) c) (bit (m .held) c)) (cond (bit (m .stale) k) (number false true false) (cond (bit (m .held) k) (number false false true) (number false false false)))
+          ≡ number o (bit (m .stale) k) (bit (m .held) k)
+      go true q = ap (λ (j : ℕ). number true (bit (m .stale) j) (bit (m .held) j)) (eqb-true c k q)
+      go false q = others (bit (m .stale) k) (bit (m .held) k)
+
+  -- so the masks moved by these classes are those of the states that the colours go to
+  pub moved-of : (n : ℕ) (h s : ℕ → Bool)
+      → ((k : ℕ) → inHeld (number (eqb c k) (bit (m .stale) k) (bit (m .held) k)) ≡ h k)
+      → ((k : ℕ) → inStale (number (eqb c k) (bit (m .stale) k) (bit (m .held) k)) ≡ s k)
+      → moved n c (classesOf number c m) m ≡ masksOf n h s
+  unfolding moved
+  moved-of n h s eh es = masksOf-cong n _ _ h s (λ k l. ap inHeld (number-at k) ∙ eh k) (λ k l. ap inStale (number-at k) ∙ es k)
 
 -- ---- masks that are moved
 

@@ -6,16 +6,18 @@ use native.Mathlib.Omega.{arith}
 use borrow.Author.Tests.{eq-eqb, ne-eqb}
 use lib.Dec.{eqb}
 use Rattle.page_model.specs.declared.FrameRecord.{FrameRecord}
-use Rattle.page_model.specs.Record.{stateOf, keepsRules, isHeld, isDirty}
+use Rattle.page_model.specs.Record.{stateOf, instructionStateOf, keepsRules, isHeld, isDirty, isFetched}
+use Rattle.page_model.specs.Instructions.{fetchedCell}
 use Rattle.page_model.specs.Busy.{free, reading, writing}
-use Rattle.page_model.specs.Step.{recordAfter}
-use Rattle.page_model.specs.Table.{ColourState, own, Cell, Step, read, write, roleIf, ownOf}
-use Rattle.page_model.specs.Theorems.{passesRead, passesWrite, ReadPasses, WritePasses, IdleNotBarred}
+use Rattle.page_model.specs.Step.{instructionCellOf, recordAfter}
+use Rattle.page_model.specs.Table.{ColourState, own, Cell, Step, read, write, fetch, roleIf, ownOf}
+use Rattle.page_model.specs.Theorems.{passesRead, passesWrite, ReadPasses, WritePasses, FetchPasses, IdleNotBarred}
 use Rattle.page_model.proofs.Rules.{keeps}
 use Rattle.page_model.proofs.Cells.{stateTest, rowOf, row-cell, at-law, each-state}
-use Rattle.page_model.proofs.Idle.{read-idle, write-idle}
+use Rattle.page_model.proofs.Idle.{read-idle, write-idle, fetch-idle}
+use Rattle.page_model.proofs.Instructions.{each-instruction, beside-held}
 use Rattle.page_model.proofs.Encoding.{kept-mark}
-use Rattle.page_model.proofs.After.{state-after}
+use Rattle.page_model.proofs.After.{state-after, instruction-state-after}
 
 -- an access that alters nothing passes, if what it makes of its own colour lets it pass
 idle-passes : (n : ℕ) (step : Step) (r : FrameRecord) (passes : ColourState → Bool) → ownOf step < n → keepsRules n r ≡ true
@@ -39,6 +41,15 @@ write-passes n c r lc e = (
   λ idle. idle-passes n (write c) r passesWrite lc e (each-state _ refl) (idle .1),
 )
 
+pub fetch-passes : FetchPasses
+unfolding instructionCellOf
+fetch-passes n c r lc e = (
+  λ z. fetch-idle n r (keeps n r e) c lc z,
+  λ idle.
+      let after = instruction-state-after n (fetch c) r e c lc ∙ ap (λ (b : Bool). fetchedCell (roleIf b) (instructionStateOf r c) .next) (eq-eqb c c refl) in
+      ap isFetched (sym (ap (λ (x : FrameRecord). instructionStateOf x c) (idle .1)) ∙ after) ∙ each-instruction (λ s. isFetched (fetchedCell own s .next)) refl (instructionStateOf r c),
+)
+
 -- where a colour is present or dirty no device writes, and where one is dirty none reads either
 not-busy : (mark : ℕ) → mark ≤ writing → (mark ≡ reading → ⊥) → (mark ≡ writing → ⊥) → not (eqb mark free) ≡ false
 not-busy mark l nr nw = ap not (eq-eqb mark free (omega arith))
@@ -55,4 +66,5 @@ idle-not-barred n c r lc e =
           let is-dirty = at-law r 0 c (stateTest passesWrite) (stateTest isDirty) (λ o s h d. true) refl passes in
           let held = at-law r 0 c (stateTest passesWrite) (stateTest isHeld) (λ o s h d. true) refl passes in
           not-busy (r .busy) (mark .is-mark) (λ m. false≢true (sym (mark .none-dirty m c lc) ∙ is-dirty)) (λ m. false≢true (sym (mark .none-held m c lc) ∙ held)),
+      λ idle. beside-held n r (keeps n r e) c lc (fetch-passes n c r lc e .1 idle) .1,
     )

@@ -3,15 +3,16 @@ use mathlib.Core.Path.{_≡_, refl, sym, ap, ap₂, _∙_, subst}
 use mathlib.Core.Bool.{Bool, true, false, cond, not, _&&_, _||_, false≢true}
 use Prim.Native.Nat.{ℕ, _^_, _≤_, _<_}
 use native.Mathlib.Omega.{arith}
-use borrow.Author.Tests.{ltb-true, leb-true, le-leb, eqb-true, eq-eqb}
-use lib.Bits.{bitAnd, bitOr}
+use borrow.Author.Tests.{leb-true, le-leb, eqb-true, eq-eqb}
 use lib.Count.{ones, trailingZeros}
-use lib.Dec.{eqb, leb, ltb}
+use lib.Dec.{eqb, leb}
 use lib.Pow.{pow-pos}
 use Rattle.bits.specs.Mask.{bit, digit, countOf, any, firstOf}
-use Rattle.bits.proofs.Mask.{any-one, first-one, ones-bits, only-bit, first-zeros, bit-one, digit-eqb, disjoint-all, or-within}
+use Rattle.bits.proofs.Mask.{any-one, first-one, ones-bits, only-bit, first-zeros, bit-one, digit-eqb}
 use Rattle.bits.proofs.Tautology.{and-left, and-right}
 use Rattle.page_model.specs.declared.FrameRecord.{FrameRecord}
+use Rattle.page_model.specs.Busy.{writing}
+use Rattle.page_model.specs.Masks.{masksKeepRules}
 use Rattle.page_model.specs.Record.{coloursKeepRules, markFits, dirtyColourOf, keepsRules}
 use Rattle.page_model.proofs.Moving.{MasksKeep, masks-keep, masks-kept}
 
@@ -26,6 +27,8 @@ pub record Keeps (n : ℕ) (r : FrameRecord) : Type 0 where
   pub one-held : (not (flag r) || eqb (countOf n (bit (r .masks .held))) 1) ≡ true
   pub mark-fits : markFits (r .busy) (r .dirty) (r .masks .held) ≡ true
   pub dirty-colour-is : r .«dirty_colour» ≡ dirtyColourOf n r
+  pub instructions : MasksKeep n (r .instructions)
+  pub beside : (eqb (r .instructions .held) 0 || not (flag r) && not (eqb (r .busy) writing)) ≡ true
 
 pub keeps : (n : ℕ) (r : FrameRecord) → keepsRules n r ≡ true → Keeps n r
 unfolding keepsRules
@@ -36,29 +39,26 @@ keeps n r e =
       one-held = search (and-left, and-right);
       mark-fits = search (and-left, and-right);
       dirty-colour-is = eqb-true (r .«dirty_colour») (dirtyColourOf n r) (search (and-left, and-right));
+      instructions = masks-keep n (r .instructions) (search (and-left, and-right));
+      beside = search (and-left, and-right);
     }
 
 pub kept : (n : ℕ) (r : FrameRecord) → Keeps n r → keepsRules n r ≡ true
 unfolding keepsRules
 kept n r k =
-    ap₂ _&&_ (ap₂ _&&_ (ap₂ _&&_ (ap₂ _&&_ (masks-kept n (r .masks) (k .masks)) (le-leb _ _ (k .flag-le))) (k .one-held)) (k .mark-fits)) (eq-eqb _ _ (k .dirty-colour-is))
+    ap₂ _&&_
+    (ap₂ _&&_ (ap₂ _&&_ (ap₂ _&&_ (ap₂ _&&_ (masks-kept n (r .masks) (k .masks)) (le-leb _ _ (k .flag-le))) (k .one-held)) (k .mark-fits)) (eq-eqb _ _ (k .dirty-colour-is)))
+    (ap₂ _&&_ (masks-kept n (r .instructions) (k .instructions)) (k .beside))
 
--- the colours' rules by operations on whole masks
-pub rules-are : (n : ℕ) (r : FrameRecord) → coloursKeepRules n r
-    ≡ (ltb (bitOr (r .masks .held) (r .masks .stale)) (2 ^ n) && (eqb (bitAnd (r .masks .held) (r .masks .stale)) 0 && leb (r .dirty) 1 && (not (flag r) || eqb (ones (r .masks .held)) 1)))
+-- the colours' rules, with the ones of the held mask counted by its number
+pub rules-are : (n : ℕ) (r : FrameRecord) → coloursKeepRules n r ≡ (masksKeepRules n (r .masks) && (leb (r .dirty) 1 && (not (flag r) || eqb (ones (r .masks .held)) 1)))
 unfolding coloursKeepRules
-rules-are n r = go (ltb (r .masks .held) (2 ^ n)) (ltb (r .masks .stale) (2 ^ n)) refl refl
+rules-are n r = go (masksKeepRules n (r .masks)) refl
   where
-    Rules : Bool → Type 0
-    Rules fits = coloursKeepRules n r ≡ (fits && (eqb (bitAnd (r .masks .held) (r .masks .stale)) 0 && leb (r .dirty) 1 && (not (flag r) || eqb (ones (r .masks .held)) 1)))
-
-    go : (h s : Bool) → ltb (r .masks .held) (2 ^ n) ≡ h → ltb (r .masks .stale) (2 ^ n) ≡ s → Rules (ltb (bitOr (r .masks .held) (r .masks .stale)) (2 ^ n))
-    go true true eh es =
-        let lh = ltb-true (r .masks .held) (2 ^ n) eh in
-        rw (or-within, eh, es)
-        (ap₂ _&&_ (ap (λ (b : Bool). b && leb (r .dirty) 1) (disjoint-all n (r .masks .held) (r .masks .stale) lh)) (ap (λ (m : ℕ). not (flag r) || eqb m 1) (sym (ones-bits n (r .masks .held) lh))))
-    go true false eh es = rw (or-within, eh, es)
-    go false s eh es = rw (or-within, eh)
+    go : (b : Bool) → masksKeepRules n (r .masks) ≡ b
+        → (b && leb (r .dirty) 1 && (not (flag r) || eqb (countOf n (bit (r .masks .held))) 1)) ≡ (b && (leb (r .dirty) 1 && (not (flag r) || eqb (ones (r .masks .held)) 1)))
+    go true e = ap (λ (m : ℕ). leb (r .dirty) 1 && (not (flag r) || eqb m 1)) (sym (ones-bits n (r .masks .held) (masks-keep n (r .masks) e .held-lt)))
+    go false e = refl
 
 -- the flag as a digit is the flag
 pub flag-digit : {d : ℕ} → d ≤ 1 → d ≡ digit (eqb d 1)
@@ -86,7 +86,7 @@ unfolding coloursKeepRules dirtyColourOf
 told-colour n w r few e = go (flag r) refl
   where
     go : (b : Bool) → flag r ≡ b → cond b (trailingZeros w (r .masks .held)) n ≡ cond b (firstOf n (bit (r .masks .held))) n
-    go true z = first-held n r (ltb-true (r .masks .held) (2 ^ n) (search (and-left, and-right))) (search (and-left, and-right)) z w few
+    go true z = first-held n r (masks-keep n (r .masks) (search (and-left, and-right)) .held-lt) (search (and-left, and-right)) z w few
     go false z = refl
 
 module _ (n : ℕ) (r : FrameRecord) (k : Keeps n r) where

@@ -2,7 +2,7 @@
 use mathlib.Core.Bool.{Bool, not}
 use Prim.Native.Nat.{ℕ}
 use lib.Dec.{eqb}
-use Rattle.page_model.specs.Table.{Step, read, write, deviceRead, deviceWrite, deviceWritePart, beginRead, beginWrite}
+use Rattle.page_model.specs.Table.{Step, read, write, deviceRead, deviceWrite, deviceWritePart, beginRead, beginWrite, fetch}
 
 -- no transfer; a device reads the frame; a device writes it
 abbrev pub free : ℕ
@@ -14,8 +14,8 @@ reading = 1
 abbrev pub writing : ℕ
 writing = 2
 
--- Whether a mark bars a step. While a device writes, the frame takes no access of the processor; while it reads, it takes reads only. Neither
--- takes a new transfer.
+-- Whether a mark bars a step. While a device writes, the frame takes no access of the processor; while it reads, it takes reads only and, by
+-- request N8, fetches. Neither takes a new transfer.
 abbrev pub bars : ℕ → Step → Bool
 bars mark (read c) = eqb mark writing
 bars mark (write c) = not (eqb mark free)
@@ -24,6 +24,7 @@ bars mark deviceWrite = not (eqb mark free)
 bars mark deviceWritePart = not (eqb mark free)
 bars mark beginRead = not (eqb mark free)
 bars mark beginWrite = not (eqb mark free)
+bars mark (fetch c) = eqb mark writing
 
 -- the mark after a step that it does not bar
 abbrev pub markAfter : Step → ℕ → ℕ
@@ -34,3 +35,4 @@ markAfter deviceWrite mark = mark
 markAfter deviceWritePart mark = mark
 markAfter beginRead mark = reading
 markAfter beginWrite mark = writing
+markAfter (fetch c) mark = mark

@@ -1,11 +1,13 @@
--- Document 01, "Frame records and mapping list", with request N6's busy mark and request N7's dirty colour: what a frame's record says of each
--- colour, when it keeps the rules, and the record that states and a mark encode to. For any number n of colours.
+-- Document 01, "Frame records and mapping list", with request N6's busy mark, request N7's dirty colour and request N8's masks for
+-- instructions: what a frame's record says of each colour, when it keeps the rules, and the record that states and a mark encode to. For any number
+-- n of colours.
 use mathlib.Core.Bool.{Bool, true, false, cond, not, _&&_, _||_}
 use Prim.Native.Nat.{ℕ, zero, suc}
 use lib.Dec.{eqb, leb}
 use Rattle.bits.specs.Mask.{bit, digit, countOf, any, firstOf}
 use Rattle.page_model.specs.declared.FrameRecord.{FrameRecord}
-use Rattle.page_model.specs.Busy.{free}
+use Rattle.page_model.specs.Busy.{free, writing}
+use Rattle.page_model.specs.Instructions.{InstructionState, unfetched, fetched, outdated}
 use Rattle.page_model.specs.Masks.{noMasks, masksOf, masksKeepRules}
 use Rattle.page_model.specs.Table.{ColourState, empty, present, dirty, stale}
 
@@ -20,6 +22,15 @@ stateFrom false false flag = empty
 
 unfoldable pub stateOf : FrameRecord → ℕ → ColourState
 stateOf r k = stateFrom (bit (r .masks .stale) k) (bit (r .masks .held) k) (eqb (r .dirty) 1)
+
+-- and for instructions
+abbrev pub instructionStateFrom : Bool → Bool → InstructionState
+instructionStateFrom true held = outdated
+instructionStateFrom false true = fetched
+instructionStateFrom false false = unfetched
+
+unfoldable pub instructionStateOf : FrameRecord → ℕ → InstructionState
+instructionStateOf r k = instructionStateFrom (bit (r .instructions .stale) k) (bit (r .instructions .held) k)
 
 -- ---- the rules
 
@@ -41,9 +52,17 @@ markFits (suc (suc (suc mark))) flag held = false
 unfoldable pub dirtyColourOf : ℕ → FrameRecord → ℕ
 dirtyColourOf n r = cond (eqb (r .dirty) 1) (firstOf n (bit (r .masks .held))) n
 
+-- Request N8: no bit of the masks for instructions stands past the colours, none in both, and a held one stands beside no dirty colour and no busy mark 2.
+unfoldable pub instructionsKeepRules : ℕ → FrameRecord → Bool
+instructionsKeepRules n r = masksKeepRules n (r .instructions) && (eqb (r .instructions .held) 0 || not (eqb (r .dirty) 1) && not (eqb (r .busy) writing))
+
 unfoldable pub keepsRules : ℕ → FrameRecord → Bool
-unfolding coloursKeepRules dirtyColourOf
-keepsRules n r = coloursKeepRules n r && markFits (r .busy) (r .dirty) (r .masks .held) && eqb (r .«dirty_colour») (dirtyColourOf n r)
+unfolding coloursKeepRules dirtyColourOf instructionsKeepRules
+keepsRules n r =
+    coloursKeepRules n r
+    && markFits (r .busy) (r .dirty) (r .masks .held)
+    && eqb (r .«dirty_colour») (dirtyColourOf n r)
+    && instructionsKeepRules n r
 
 -- ---- encoding
 
@@ -65,20 +84,31 @@ isStale present = false
 isStale dirty = false
 isStale stale = true
 
--- the record of a frame with this mark, whose colours are in these states
-unfoldable pub encode : ℕ → ℕ → (ℕ → ColourState) → FrameRecord
-encode n mark states =
+abbrev pub isFetched : InstructionState → Bool
+isFetched unfetched = false
+isFetched fetched = true
+isFetched outdated = false
+
+abbrev pub isOutdated : InstructionState → Bool
+isOutdated unfetched = false
+isOutdated fetched = false
+isOutdated outdated = true
+
+-- the record of a frame with this mark, whose colours are in these states, for data and for instructions
+unfoldable pub encode : ℕ → ℕ → (ℕ → ColourState) → (ℕ → InstructionState) → FrameRecord
+encode n mark states instructions =
     record {
       masks = masksOf n (λ k. isHeld (states k)) (λ k. isStale (states k));
       dirty = digit (any n (λ k. isDirty (states k)));
       busy = mark;
       «dirty_colour» = firstOf n (λ k. isDirty (states k));
+      instructions = masksOf n (λ k. isFetched (instructions k)) (λ k. isOutdated (instructions k));
     }
 
 -- the record that every frame has at the start
 abbrev pub startRecord : ℕ → FrameRecord
-startRecord n = record { masks = noMasks; dirty = 0; busy = free; «dirty_colour» = n }
+startRecord n = record { masks = noMasks; dirty = 0; busy = free; «dirty_colour» = n; instructions = noMasks }
 
 -- the record once its transfer has ended
 abbrev pub freed : FrameRecord → FrameRecord
-freed r = record { masks = r .masks; dirty = r .dirty; busy = free; «dirty_colour» = r .«dirty_colour» }
+freed r = record { masks = r .masks; dirty = r .dirty; busy = free; «dirty_colour» = r .«dirty_colour»; instructions = r .instructions }

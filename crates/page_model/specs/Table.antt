@@ -1,5 +1,5 @@
--- Document 01, "The page model": both tables, cell by cell, in its order of steps and states; request N3's transfer of a part and request
--- N6's beginnings stand last.
+-- Document 01, "The page model": both tables, cell by cell, in its order of steps and states; request N3's transfer of a part, request
+-- N6's beginnings and request N8's fetch stand last.
 use mathlib.Core.Bool.{Bool, true, false}
 use Prim.Native.Nat.{ℕ, suc}
 use lib.Dec.{eqb}
@@ -8,7 +8,7 @@ use lib.Dec.{eqb}
 pub data ColourState : Type 0 where
   empty present dirty stale : ColourState
 
--- What the cache is to do with one colour of a frame. Document 01 calls this an order.
+-- What a cache is to do with one colour of a frame. Document 01 calls this an order.
 pub data Operation : Type 0 where
   none flush purge : Operation
 
@@ -84,12 +84,21 @@ beginWriteCell present = none ⇒ stale
 beginWriteCell dirty = flush ⇒ empty
 beginWriteCell stale = none ⇒ stale
 
+-- ---- a fetch of an instruction, the same for every colour, its own included: memory is what it reads
+
+abbrev pub fetchCell : ColourState → Cell
+fetchCell empty = none ⇒ empty
+fetchCell present = none ⇒ present
+fetchCell dirty = flush ⇒ empty
+fetchCell stale = none ⇒ stale
+
 -- ---- a step
 
 -- A processor's step goes through a colour; a transfer concerns all colours alike.
 pub data Step : Type 0 where
   read write : ℕ → Step
   deviceRead deviceWrite deviceWritePart beginRead beginWrite : Step
+  fetch : ℕ → Step
 
 abbrev pub roleIf : Bool → Role
 roleIf true = own
@@ -104,6 +113,7 @@ cellAt deviceWrite k s = deviceWriteCell s
 cellAt deviceWritePart k s = deviceWritePartCell s
 cellAt beginRead k s = beginReadCell s
 cellAt beginWrite k s = beginWriteCell s
+cellAt (fetch c) k s = fetchCell s
 
 -- the colour that a step goes through; a transfer goes through none, and 0 stands for that: its cells do not look at it
 abbrev pub ownOf : Step → ℕ
@@ -114,6 +124,7 @@ ownOf deviceWrite = 0
 ownOf deviceWritePart = 0
 ownOf beginRead = 0
 ownOf beginWrite = 0
+ownOf (fetch c) = c
 
 -- how many colours a step asks for, so that the one it goes through is among them
 abbrev pub reach : Step → ℕ
@@ -124,3 +135,4 @@ reach deviceWrite = 0
 reach deviceWritePart = 0
 reach beginRead = 0
 reach beginWrite = 0
+reach (fetch c) = suc c

@@ -5,25 +5,28 @@ mod table;
 
 ghost use mathlib.Core.Path.{_≡_};
 ghost use mathlib.Core.Bool.{true, false, cond, not};
-ghost use mathlib.Core.List.{_++_};
+ghost use mathlib.Core.List.{List, _++_};
 ghost use Prim.Native.Nat.{ℕ, _≤_, _<_};
 ghost use lib.Count.{trailingZeros};
 ghost use lib.Dec.{eqb};
 ghost use Rattle.bits.specs.Mask.{width};
-ghost use Rattle.page_model.specs.Cases.{stateNumber, stepNumber, operationAt};
+ghost use Rattle.page_model.specs.Cases.{stateNumber, instructionNumber, instructionClasses, stepNumber, operationAt, instructionOperationAt};
 ghost use Rattle.page_model.specs.Busy.{free, bars};
-ghost use Rattle.page_model.specs.Record.{keepsRules, coloursKeepRules, stateFrom, stateOf, isHeld, isDirty, freed};
+ghost use Rattle.page_model.specs.Record.{keepsRules, coloursKeepRules, instructionsKeepRules, stateFrom, stateOf, instructionStateOf, isHeld, isDirty, isFetched, freed};
+ghost use Rattle.page_model.specs.declared.Op.{Op};
+ghost use Rattle.page_model.specs.Masks.{moved};
 ghost use Rattle.page_model.specs.Step.{stepped, firstTwo, opList};
-ghost use Rattle.page_model.specs.Table.{Step, ownOf, reach, read, write, deviceRead, deviceWrite, deviceWritePart, beginRead, beginWrite};
+ghost use Rattle.page_model.specs.Table.{Step, ownOf, reach, read, write, deviceRead, deviceWrite, deviceWritePart, beginRead, beginWrite, fetch};
 use masks::Classes;
 use masks::Masks;
 use masks::pick;
 
-// An operation that the cache is to carry out on one colour of a frame: document 01's order.
+// An operation that a cache is to carry out on one colour of a frame, the data cache but for PurgeInstructions: document 01's order.
 pub enum Op {
     None,
     Flush(usize),
     Purge(usize),
+    PurgeInstructions(usize),
 }
 
 // The operations of one step, in order; None stands last.
@@ -32,13 +35,15 @@ pub struct Ops {
     pub second: Op,
 }
 
-// What is known of a frame in the cache: the masks of its held and its stale colours, and dirty, 0 or 1. The mark busy is 0 where the frame is free,
-// 1 while a device reads it and 2 while a device writes it. The dirty colour is the number of colours where none is dirty.
+// What is known of a frame in the caches: the masks of its held and its stale colours, and dirty, 0 or 1. The mark busy is 0 where the frame is free,
+// 1 while a device reads it and 2 while a device writes it. The dirty colour is the number of colours where none is dirty. Request N8's masks say which
+// colours are held and stale in the instruction cache.
 pub struct FrameRecord {
     pub masks: Masks,
     pub dirty: u32,
     pub busy: u32,
     pub dirty_colour: u32,
+    pub instructions: Masks,
 }
 
 // The record after a step, and the operations that come first.
@@ -59,7 +64,21 @@ impl FrameRecord {
         if !self.colours_keep_rules(colours) {
             return false;
         }
+        if !self.instructions_keep_rules(colours) {
+            return false;
+        }
         self.dirty_colour == self.told_colour(colours as u32)
+    }
+
+    // Whether the masks for instructions keep the rules, with none held beside a dirty colour, nor while a device writes.
+    fn instructions_keep_rules(self, colours: usize) -> bool
+        requires { ⌜ colours ≤ width ⌝ }
+        ensures { λ r. ⌜ r ≡ instructionsKeepRules colours self ⌝ }
+    {
+        if !self.instructions.keep_rules(colours) {
+            return false;
+        }
+        (self.instructions.held == 0) | (self.dirty != 1) & (self.busy != busy::WRITING)
     }
 
     // Whether no bit is past the colours, none in both masks, the flag 0 or 1, and with the flag set exactly one held bit.
@@ -67,10 +86,7 @@ impl FrameRecord {
         requires { ⌜ colours ≤ width ⌝ }
         ensures { λ r. ⌜ r ≡ coloursKeepRules colours self ⌝ }
     {
-        if !bits::within(self.masks.held | self.masks.stale, colours) {
-            return false;
-        }
-        if self.masks.held & self.masks.stale != 0 {
+        if !self.masks.keep_rules(colours) {
             return false;
         }
         if self.dirty == 0 {
@@ -148,22 +164,39 @@ impl FrameRecord {
         self.step(table::BEGIN_WRITE, colours, 0)
     }
 
+    // The processor fetches an instruction through a colour.
+    pub fn fetch(self, colours: usize, colour: usize) -> Stepped
+        requires { ⌜ (colours ≤ width) × (colour < colours) ⌝ }
+        ensures { λ r. ⌜ (keepsRules colours self ≡ true → r ≡ stepped colours (fetch colour) self) ⌝ }
+    {
+        self.step(table::FETCH, colours, colour)
+    }
+
     // A device ends its transfer.
     pub fn end(self) -> FrameRecord
         ensures { λ r. ⌜ r ≡ freed self ⌝ }
     {
         let masks = self.masks;
+        let instructions = self.instructions;
         FrameRecord {
             masks,
             dirty: self.dirty,
             busy: busy::FREE,
             dirty_colour: self.dirty_colour,
+            instructions,
         }
     }
 
     // Whether the busy mark bars a read of the processor.
     pub fn bars_read(self) -> bool
         ensures { λ r. ⌜ ((c : ℕ) → r ≡ bars (self .busy) (read c)) ⌝ }
+    {
+        self.busy == busy::WRITING
+    }
+
+    // Whether it bars a fetch.
+    pub fn bars_fetch(self) -> bool
+        ensures { λ r. ⌜ ((c : ℕ) → r ≡ bars (self .busy) (fetch c)) ⌝ }
     {
         self.busy == busy::WRITING
     }
@@ -191,9 +224,18 @@ impl FrameRecord {
         self.holds(colour) & (self.dirty == 1)
     }
 
+    // Whether a colour is held for instructions, in any record.
+    pub fn holds_instructions(self, colour: usize) -> bool
+        requires { ⌜ colour < width ⌝ }
+        ensures { λ r. ⌜ r ≡ isFetched (instructionStateOf self colour) ⌝ }
+    {
+        bits::bit(self.instructions.held, colour) & !bits::bit(self.instructions.stale, colour)
+    }
+
     // A step: each class of colours takes its cell, and goes to the mask of its next state. The classes are the own colour and of the others those
     // that are held, which are all present or the one dirty, those that are stale and those that are empty. In every row none of the others but the
-    // dirty one has an operation, and none is dirty afterwards. A transfer goes through no colour, and its cells do not look at one.
+    // dirty one has an operation, and none is dirty afterwards. A transfer goes through no colour, and its cells do not look at one. For instructions the
+    // colours go by the same classes, and in every row none but the own one has an operation.
     fn step(self, step: u8, colours: usize, colour: usize) -> Stepped
         requires { ⌜ (colours ≤ width) × (colour < width) ⌝ }
         ensures { λ r. ⌜ ((s : Step) → step ≡ stepNumber s → colour ≡ ownOf s → reach s ≤ colours → keepsRules colours self ≡ true → r ≡ stepped colours s self) ⌝ }
@@ -210,6 +252,8 @@ impl FrameRecord {
         };
         let masks = self.masks;
         let after = masks.moved(colours, colour, to);
+        let fetched = table::instruction_case_at(step, true, self.instruction_state(colour));
+        let instructions = self.instructions_after(step, colours, colour, fetched.1);
         let dirty_colour = self.dirty_colour as usize;
         let dirty = own.1 == table::DIRTY;
         let next = FrameRecord {
@@ -217,11 +261,50 @@ impl FrameRecord {
             dirty: pick(dirty, 1, 0),
             busy: busy::mark_at(step, self.busy),
             dirty_colour: pick(dirty, colour as u32, colours as u32),
+            instructions,
         };
         let first = elsewhere(held.0, dirty_colour, colour);
         let second = operation(own.0, colour);
-        let ops = first_two(first, second);
+        let third = instruction_operation(fetched.0, colour);
+        let last = Ops {
+            first: third,
+            second: Op::None,
+        };
+        let ops = put_first(first, put_first(second, last));
         Stepped { next, ops }
+    }
+
+    // The masks for instructions after a step, where the own colour goes to the state of a number.
+    fn instructions_after(self, step: u8, colours: usize, colour: usize, own: u8) -> Masks
+        requires { ⌜ (colours ≤ width) × (colour < width) ⌝ }
+        ensures { λ r. ⌜ r ≡ moved colours colour (instructionClasses step own) (self .instructions) ⌝ }
+    {
+        let held = table::instruction_case_at(step, false, table::PRESENT);
+        let stale = table::instruction_case_at(step, false, table::STALE);
+        let empty = table::instruction_case_at(step, false, table::EMPTY);
+        let to = Classes {
+            own,
+            held: held.1,
+            stale: stale.1,
+            empty: empty.1,
+        };
+        let instructions = self.instructions;
+        instructions.moved(colours, colour, to)
+    }
+
+    // The number of a colour's state for instructions, in any record.
+    fn instruction_state(self, colour: usize) -> u8
+        requires { ⌜ colour < width ⌝ }
+        ensures { λ r. ⌜ r ≡ instructionNumber (instructionStateOf self colour) ⌝ }
+    {
+        if bits::bit(self.instructions.stale, colour) {
+            return table::STALE;
+        }
+        if bits::bit(self.instructions.held, colour) {
+            table::PRESENT
+        } else {
+            table::EMPTY
+        }
     }
 
     // The number of the state that every held colour is in.
@@ -267,6 +350,16 @@ fn operation(number: u8, colour: usize) -> Op
     }
 }
 
+// The operation of a number on a colour in the instruction cache.
+fn instruction_operation(number: u8, colour: usize) -> Op
+    ensures { λ r. ⌜ r ≡ instructionOperationAt number colour ⌝ }
+{
+    if number == table::PURGE {
+        return Op::PurgeInstructions(colour);
+    }
+    Op::None
+}
+
 // The operation of a number on the dirty colour, if that is not the step's own. Where none is dirty the number is that of no operation.
 fn elsewhere(number: u8, dirty: usize, own: usize) -> Op
     ensures { λ r. ⌜ r ≡ cond (eqb dirty own) Op.None (operationAt number dirty) ⌝ }
@@ -277,22 +370,24 @@ fn elsewhere(number: u8, dirty: usize, own: usize) -> Op
     operation(number, dirty)
 }
 
-// Two operations in order, either of which may be None: a None stands last.
-fn first_two(flush: Op, purge: Op) -> Ops
-    ensures { λ r. ⌜ r ≡ firstTwo (opList flush ++ opList purge) ⌝ }
+// An operation, or None, in front of others: the first two of them.
+fn put_first(first: Op, rest: Ops) -> Ops
+    ensures { λ r. ⌜ ((l : List Op) → rest ≡ firstTwo l → r ≡ firstTwo (opList first ++ l)) ⌝ }
 {
-    match flush {
-        Op::None => Ops {
-            first: purge,
-            second: Op::None,
-        },
+    let next = rest.first;
+    match first {
+        Op::None => rest,
         Op::Flush(c) => Ops {
             first: Op::Flush(c),
-            second: purge,
+            second: next,
         },
         Op::Purge(c) => Ops {
             first: Op::Purge(c),
-            second: purge,
+            second: next,
+        },
+        Op::PurgeInstructions(c) => Ops {
+            first: Op::PurgeInstructions(c),
+            second: next,
         },
     }
 }

@@ -3,7 +3,7 @@ ghost use mathlib.Core.Path.{_≡_};
 ghost use mathlib.Core.Bool.{cond};
 ghost use Prim.Native.Nat.{_≤_, _<_};
 ghost use Rattle.bits.specs.Mask.{width};
-ghost use Rattle.page_model.specs.Masks.{withClass, moved};
+ghost use Rattle.page_model.specs.Masks.{masksKeepRules, withClass, moved};
 use super::table::DIRTY;
 use super::table::PRESENT;
 use super::table::STALE;
@@ -23,6 +23,17 @@ pub struct Classes {
 }
 
 impl Masks {
+    // Whether no bit is past the colours, and none in both masks.
+    pub fn keep_rules(self, colours: usize) -> bool
+        requires { ⌜ colours ≤ width ⌝ }
+        ensures { λ r. ⌜ r ≡ masksKeepRules colours self ⌝ }
+    {
+        if !bits::within(self.held | self.stale, colours) {
+            return false;
+        }
+        self.held & self.stale == 0
+    }
+
     // The masks after each class of colours went to its state. A colour that is in both masks counts as stale.
     pub fn moved(self, colours: usize, colour: usize, to: Classes) -> Masks
         requires { ⌜ (colours ≤ width) × (colour < width) ⌝ }

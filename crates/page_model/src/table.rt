@@ -1,9 +1,9 @@
-// Document 01's two tables, request N3's row and request N6's two, by cases: what a step makes of one colour's state, own or other. Steps, rows
-// and states stand in the papers' order.
+// Document 01's two tables, request N3's row, request N6's two and request N8's, by cases: what a step makes of one colour's state, own or other, for
+// data and for instructions. Steps, rows and states stand in the papers' order.
 ghost use mathlib.Core.Path.{_≡_};
-ghost use Rattle.page_model.specs.Cases.{caseAt};
+ghost use Rattle.page_model.specs.Cases.{caseAt, instructionCaseAt};
 
-// The states of a colour, by number. PRESENT is what document 01 calls held.
+// The states of a colour, by number. PRESENT is what document 01 calls held. No colour is dirty for instructions.
 pub const EMPTY: u8 = 0;
 
 pub const PRESENT: u8 = 1;
@@ -33,6 +33,8 @@ pub const DEVICE_WRITE_PART: u8 = 4;
 pub const BEGIN_READ: u8 = 5;
 
 pub const BEGIN_WRITE: u8 = 6;
+
+pub const FETCH: u8 = 7;
 
 // A cell of the tables: an operation, and the state after it.
 pub struct Case(pub u8, pub u8);
@@ -127,7 +129,94 @@ pub fn case_at(step: u8, own: bool, state: u8) -> Case
             STALE => Case(NONE, STALE),
             4..=255 => Case(NONE, state),
         },
+        // fetch, every colour
+        FETCH => match state {
+            EMPTY => Case(NONE, EMPTY),
+            PRESENT => Case(NONE, PRESENT),
+            DIRTY => Case(FLUSH, EMPTY),
+            STALE => Case(NONE, STALE),
+            4..=255 => Case(NONE, state),
+        },
         // no step
-        7..=255 => Case(NONE, state),
+        8..=255 => Case(NONE, state),
+    }
+}
+
+// The same for instructions: the operation is one in the instruction cache, and the number of dirty is unused.
+pub fn instruction_case_at(step: u8, own: bool, state: u8) -> Case
+    ensures { λ r. ⌜ r ≡ instructionCaseAt step own state ⌝ }
+{
+    match step {
+        // processor read, every colour
+        READ => match state {
+            EMPTY => Case(NONE, EMPTY),
+            PRESENT => Case(NONE, PRESENT),
+            STALE => Case(NONE, STALE),
+            DIRTY | 4..=255 => Case(NONE, state),
+        },
+        // processor write, every colour
+        WRITE => match state {
+            EMPTY => Case(NONE, EMPTY),
+            PRESENT => Case(NONE, STALE),
+            STALE => Case(NONE, STALE),
+            DIRTY | 4..=255 => Case(NONE, state),
+        },
+        // device read, every colour
+        DEVICE_READ => match state {
+            EMPTY => Case(NONE, EMPTY),
+            PRESENT => Case(NONE, PRESENT),
+            STALE => Case(NONE, STALE),
+            DIRTY | 4..=255 => Case(NONE, state),
+        },
+        // device write, every colour
+        DEVICE_WRITE => match state {
+            EMPTY => Case(NONE, EMPTY),
+            PRESENT => Case(NONE, STALE),
+            STALE => Case(NONE, STALE),
+            DIRTY | 4..=255 => Case(NONE, state),
+        },
+        // part transfer, every colour
+        DEVICE_WRITE_PART => match state {
+            EMPTY => Case(NONE, EMPTY),
+            PRESENT => Case(NONE, STALE),
+            STALE => Case(NONE, STALE),
+            DIRTY | 4..=255 => Case(NONE, state),
+        },
+        // begin read, every colour
+        BEGIN_READ => match state {
+            EMPTY => Case(NONE, EMPTY),
+            PRESENT => Case(NONE, PRESENT),
+            STALE => Case(NONE, STALE),
+            DIRTY | 4..=255 => Case(NONE, state),
+        },
+        // begin write, every colour
+        BEGIN_WRITE => match state {
+            EMPTY => Case(NONE, EMPTY),
+            PRESENT => Case(NONE, STALE),
+            STALE => Case(NONE, STALE),
+            DIRTY | 4..=255 => Case(NONE, state),
+        },
+        // fetch
+        FETCH => {
+            if own {
+                // own colour
+                match state {
+                    EMPTY => Case(NONE, PRESENT),
+                    PRESENT => Case(NONE, PRESENT),
+                    STALE => Case(PURGE, PRESENT),
+                    DIRTY | 4..=255 => Case(NONE, state),
+                }
+            } else {
+                // others
+                match state {
+                    EMPTY => Case(NONE, EMPTY),
+                    PRESENT => Case(NONE, PRESENT),
+                    STALE => Case(NONE, STALE),
+                    DIRTY | 4..=255 => Case(NONE, state),
+                }
+            }
+        }
+        // no step
+        8..=255 => Case(NONE, state),
     }
 }

@@ -12,7 +12,7 @@ use Rattle.board.specs.declared.Board.{Board}
 use Rattle.mapping.specs.declared.Mapping.{Mapping}
 use Rattle.manager.specs.Batch.{itemAt}
 use Rattle.machine.specs.Call.{mapOf}
-use Rattle.machine.specs.State.{Single, map, unmap, read, write, deviceRead, deviceWrite, deviceWritePart, evict, beginRead, beginWrite, bringWord, takeWord, endTransfer, Call, single, mapAll, Answer}
+use Rattle.machine.specs.State.{Single, map, unmap, read, write, deviceRead, deviceWrite, deviceWritePart, evict, beginRead, beginWrite, bringWord, takeWord, endTransfer, fetch, Call, single, mapAll, Answer}
 use Rattle.consistency.specs.Cacheless.{Cacheless, startCacheless, stored, afterAccepted, afterSingle, itemsTaken, isRefused, itemRefused, fed}
 use Rattle.position_hold.specs.Sent.{mappedFrame, isFrame, WordEffect, sends, overwrites, leaves, sentAfter, lastSent, LeftBy, SentBy, itemsAnd, acceptedAnd}
 
@@ -103,6 +103,7 @@ module _ (m : Cacheless) (calls : List Single) (told : Told m calls) where
       }
   told-accepted (takeWord frame offset) = record { words-told = told .words-told; frames-told = told .frames-told }
   told-accepted (endTransfer frame) = record { words-told = told .words-told; frames-told = told .frames-told }
+  told-accepted (fetch space page offset) = record { words-told = told .words-told; frames-told = told .frames-told }
 
 -- a single call, refused or not
 told-single : (m : Cacheless) (calls : List Single) → Told m calls → (call : Single) (refused : Bool)

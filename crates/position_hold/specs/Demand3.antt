@@ -6,7 +6,7 @@ use mathlib.Core.Path.{_≡_}
 use Prim.Native.Nat.{ℕ, _<_}
 use lib.ListN.{length, getD}
 use Rattle.board.specs.declared.Board.{Board}
-use Rattle.board.specs.Board.{Regular, board01, memoryWords, cacheWords, lines}
+use Rattle.board.specs.Board.{Regular, board01, memoryWords, cacheWords, dataLines, lines}
 use Rattle.mapping.specs.Entry.{capacity}
 use Rattle.machine.specs.Call.{perform}
 use Rattle.machine.specs.State.{State}
@@ -39,7 +39,7 @@ cachelessAfter b st m (look space page clock hold ∷ acts) = cachelessAfter b (
 pub record Holds (b : Board) (st : State) (m : Cacheless) (acts : List Act) : Type 0 where
   pub finds : AllFind b st m acts
   pub evicted :
-      (ns : List ℕ) → ((n : ℕ) → Occurs n ns → n < lines b) → ((n : ℕ) → n < lines b → Occurs n ns)
+      (ns : List ℕ) → ((n : ℕ) → Occurs n ns → n < lines b) → ((n : ℕ) → n < dataLines b → Occurs n ns)
       → NoneRefused b (stateAfter b st acts) (evictions ns)
       × MemoryIs b (cachelessAfter b st m acts) (of-calls.stateAfter b (stateAfter b st acts) (evictions ns))
 

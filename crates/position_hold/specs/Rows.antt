@@ -7,7 +7,7 @@ use lib.ListN.{replicate}
 use Rattle.board.specs.Board.{board01, memoryWords, cacheWords}
 use Rattle.mapping.specs.declared.Mapping.{Mapping}
 use Rattle.mapping.specs.Entry.{capacity}
-use Rattle.machine.specs.State.{State, Single, map, unmap, read, write, deviceRead, deviceWrite, deviceWritePart, evict, beginRead, beginWrite, bringWord, takeWord, endTransfer, single, mapAll}
+use Rattle.machine.specs.State.{State, Single, map, unmap, read, write, deviceRead, deviceWrite, deviceWritePart, evict, beginRead, beginWrite, bringWord, takeWord, endTransfer, fetch, single, mapAll}
 use Rattle.consistency.specs.Demand3.{startState}
 use Rattle.position_hold.specs.Sent.{lastSent, LeftBy, SentBy}
 use Rattle.position_hold.specs.Theorems.{Act, call, look, acceptedIn}
@@ -66,8 +66,8 @@ item p = record { space = 0; page = p; frame = 3; rights = 2 }
 abbrev both : List ℕ → Act
 both answers = call (mapAll (item 0 ∷ item 1 ∷ []) answers)
 
-abbrev pub rows : List Row
-rows =
+abbrev pub partRows : List Row
+partRows =
     -- a part sends its words, to its frame, and no others
     row (chart ∷ four ∷ []) 3 0 (some 1)
     ∷ row (chart ∷ four ∷ []) 3 3 (some 6)
@@ -83,16 +83,21 @@ rows =
     ∷ row (chart ∷ four ∷ two ∷ []) 3 1 (some 1000)
     ∷ row (chart ∷ four ∷ two ∷ []) 3 2 (some 50)
     ∷ row (chart ∷ two ∷ four ∷ []) 3 2 (some 5)
+    ∷ []
+
+-- transfers beside other calls
+abbrev pub besideRows : List Row
+besideRows =
     -- a program's write, through either page, and a transfer after it
-    ∷ row (chart ∷ four ∷ one (write 0 0 3 100) ∷ []) 3 3 none
+    row (chart ∷ four ∷ one (write 0 0 3 100) ∷ []) 3 3 none
     ∷ row (chart ∷ four ∷ one (write 0 0 3 100) ∷ []) 3 2 (some 5)
     ∷ row (chart ∷ alarm ∷ four ∷ one (write 1 9 3 100) ∷ []) 3 3 none
     ∷ row (chart ∷ four ∷ one (write 0 0 3 100) ∷ two ∷ []) 3 3 (some 60)
     -- a page that is mapped to another frame, after the write and before it
     ∷ row (chart ∷ four ∷ one (write 0 0 3 100) ∷ one (unmap 0 0) ∷ one (map 0 0 4 2) ∷ []) 3 3 none
     ∷ row (chart ∷ four ∷ one (unmap 0 0) ∷ one (map 0 0 4 2) ∷ one (write 0 0 3 100) ∷ []) 3 3 (some 6)
-    -- maps, unmaps, reads, device reads, evictions and looks send nothing and write nothing
-    ∷ row (chart ∷ four ∷ one (read 0 0 3) ∷ look 0 0 1000 2 ∷ one (evict 0) ∷ one (deviceRead 3 (replicate 64 0)) ∷ alarm ∷ one (unmap 0 0) ∷ []) 3 3 (some 6)
+    -- maps, unmaps, reads, fetches, device reads, evictions and looks send nothing and write nothing
+    ∷ row (chart ∷ four ∷ one (read 0 0 3) ∷ look 0 0 1000 2 ∷ one (evict 0) ∷ one (deviceRead 3 (replicate 64 0)) ∷ alarm ∷ one (map 0 8 3 3) ∷ one (fetch 0 8 3) ∷ one (unmap 0 0) ∷ []) 3 3 (some 6)
     -- refused: a transfer by its buffer, a write by its rights
     ∷ row (chart ∷ four ∷ one (deviceWritePart 3 2 3 (50 ∷ 60 ∷ [])) ∷ []) 3 3 (some 6)
     ∷ row (one (map 0 0 3 1) ∷ four ∷ one (write 0 0 3 100) ∷ []) 3 3 (some 6)
@@ -129,4 +134,4 @@ SentRows =
     × LeftBy (write 0 0 3 100 ∷ read 0 0 2 ∷ []) (map 0 0 3 2 ∷ []) 3 2
 
 abbrev pub LastSentRows : Type 0
-LastSentRows = EveryRowHolds rows × EveryRowHolds begunRows × SentRows
+LastSentRows = EveryRowHolds partRows × EveryRowHolds besideRows × EveryRowHolds begunRows × SentRows

@@ -10,7 +10,7 @@ use lib.ListN.{length, getD}
 use Rattle.mapping.specs.declared.Mapping.{Mapping}
 use Rattle.manager.specs.Batch.{itemAt}
 use Rattle.machine.specs.Call.{mapOf}
-use Rattle.machine.specs.State.{Single, map, unmap, read, write, deviceRead, deviceWrite, deviceWritePart, evict, beginRead, beginWrite, bringWord, takeWord, endTransfer, Call, single, mapAll, Answer}
+use Rattle.machine.specs.State.{Single, map, unmap, read, write, deviceRead, deviceWrite, deviceWritePart, evict, beginRead, beginWrite, bringWord, takeWord, endTransfer, fetch, Call, single, mapAll, Answer}
 use Rattle.consistency.specs.Cacheless.{isRefused, itemRefused}
 
 -- ---- what an accepted call does to pages and to words, by itself: the cacheless memory has its own account of it (`useOf`)
@@ -39,6 +39,7 @@ deedOf (beginWrite frame) = noDeed
 deedOf (bringWord frame offset word) = sendsAt frame offset word
 deedOf (takeWord frame offset) = noDeed
 deedOf (endTransfer frame) = noDeed
+deedOf (fetch space page offset) = noDeed
 
 -- ---- the frame to which a page of a space was last mapped, if it was and has not been unmapped since
 

@@ -21,14 +21,14 @@ ghost use Rattle.run_sheet.specs.Run.{runFrom, advance, afterMappings, a
 ghost use Rattle.sheet_codec.specs.Put.{Put};
 ghost use Rattle.run_sheet.specs.Ran.{Ran};
 
-// What the board's sizes come to: the words of all records, of memory and of the cache, and the cache's lines.
+// What the board's sizes come to: the words of all records, of memory and of both caches, and their lines.
 const RECORDS_WORDS: usize = BOARD01.frames * RECORD_WORDS;
 
 const MEMORY_WORDS: usize = BOARD01.frames * BOARD01.page;
 
-const CACHE_WORDS: usize = BOARD01.colours * BOARD01.page;
+const CACHE_WORDS: usize = 2 * BOARD01.colours * BOARD01.page;
 
-const LINES: usize = BOARD01.colours * (BOARD01.page / BOARD01.line);
+const LINES: usize = 2 * BOARD01.colours * (BOARD01.page / BOARD01.line);
 
 // An unbroken sheet, run from the start: nothing mapped or cached, memory all 0.
 pub fn run_unbroken(sheet: &[u8], text: &mut [u8]) -> usize

@@ -14,7 +14,7 @@ use Rattle.machine.specs.State.{State, machineOf, Single, unmap, evict, Answer,
 use Rattle.machine.specs.Step.{result, step}
 use Rattle.sheet_codec.specs.declared.Fields.{Fields}
 use Rattle.sheet_codec.specs.declared.Kind.{Kind}
-use Rattle.sheet_codec.specs.declared.Kind.the-variants.{Read, Write, DeviceRead, DeviceWrite, DeviceWritePart, BeginRead, BeginWrite, BringWord, TakeWord, EndTransfer, Evict, Unmap, Other}
+use Rattle.sheet_codec.specs.declared.Kind.the-variants.{Read, Write, DeviceRead, DeviceWrite, DeviceWritePart, BeginRead, BeginWrite, BringWord, TakeWord, EndTransfer, Fetch, Evict, Unmap, Other}
 use Rattle.sheet_codec.specs.Format.{callOf}
 use Rattle.sheet_codec.specs.Text.{wordOf, firstWord, shownWord}
 use Rattle.sheet_codec.proofs.Kind.{the-type}
@@ -77,11 +77,12 @@ unmap-is f BeginWrite e = absurd (false≢true e)
 unmap-is f BringWord e = absurd (false≢true e)
 unmap-is f TakeWord e = absurd (false≢true e)
 unmap-is f EndTransfer e = absurd (false≢true e)
+unmap-is f Fetch e = absurd (false≢true e)
 unmap-is f Evict e = absurd (false≢true e)
 unmap-is f Unmap e = refl
 unmap-is f Other e = refl
 
-pub evict-is : (f : Fields) (k : Kind) → isUnmap k ≡ false → 10 ≤ tagOf the-type k → evict (f .s) ≡ callOf board01 k f
+pub evict-is : (f : Fields) (k : Kind) → isUnmap k ≡ false → 11 ≤ tagOf the-type k → evict (f .s) ≡ callOf board01 k f
 evict-is f Read e h = absurd (omega arith)
 evict-is f Write e h = absurd (omega arith)
 evict-is f DeviceRead e h = absurd (omega arith)
@@ -92,6 +93,7 @@ evict-is f BeginWrite e h = absurd (omega arith)
 evict-is f BringWord e h = absurd (omega arith)
 evict-is f TakeWord e h = absurd (omega arith)
 evict-is f EndTransfer e h = absurd (omega arith)
+evict-is f Fetch e h = absurd (omega arith)
 evict-is f Evict e h = refl
 evict-is f Unmap e h = absurd (false≢true (sym e))
 evict-is f Other e h = absurd (false≢true (sym e))

@@ -42,6 +42,7 @@ pub fn is_unmap(kind: Kind) -> bool
         Kind::BringWord => false,
         Kind::TakeWord => false,
         Kind::EndTransfer => false,
+        Kind::Fetch => false,
         Kind::Evict => false,
         Kind::Unmap => true,
         Kind::Other => true,
@@ -87,6 +88,7 @@ pub fn step(
         Kind::EndTransfer => {
             transfers::end_transfer(list, records, protections, memory, words, tags, f)
         }
+        Kind::Fetch => fetch(list, records, protections, memory, words, tags, f),
         _ => evict(list, records, protections, memory, words, tags, f),
     }
 }
@@ -153,6 +155,36 @@ fn write(
         answer,
         shown: Shown::Absent,
     }
+}
+
+// The processor fetches an instruction.
+fn fetch(
+    list: MappingList,
+    records: &mut [u32],
+    protections: &mut [u8],
+    memory: &mut [u32],
+    words: &mut [u32],
+    tags: &mut [u8],
+    f: Fields,
+) -> Told
+    ensures { λ r. ⌜ Did
+        (machineOf list (now (records .entry)) (now (protections .entry)) (now (memory .entry)) (now (words .entry)) (now (tags .entry)))
+        (call.fetch (f .s) (f .p) (f .o))
+        (machineOf list (now (records .exit)) (now (protections .exit)) (now (memory .exit)) (now (words .exit)) (now (tags .exit)))
+        (outcome (r .answer)) (shownWord (r .shown)) ⌝ }
+{
+    let got = machine::fetch(
+        list,
+        records,
+        protections,
+        memory,
+        words,
+        tags,
+        f.s,
+        f.p,
+        f.o as usize,
+    );
+    told_of(got)
 }
 
 // A device reads a frame, into a buffer of zeros; its first word is shown.

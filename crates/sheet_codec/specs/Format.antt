@@ -1,4 +1,4 @@
--- Document 01, "The run sheet", with the kinds of requests N3 and N6: the bytes of a sheet, when it is broken, and the calls that it stands
+-- Document 01, "The run sheet", with the kinds of requests N3, N6 and N8: the bytes of a sheet, when it is broken, and the calls that it stands
 -- for. A byte past the end counts as 0.
 use mathlib.Core.Bool.{Bool, true, false, not, cond, _&&_, _||_}
 use mathlib.Core.List.{List}
@@ -12,7 +12,7 @@ use Rattle.machine.specs.State as call
 use Rattle.machine.specs.State.{Single}
 use Rattle.sheet_codec.specs.declared.Fields.{Fields}
 use Rattle.sheet_codec.specs.declared.Kind.{Kind}
-use Rattle.sheet_codec.specs.declared.Kind.the-variants.{Read, Write, DeviceRead, DeviceWrite, DeviceWritePart, BeginRead, BeginWrite, BringWord, TakeWord, EndTransfer, Evict, Unmap, Other}
+use Rattle.sheet_codec.specs.declared.Kind.the-variants.{Read, Write, DeviceRead, DeviceWrite, DeviceWritePart, BeginRead, BeginWrite, BringWord, TakeWord, EndTransfer, Fetch, Evict, Unmap, Other}
 
 -- ---- numbers, low byte first
 
@@ -83,13 +83,13 @@ abbrev pub kindOf : ℕ → Kind
 kindOf n =
     cond (eqb n 1) Read
     (cond (eqb n 2) Write (cond (eqb n 3) DeviceRead (cond (eqb n 4) DeviceWrite (cond (eqb n 5) Evict (cond (eqb n 6) Unmap (cond (eqb n 7) DeviceWritePart
-    (cond (eqb n 8) BeginRead (cond (eqb n 9) BeginWrite (cond (eqb n 10) BringWord (cond (eqb n 11) TakeWord (cond (eqb n 12) EndTransfer Other)))))))))))
+    (cond (eqb n 8) BeginRead (cond (eqb n 9) BeginWrite (cond (eqb n 10) BringWord (cond (eqb n 11) TakeWord (cond (eqb n 12) EndTransfer (cond (eqb n 13) Fetch Other))))))))))))
 
 -- p, o and w are 0
 abbrev pub allZero : ℕ → ℕ → ℕ → Bool
 allZero p o w = eqb p 0 && eqb o 0 && eqb w 0
 
--- the kind is one of the twelve, and the fields that it does not use are 0
+-- the kind is one of the thirteen, and the fields that it does not use are 0
 abbrev pub keeps : Kind → Fields → Bool
 keeps Read f = allZero 0 0 (f .w)
 keeps Write f = true
@@ -101,6 +101,7 @@ keeps BeginWrite f = allZero (f .p) (f .o) (f .w)
 keeps BringWord f = allZero (f .p) 0 0
 keeps TakeWord f = allZero (f .p) 0 (f .w)
 keeps EndTransfer f = allZero (f .p) (f .o) (f .w)
+keeps Fetch f = allZero 0 0 (f .w)
 keeps Evict f = allZero (f .p) (f .o) (f .w)
 keeps Unmap f = allZero 0 (f .o) (f .w)
 keeps Other f = false
@@ -143,6 +144,7 @@ callOf b BeginWrite f = call.beginWrite (f .s)
 callOf b BringWord f = call.bringWord (f .s) (f .o) (f .w)
 callOf b TakeWord f = call.takeWord (f .s) (f .o)
 callOf b EndTransfer f = call.endTransfer (f .s)
+callOf b Fetch f = call.fetch (f .s) (f .p) (f .o)
 callOf b Evict f = call.evict (f .s)
 callOf b Unmap f = call.unmap (f .s) (f .p)
 callOf b Other f = call.unmap (f .s) (f .p)

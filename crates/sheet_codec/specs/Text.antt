@@ -26,12 +26,15 @@ dash = 45
 abbrev pub dot : ℕ
 dot = 46
 
--- F, P and m
+-- F, P, I and m
 abbrev pub flushLetter : ℕ
 flushLetter = 70
 
 abbrev pub purgeLetter : ℕ
 purgeLetter = 80
+
+abbrev pub instructionLetter : ℕ
+instructionLetter = 73
 
 abbrev pub mappingLetter : ℕ
 mappingLetter = 109
@@ -68,12 +71,13 @@ decimal n = digits 10 (places 19 n) n
 
 -- ---- what is told of an answer
 
--- F or P, then frame, a dot, colour; or a dash
+-- F, P or, of a purge in the instruction cache (request N8), I, then frame, a dot, colour; or a dash
 unfoldable pub operationText : FrameOperation → List ℕ
 unfolding decimal
 operationText operation.none = dash ∷ []
 operationText (operation.flush f c) = flushLetter ∷ (decimal f ++ (dot ∷ decimal c))
 operationText (operation.purge f c) = purgeLetter ∷ (decimal f ++ (dot ∷ decimal c))
+operationText (operation.purgeInstructions f c) = instructionLetter ∷ (decimal f ++ (dot ∷ decimal c))
 
 unfoldable pub wordText : Option ℕ → List ℕ
 unfolding decimal
@@ -85,7 +89,7 @@ abbrev pub firstWord : Outcome → List ℕ → Option ℕ
 firstWord (refused n) buffer = none
 firstWord (accepted f ops) buffer = some (getD buffer 0 0)
 
--- the word read, for a device read its first; the word that a device takes
+-- the word read or fetched, for a device read its first; the word that a device takes
 abbrev pub wordGiven : Exchange → Answer → Option ℕ
 wordGiven noWords a = none
 wordGiven wordOut a = a .word

@@ -66,10 +66,11 @@ fn flush_of(frame: u8, op: Op) -> u64
         Op::None => 0,
         Op::Flush(_) => 1,
         Op::Purge(_) => 0,
+        Op::PurgeInstructions(_) => 0,
     }
 }
 
-// 1 for a purge.
+// 1 for a purge, in the instruction cache too.
 fn purge_of(frame: u8, op: Op) -> u64
     ensures { λ r. ⌜ (r ≡ purgeOf (operationOn frame op)) × (r ≤ 1) ⌝ }
 {
@@ -77,5 +78,6 @@ fn purge_of(frame: u8, op: Op) -> u64
         Op::None => 0,
         Op::Flush(_) => 0,
         Op::Purge(_) => 1,
+        Op::PurgeInstructions(_) => 1,
     }
 }

@@ -102,6 +102,7 @@ fn keeps(kind: Kind, f: Fields) -> bool
         Kind::BringWord => all_zero(f.p, 0, 0),
         Kind::TakeWord => all_zero(f.p, 0, f.w),
         Kind::EndTransfer => all_zero(f.p, f.o, f.w),
+        Kind::Fetch => all_zero(0, 0, f.w),
         Kind::Evict => all_zero(f.p, f.o, f.w),
         Kind::Unmap => all_zero(0, f.o, f.w),
         Kind::Other => false,
@@ -137,6 +138,7 @@ pub fn kind_of(n: u8) -> Kind
         10 => Kind::BringWord,
         11 => Kind::TakeWord,
         12 => Kind::EndTransfer,
+        13 => Kind::Fetch,
         _ => Kind::Other,
     }
 }

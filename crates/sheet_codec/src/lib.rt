@@ -15,6 +15,7 @@ pub enum Kind {
     BringWord,
     TakeWord,
     EndTransfer,
+    Fetch,
     Evict,
     Unmap,
     Other,

@@ -89,7 +89,7 @@ fn put_word(text: &mut [u8], at: usize, shown: Shown) -> usize
     }
 }
 
-// An operation on a frame: F or P, the frame, a dot, the colour; or a dash.
+// An operation on a frame: F, P or I, the frame, a dot, the colour; or a dash.
 fn put_operation(text: &mut [u8], at: usize, frame: u8, op: Op) -> usize
     requires { ⌜ at + operationBytes ≤ length (now text) ⌝ }
     ensures { λ r. ⌜ Put (now (text .entry)) at (operationText (operationOn frame op)) operationBytes (now (text .exit)) r ⌝ }
@@ -98,6 +98,7 @@ fn put_operation(text: &mut [u8], at: usize, frame: u8, op: Op) -> usize
         Op::None => put_byte(text, at, b'-'),
         Op::Flush(colour) => put_operation_on(text, at, b'F', frame, colour),
         Op::Purge(colour) => put_operation_on(text, at, b'P', frame, colour),
+        Op::PurgeInstructions(colour) => put_operation_on(text, at, b'I', frame, colour),
     }
 }
 

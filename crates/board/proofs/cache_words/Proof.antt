@@ -5,13 +5,16 @@ use Rattle.board.proofs.Geometry.{cacheWords-small}
 use Rattle.board.proofs.cache_words.Statement.{statement}
 use Rattle.board.proofs.cache_words.Tie as tie
 
+cache-pages-requires : tie.Need-cache-pages-requires
+cache-pages-requires c κs = search needs
+
 mul-result : tie.Need-mul-result
 unfolding cacheWords
-mul-result c = let small = cacheWords-small _ (c .before .pre) in search needs
+mul-result c = rw (c .before .cache-pages .ensures) (let small = cacheWords-small _ (c .before .before .pre) in search needs)
 
 returns : tie.Need-returns
 unfolding cacheWords
-returns c = search needs
+returns c = rw (c .before .cache-pages .ensures)
 
 pub cache-words-spec : {M : Type 1} → statement M
-cache-words-spec = tie.close (tie.spec mul-result returns)
+cache-words-spec = tie.close (tie.spec cache-pages-requires mul-result returns)

@@ -9,7 +9,7 @@ use borrow.Author.Tests.{leb-true, leb-false, ltb-true, ltb-false}
 use lib.Dec.{leb, ltb}
 use lib.ListN.{length, getD}
 use Rattle.board.specs.declared.Board.{Board}
-use Rattle.board.specs.Board.{Regular, lineOf, cacheAt}
+use Rattle.board.specs.Board.{Regular, cachePages, lineOf, cacheAt}
 use Rattle.cache.specs.Store.{Store, WellFormedStore, tagAt, memoryWord}
 use Rattle.cache.specs.Tag.{dirtyTag}
 use Rattle.cache.specs.Cache.{deviceWrite}
@@ -32,7 +32,7 @@ module _ (b : Board) (reg : Regular b) (g : ℕ) (hg : g < b .frames) (first : �
 
   -- the words that it sends are its own frame's, if no line of it is dirty and memory has the others
   pub device-current-same : (current : ℕ → ℕ)
-      → ((c o : ℕ) → c < b .colours → o < b .page → tagAt s (lineOf b c o) ≡ dirtyTag g → ⊥)
+      → ((c o : ℕ) → c < cachePages b → o < b .page → tagAt s (lineOf b c o) ≡ dirtyTag g → ⊥)
       → ((o : ℕ) → o < b .page → (first ≤ o → o < first + length buffer → ⊥) → memoryWord b s g o ≡ current o)
       → Current b g (received first buffer current) (deviceWrite b g first buffer s)
   device-current-same current clean rest =

@@ -7,7 +7,7 @@ use native.Mathlib.Omega.{arith}
 use native.Mathlib.Decide.{ℕ-discrete}
 use lib.ListN.{getD}
 use Rattle.board.specs.declared.Board.{Board}
-use Rattle.board.specs.Board.{Regular, lines, lineOf, lineColour, cacheAt, memoryAt}
+use Rattle.board.specs.Board.{Regular, cachePages, lines, lineOf, lineColour, cacheAt, memoryAt}
 use Rattle.board.proofs.Geometry.{lineOf-lt, lineOf-colour, lineColour-lt}
 use Rattle.cache.specs.Store.{Store, WellFormedStore, tagAt, wordAt, memoryWord}
 use Rattle.cache.specs.Tag.{dirtyTag}
@@ -21,16 +21,16 @@ use Rattle.cache.proofs.Laws.Access.{replace-tag-same, replace-tag-othe
 -- line n is written back and its tag then is no dirty one of f; the other lines are as they were
 module _ (b : Board) (reg : Regular b) (f : ℕ) (current : ℕ → ℕ) (s : Store) (wf : WellFormedStore b s) (was : Current b f current s) (n : ℕ) (hn : n < lines b) where
   module _ (t : Store) (memory : t .memory ≡ writeBack b n s .memory) (tag-same : tagAt t n ≢ dirtyTag f) (tag-other : (m : ℕ) → m ≢ n → tagAt t m ≡ tagAt s m) (word-other : (c o : ℕ) → lineOf b c o ≢ n → wordAt b t c o ≡ wordAt b s c o) where
-    line-current : (c o : ℕ) → c < b .colours → o < b .page → tagAt t (lineOf b c o) ≡ dirtyTag f → Dec (lineOf b c o ≡ n) → wordAt b t c o ≡ current o
+    line-current : (c o : ℕ) → c < cachePages b → o < b .page → tagAt t (lineOf b c o) ≡ dirtyTag f → Dec (lineOf b c o ≡ n) → wordAt b t c o ≡ current o
     line-current c o hc ho d (yes e) = absurd (tag-same (sym (ap (tagAt t) e) ∙ d))
     line-current c o hc ho d (no ne) = word-other c o ne ∙ was .in-line c o hc ho (sym (tag-other (lineOf b c o) ne) ∙ d)
 
-    module _ (o : ℕ) (ho : o < b .page) (none : (c : ℕ) → c < b .colours → tagAt t (lineOf b c o) ≡ dirtyTag f → ⊥) where
+    module _ (o : ℕ) (ho : o < b .page) (none : (c : ℕ) → c < cachePages b → tagAt t (lineOf b c o) ≡ dirtyTag f → ⊥) where
       -- line n was not the one that held the word
       left : (lineOf b (lineColour b n) o ≡ n → tagAt s n ≡ dirtyTag f → ⊥) → memoryWord b (writeBack b n s) f o ≡ current o
       left out = writeBack-memory-other b reg s wf n f o hn ho out ∙ was .in-memory o ho (λ c hc d. go c hc d (ℕ-discrete (lineOf b c o) n))
         where
-          go : (c : ℕ) → c < b .colours → tagAt s (lineOf b c o) ≡ dirtyTag f → Dec (lineOf b c o ≡ n) → ⊥
+          go : (c : ℕ) → c < cachePages b → tagAt s (lineOf b c o) ≡ dirtyTag f → Dec (lineOf b c o ≡ n) → ⊥
           go c hc d (yes e) = out (ap (λ (x : ℕ). lineOf b x o) (ap (lineColour b) (sym e) ∙ lineOf-colour b reg c o ho) ∙ e) (sym (ap (tagAt s) e) ∙ d)
           go c hc d (no ne) = none c hc (tag-other (lineOf b c o) ne ∙ d)
 
@@ -68,11 +68,11 @@ module _ (b : Board) (reg : Regular b) where
   pub evict-current : (n : ℕ) → n < lines b → LosesNone b (evict b n)
   evict-current n hn f current s wf was = evict-line b reg f current s wf was n hn
 
-  pub flush-current : (g c : ℕ) → c < b .colours → LosesNone b (flush b g c)
+  pub flush-current : (g c : ℕ) → c < cachePages b → LosesNone b (flush b g c)
   flush-current g c hc f current s wf was =
       flush-keeps b reg g c hc s wf (Current b f current) (λ m t hm w cur. evict-line b reg f current t w cur m hm) was
 
-  pub access-current : (g c o : ℕ) → g < b .frames → c < b .colours → o < b .page → LosesNone b (access b g c o)
+  pub access-current : (g c o : ℕ) → g < b .frames → c < cachePages b → o < b .page → LosesNone b (access b g c o)
   access-current g c o hg hc ho f current s wf was =
       access-cases b reg g c o hg hc ho s wf (Current b f current) (λ _. was)
       (λ _. replace-line b reg f current s wf was (lineOf b c o) (lineOf-lt b reg c o hc ho) g hg)

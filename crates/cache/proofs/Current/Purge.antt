@@ -6,7 +6,7 @@ use Prim.Native.Nat.{ℕ, _<_}
 use native.Mathlib.Decide.{ℕ-discrete}
 use lib.ListN.{getD}
 use Rattle.board.specs.declared.Board.{Board}
-use Rattle.board.specs.Board.{Regular, lineOf, cacheAt, memoryAt}
+use Rattle.board.specs.Board.{Regular, cachePages, lineOf, cacheAt, memoryAt}
 use Rattle.board.proofs.Geometry.{lineOf-lt, lineOf-colour}
 use Rattle.cache.specs.Store.{Store, WellFormedStore, tagAt}
 use Rattle.cache.specs.Tag.{dirtyTag, names}
@@ -16,7 +16,7 @@ use Rattle.cache.proofs.Laws.Tag.{names-dirty, names-one}
 use Rattle.cache.proofs.Laws.WriteBack.{dirty-frame-lt}
 use Rattle.cache.proofs.Laws.Operations.{purge-tag-left, purge-tag-other, purge-tag-from, purge-words, purge-memory}
 
-module _ (b : Board) (reg : Regular b) (g c : ℕ) (hg : g < b .frames) (hc : c < b .colours) (f : ℕ) (current : ℕ → ℕ) (s : Store) (wf : WellFormedStore b s) (was : Current b f current s) where
+module _ (b : Board) (reg : Regular b) (g c : ℕ) (hg : g < b .frames) (hc : c < cachePages b) (f : ℕ) (current : ℕ → ℕ) (s : Store) (wf : WellFormedStore b s) (was : Current b f current s) where
   -- it loses none of f, unless f is g and has a dirty line in colour c
   pub purge-current : ((o : ℕ) → o < b .page → f ≡ g → tagAt s (lineOf b c o) ≡ dirtyTag f → ⊥) → Current b f current (purge b g c s)
   purge-current spared =

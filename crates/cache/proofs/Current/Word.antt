@@ -8,7 +8,7 @@ use borrow.Author.Tests.{eqb-true, eqb-false}
 use lib.Dec.{eqb}
 use lib.ListN.{getD}
 use Rattle.board.specs.declared.Board.{Board}
-use Rattle.board.specs.Board.{Regular, lineOf, cacheAt}
+use Rattle.board.specs.Board.{Regular, cachePages, lineOf, cacheAt}
 use Rattle.cache.specs.Store.{Store, WellFormedStore, tagAt, memoryWord}
 use Rattle.cache.specs.Tag.{dirtyTag}
 use Rattle.cache.specs.Cache.{bringWord}
@@ -30,7 +30,7 @@ module _ (b : Board) (reg : Regular b) (g : ℕ) (hg : g < b .frames) (o v : ℕ
       }
 
   -- it is its own frame's, if no line of that is dirty
-  pub word-current-same : (current : ℕ → ℕ) → ((c p : ℕ) → c < b .colours → p < b .page → tagAt s (lineOf b c p) ≡ dirtyTag g → ⊥) → Current b g current s
+  pub word-current-same : (current : ℕ → ℕ) → ((c p : ℕ) → c < cachePages b → p < b .page → tagAt s (lineOf b c p) ≡ dirtyTag g → ⊥) → Current b g current s
       → Current b g (written o v current) (bringWord b g o v s)
   word-current-same current clean was =
       record {

@@ -8,7 +8,7 @@ use native.Mathlib.Decide.{ℕ-discrete}
 use lib.ListN.{getD}
 use borrow.Author.Tests.{eq-eqb, ne-eqb}
 use Rattle.board.specs.declared.Board.{Board}
-use Rattle.board.specs.Board.{Regular, lineOf, lineColour, memoryAt}
+use Rattle.board.specs.Board.{Regular, cachePages, lineOf, lineColour, memoryAt}
 use Rattle.board.proofs.Geometry.{lineOf-colour}
 use Rattle.cache.specs.Store.{Store, WellFormedStore, tagAt, wordAt}
 use Rattle.cache.specs.Tag.{dirtyTag, names}
@@ -27,7 +27,7 @@ written-same o v current p e = rw (eq-eqb p o e)
 written-other : (o v : ℕ) (current : ℕ → ℕ) (p : ℕ) → p ≢ o → written o v current p ≡ current p
 written-other o v current p ne = rw (ne-eqb p o ne)
 
-module _ (b : Board) (reg : Regular b) (g c o : ℕ) (hg : g < b .frames) (hc : c < b .colours) (ho : o < b .page) (s : Store) (wf : WellFormedStore b s) (v : ℕ) where
+module _ (b : Board) (reg : Regular b) (g c o : ℕ) (hg : g < b .frames) (hc : c < cachePages b) (ho : o < b .page) (s : Store) (wf : WellFormedStore b s) (v : ℕ) where
   -- another line's tag is as it was
   tag-kept : (m : ℕ) → m ≢ lineOf b c o → tagAt (writeWord b g c o v s) m ≡ tagAt (access b g c o s) m
   tag-kept m ne = writeWord-tag-other b reg g c o hg hc ho s wf v m ne ∙ sym (access-tag-other b reg g c o hg hc ho s wf m ne)
@@ -48,11 +48,11 @@ module _ (b : Board) (reg : Regular b) (g c o : ℕ) (hg : g < b .frames) (hc : 
       now : Current b f current (access b g c o s)
       now = access-current b reg g c o hg hc ho f current s wf was
 
-      line : (d p : ℕ) → d < b .colours → p < b .page → tagAt (writeWord b g c o v s) (lineOf b d p) ≡ dirtyTag f → Dec (lineOf b d p ≡ lineOf b c o) → wordAt b (writeWord b g c o v s) d p ≡ current p
+      line : (d p : ℕ) → d < cachePages b → p < b .page → tagAt (writeWord b g c o v s) (lineOf b d p) ≡ dirtyTag f → Dec (lineOf b d p ≡ lineOf b c o) → wordAt b (writeWord b g c o v s) d p ≡ current p
       line d p hd hp dirty (yes e) = absurd (ne (let own = writeWord-tag-same b reg g c o hg hc ho s wf v in let same = sym (ap (tagAt (writeWord b g c o v s)) e) ∙ dirty in omega arith))
       line d p hd hp dirty (no apart) = word-kept d p apart ∙ now .in-line d p hd hp (sym (tag-kept (lineOf b d p) apart) ∙ dirty)
 
-      no-line : (p : ℕ) → ((d : ℕ) → d < b .colours → tagAt (writeWord b g c o v s) (lineOf b d p) ≡ dirtyTag f → ⊥) → (d : ℕ) → d < b .colours → tagAt (access b g c o s) (lineOf b d p) ≡ dirtyTag f → Dec (lineOf b d p ≡ lineOf b c o) → ⊥
+      no-line : (p : ℕ) → ((d : ℕ) → d < cachePages b → tagAt (writeWord b g c o v s) (lineOf b d p) ≡ dirtyTag f → ⊥) → (d : ℕ) → d < cachePages b → tagAt (access b g c o s) (lineOf b d p) ≡ dirtyTag f → Dec (lineOf b d p ≡ lineOf b c o) → ⊥
       no-line p none d hd dirty (no apart) = none d hd (tag-kept (lineOf b d p) apart ∙ dirty)
       no-line p none d hd dirty (yes e) =
           let w : WellFormedStore b (access b g c o s) = access-kept b reg g c o hg hc ho s wf in
@@ -63,7 +63,7 @@ module _ (b : Board) (reg : Regular b) (g c o : ℕ) (hg : g < b .frames) (hc : 
   -- its own frame's words are current with v at o, if the line's were and no other colour has a dirty line over o
   pub write-current-same : (current : ℕ → ℕ)
       → ((p : ℕ) → p < b .page → lineOf b c p ≡ lineOf b c o → wordAt b (access b g c o s) c p ≡ current p)
-      → ((d : ℕ) → d < b .colours → d ≢ c → tagAt s (lineOf b d o) ≡ dirtyTag g → ⊥)
+      → ((d : ℕ) → d < cachePages b → d ≢ c → tagAt s (lineOf b d o) ≡ dirtyTag g → ⊥)
       → Current b g current s → Current b g (written o v current) (writeWord b g c o v s)
   write-current-same current held alone was =
       record {
@@ -80,7 +80,7 @@ module _ (b : Board) (reg : Regular b) (g c o : ℕ) (hg : g < b .frames) (hc : 
       own : tagAt (writeWord b g c o v s) (lineOf b c o) ≡ dirtyTag g
       own = writeWord-tag-same b reg g c o hg hc ho s wf v
 
-      line : (d p : ℕ) → d < b .colours → p < b .page → tagAt (writeWord b g c o v s) (lineOf b d p) ≡ dirtyTag g → Dec (lineOf b d p ≡ lineOf b c o) → Dec (p ≡ o) → wordAt b (writeWord b g c o v s) d p ≡ written o v current p
+      line : (d p : ℕ) → d < cachePages b → p < b .page → tagAt (writeWord b g c o v s) (lineOf b d p) ≡ dirtyTag g → Dec (lineOf b d p ≡ lineOf b c o) → Dec (p ≡ o) → wordAt b (writeWord b g c o v s) d p ≡ written o v current p
       line d p hd hp dirty (yes e) (yes q) =
           let colour : d ≡ c = sym (lineOf-colour b reg d p hp) ∙ ap (lineColour b) e ∙ lineOf-colour b reg c o ho in
           ap₂ (λ (x y : ℕ). wordAt b (writeWord b g c o v s) x y) colour q ∙ writeWord-word-same b reg g c o hg hc ho s wf v ∙ sym (written-same o v current p q)
@@ -96,6 +96,6 @@ module _ (b : Board) (reg : Regular b) (g c o : ℕ) (hg : g < b .frames) (hc : 
       line d p hd hp dirty (no ne) (no apart) =
           word-kept d p ne ∙ now .in-line d p hd hp (sym (tag-kept (lineOf b d p) ne) ∙ dirty) ∙ sym (written-other o v current p apart)
 
-      no-line : (p : ℕ) → ((d : ℕ) → d < b .colours → tagAt (writeWord b g c o v s) (lineOf b d p) ≡ dirtyTag g → ⊥) → (d : ℕ) → d < b .colours → tagAt (access b g c o s) (lineOf b d p) ≡ dirtyTag g → Dec (lineOf b d p ≡ lineOf b c o) → ⊥
+      no-line : (p : ℕ) → ((d : ℕ) → d < cachePages b → tagAt (writeWord b g c o v s) (lineOf b d p) ≡ dirtyTag g → ⊥) → (d : ℕ) → d < cachePages b → tagAt (access b g c o s) (lineOf b d p) ≡ dirtyTag g → Dec (lineOf b d p ≡ lineOf b c o) → ⊥
       no-line p none d hd dirty (yes e) = none d hd (ap (tagAt (writeWord b g c o v s)) e ∙ own)
       no-line p none d hd dirty (no ne) = none d hd (tag-kept (lineOf b d p) ne ∙ dirty)

@@ -8,12 +8,12 @@ use native.Mathlib.Omega.{arith}
 use lib.ListN.{getD, length-set}
 use lib.Seq.{getD-set-same, getD-set-other}
 use Rattle.board.specs.declared.Board.{Board}
-use Rattle.board.specs.Board.{Regular, lines, lineOf, cacheAt, memoryAt}
-use Rattle.board.proofs.Geometry.{lineOf-lt, lineOf-colour, cacheAt-lt, cacheAt-line-inj, cacheAt-offset-inj}
+use Rattle.board.specs.Board.{Regular, cachePages, lines, lineOf, cacheAt, memoryAt}
+use Rattle.board.proofs.Geometry.{lineOf-lt, lineOf-data, lineOf-colour, cacheAt-lt, cacheAt-line-inj, cacheAt-offset-inj}
 use Rattle.cache.specs.Store.{Store, WellFormedStore, tagAt, wordAt, memoryWord}
 use Rattle.cache.specs.Tag.{cleanTag, dirtyTag, names}
 use Rattle.cache.specs.Cache.{writeBack, replace, access, readWord, writeWord}
-use Rattle.cache.proofs.Laws.Tag.{names-clean, names-dirty, rules-dirty, rules-set}
+use Rattle.cache.proofs.Laws.Tag.{names-clean, names-dirty, line-dirty, rules-set}
 use Rattle.cache.proofs.Laws.WriteBack.{writeBack-tags, writeBack-words, writeBack-kept, writeBack-memory-same, writeBack-memory-other}
 use Rattle.cache.proofs.Laws.Fill.{fill-kept, fill-tag-same, fill-tag-other, fill-word-same, fill-word-other, fill-memory}
 
@@ -48,9 +48,9 @@ module _ (b : Board) (reg : Regular b) (s : Store) (wf : WellFormedStore b s) (f
   unfolding replace
   replace-memory = fill-memory b reg (writeBack b n s) (writeBack-kept b reg s wf n hn) f n hf hn
 
--- ---- access, to offset o of frame f through colour c
+-- ---- access, to offset o of frame f through cache page c
 
-module _ (b : Board) (reg : Regular b) (f c o : ℕ) (hf : f < b .frames) (hc : c < b .colours) (ho : o < b .page) (s : Store) (wf : WellFormedStore b s) where
+module _ (b : Board) (reg : Regular b) (f c o : ℕ) (hf : f < b .frames) (hc : c < cachePages b) (ho : o < b .page) (s : Store) (wf : WellFormedStore b s) where
   hn : lineOf b c o < lines b
   hn = lineOf-lt b reg c o hc ho
 
@@ -120,16 +120,17 @@ module _ (b : Board) (reg : Regular b) (f c o : ℕ) (hf : f < b .frames) (hc : 
 
   -- ---- write
 
-  pub writeWord-kept : (v : ℕ) → WellFormedStore b (writeWord b f c o v s)
+  -- through the data cache
+  pub writeWord-kept : c < b .colours → (v : ℕ) → WellFormedStore b (writeWord b f c o v s)
   unfolding writeWord
-  writeWord-kept v =
+  writeWord-kept own v =
       let t : Store = access b f c o s in
       let w : WellFormedStore b t = access-kept in
       record {
         memory-length = w .memory-length;
         words-length = length-set (t .words) (cacheAt b c o) v ∙ w .words-length;
         tags-length = length-set (t .tags) (lineOf b c o) (dirtyTag f) ∙ w .tags-length;
-        tags-rules = rules-set b reg (t .tags) (lineOf b c o) (dirtyTag f) (w .tags-rules) (rules-dirty b reg f hf);
+        tags-rules = rules-set b reg (t .tags) (lineOf b c o) (dirtyTag f) (w .tags-rules) (line-dirty b reg f (lineOf b c o) hf (lineOf-data b reg c o own ho));
       }
 
   pub writeWord-tag-same : (v : ℕ) → tagAt (writeWord b f c o v s) (lineOf b c o) ≡ dirtyTag f

@@ -11,16 +11,16 @@ use lib.Seq.{getD-set-same, getD-set-other}
 use Rattle.board.specs.declared.Board.{Board}
 use Rattle.board.specs.Board.{Regular, lines, lineOf, lineColour}
 use Rattle.cache.specs.Store.{Store, WellFormedStore, tagAt, wordAt, memoryWord, withTag}
-use Rattle.cache.specs.Tag.{emptyTag, dirtyTag, names, tagKeepsRules}
+use Rattle.cache.specs.Tag.{emptyTag, dirtyTag, names, lineKeepsRules}
 use Rattle.cache.specs.Cache.{writeBack, empty, evict}
-use Rattle.cache.proofs.Laws.Tag.{names-not-empty, rules-set, rules-empty}
+use Rattle.cache.proofs.Laws.Tag.{names-not-empty, rules-set, line-empty}
 use Rattle.cache.proofs.Laws.WriteBack.{writeBack-tags, writeBack-words, writeBack-kept, writeBack-memory-same, writeBack-memory-other}
 
 -- ---- empty
 
 module _ (b : Board) (reg : Regular b) (s : Store) (wf : WellFormedStore b s) where
-  -- one tag replaced by another that keeps the rules
-  pub tags-kept : (n tag : ℕ) → tagKeepsRules b tag ≡ true → WellFormedStore b (withTag n tag s)
+  -- one tag replaced by another that keeps the rules there
+  pub tags-kept : (n tag : ℕ) → lineKeepsRules b n tag ≡ true → WellFormedStore b (withTag n tag s)
   tags-kept n tag k =
       record {
         memory-length = wf .memory-length;
@@ -37,7 +37,7 @@ module _ (b : Board) (reg : Regular b) (s : Store) (wf : WellFormedStore b s) wh
 
   pub empty-kept : (n : ℕ) → WellFormedStore b (empty n s)
   unfolding empty
-  empty-kept n = tags-kept n emptyTag (rules-empty b reg)
+  empty-kept n = tags-kept n emptyTag (line-empty b reg n)
 
   pub empty-tag-same : (n : ℕ) → n < lines b → tagAt (empty n s) n ≡ emptyTag
   unfolding empty

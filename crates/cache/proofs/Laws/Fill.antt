@@ -14,7 +14,7 @@ use Rattle.cache.specs.Store.{Store, WellFormedStore, tagAt, wordAt, mem
 use Rattle.cache.specs.Tag.{cleanTag}
 use Rattle.cache.specs.Cache.{fill}
 use Rattle.cache.proofs.Laws.Part.{length-part, part-at, length-overlay, overlay-inside, overlay-outside}
-use Rattle.cache.proofs.Laws.Tag.{rules-clean}
+use Rattle.cache.proofs.Laws.Tag.{line-clean}
 use Rattle.cache.proofs.Laws.Evict.{tags-kept, withTag-same, withTag-other}
 
 module _ (b : Board) (reg : Regular b) (s : Store) (wf : WellFormedStore b s) (f n : ℕ) (hf : f < b .frames) (hn : n < lines b) where
@@ -38,7 +38,7 @@ module _ (b : Board) (reg : Regular b) (s : Store) (wf : WellFormedStore b s) (f
         tags-length = wf .tags-length;
         tags-rules = wf .tags-rules;
       })
-      n (cleanTag f) (rules-clean b reg f hf)
+      n (cleanTag f) (line-clean b reg f n hf)
 
   pub fill-tag-same : tagAt (fill b f n s) n ≡ cleanTag f
   unfolding fill

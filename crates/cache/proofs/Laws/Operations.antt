@@ -1,4 +1,4 @@
--- The laws of the two orders, flush and purge of a frame in a colour.
+-- The laws of the two orders, flush and purge of a frame in a page of the caches.
 use mathlib.Core.Path.{_≡_, refl, sym, ap, _∙_}
 use mathlib.Core.Bool.{Bool, true, false}
 use mathlib.Core.Logic.{_≢_}
@@ -6,7 +6,7 @@ use mathlib.Core.List.{List}
 use Prim.Native.Nat.{ℕ, _<_}
 use lib.ListN.{getD}
 use Rattle.board.specs.declared.Board.{Board}
-use Rattle.board.specs.Board.{Regular, lines, pageLines, lineOf, cacheAt, lineColour}
+use Rattle.board.specs.Board.{Regular, cachePages, lines, pageLines, lineOf, cacheAt, lineColour}
 use Rattle.board.proofs.Geometry.{lineOf-lt, lineOf-colour}
 use Rattle.cache.specs.Store.{Store, WellFormedStore, tagAt, wordAt, memoryWord, when}
 use Rattle.cache.specs.Tag.{emptyTag, dirtyTag, names}
@@ -73,7 +73,7 @@ pub flush-done : (b : Board) (f c i : ℕ) (s : Store) → i ≡ pageLines b →
 unfolding flush
 flush-done b f c i s e = ap (λ (k : ℕ). sweep b (flushLine b f) c k s) e
 
-module _ (b : Board) (reg : Regular b) (f c : ℕ) (hf : f < b .frames) (hc : c < b .colours) (s : Store) (wf : WellFormedStore b s) where
+module _ (b : Board) (reg : Regular b) (f c : ℕ) (hf : f < b .frames) (hc : c < cachePages b) (s : Store) (wf : WellFormedStore b s) where
   pub flush-kept : WellFormedStore b (flush b f c s)
   unfolding flush
   flush-kept = sweep-kept b reg f (flushLine b f) (flushLine-empties b reg f) c hc s wf
@@ -140,7 +140,7 @@ module _ (b : Board) (reg : Regular b) (f c : ℕ) (hf : f < b .frames) (hc : c 
       ∙ turn .before (λ t. memoryWord b t g o) (memory-apart g o ho)
 
 -- what each eviction keeps, a flush keeps
-pub flush-keeps : (b : Board) (reg : Regular b) (f c : ℕ) → c < b .colours → (s : Store) → WellFormedStore b s → (P : Store → Type 0) → ((m : ℕ) (t : Store) → m < lines b → WellFormedStore b t → P t → P (evict b m t)) → P s → P (flush b f c s)
+pub flush-keeps : (b : Board) (reg : Regular b) (f c : ℕ) → c < cachePages b → (s : Store) → WellFormedStore b s → (P : Store → Type 0) → ((m : ℕ) (t : Store) → m < lines b → WellFormedStore b t → P t → P (evict b m t)) → P s → P (flush b f c s)
 unfolding flush
 flush-keeps b reg f c hc s wf P step p =
     sweep-keeps b reg f (flushLine b f) (flushLine-empties b reg f) c hc s wf P
@@ -152,7 +152,7 @@ pub purge-done : (b : Board) (f c i : ℕ) (s : Store) → i ≡ pageLines b →
 unfolding purge
 purge-done b f c i s e = ap (λ (k : ℕ). sweep b (purgeLine f) c k s) e
 
-module _ (b : Board) (reg : Regular b) (f c : ℕ) (hc : c < b .colours) (s : Store) (wf : WellFormedStore b s) where
+module _ (b : Board) (reg : Regular b) (f c : ℕ) (hc : c < cachePages b) (s : Store) (wf : WellFormedStore b s) where
   pub purge-kept : WellFormedStore b (purge b f c s)
   unfolding purge
   purge-kept = sweep-kept b reg f (purgeLine f) (purgeLine-empties b reg f) c hc s wf

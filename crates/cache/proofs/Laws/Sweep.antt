@@ -7,7 +7,7 @@ use native.Mathlib.Omega.{arith}
 use native.Mathlib.Numerals.{add-one}
 use native.Mathlib.Decide.{ℕ-discrete}
 use Rattle.board.specs.declared.Board.{Board}
-use Rattle.board.specs.Board.{Regular, lines, pageLines, colourLine, lineColour}
+use Rattle.board.specs.Board.{Regular, cachePages, lines, pageLines, colourLine, lineColour}
 use Rattle.board.proofs.Geometry.{colourLine-lt, colourLine-colour, colourLine-index, colourLine-split, colourLine-inj}
 use Rattle.cache.specs.Store.{Store, WellFormedStore, tagAt}
 use Rattle.cache.specs.Tag.{emptyTag, names}
@@ -37,7 +37,7 @@ pub sweep-more : (b : Board) (op : ℕ → Store → Store) (c i : ℕ) (s : Sto
 unfolding sweep
 sweep-more b op c i s = ap (λ (k : ℕ). sweep b op c k s) (add-one i)
 
-module _ (b : Board) (reg : Regular b) (f : ℕ) (op : ℕ → Store → Store) (does : Empties b f op) (c : ℕ) (hc : c < b .colours) (s : Store) (wf : WellFormedStore b s) where
+module _ (b : Board) (reg : Regular b) (f : ℕ) (op : ℕ → Store → Store) (does : Empties b f op) (c : ℕ) (hc : c < cachePages b) (s : Store) (wf : WellFormedStore b s) where
   pub turn-kept : (i : ℕ) → i ≤ pageLines b → WellFormedStore b (sweep b op c i s)
   unfolding sweep
   turn-kept zero h = wf

@@ -1,17 +1,17 @@
 -- The laws of tags: what a clean, a dirty and an empty tag says, and what a tag that keeps the rules can be.
 use mathlib.Core.Path.{_≡_, refl, sym, ap, _∙_}
-use mathlib.Core.Bool.{Bool, true, false, _&&_, or-true, true≢false, false≢true}
+use mathlib.Core.Bool.{Bool, true, false, not, _&&_, _||_, or-true, and-true, and-false, true≢false, false≢true}
 use mathlib.Core.Logic.{_⊎_, inl, inr}
 use mathlib.Core.List.{List, [], _∷_}
-use Prim.Native.Nat.{ℕ, zero, suc, _+_, _-_, _<_}
+use Prim.Native.Nat.{ℕ, zero, suc, _+_, _-_, _≤_, _<_}
 use native.Mathlib.Omega.{arith}
 use native.Mathlib.Decide.{decLt}
 use lib.Dec.{eqb, ltb}
 use lib.ListN.{length, getD, set}
 use borrow.Author.Tests.{le-leb, lt-leb, leb-true, eq-eqb, ne-eqb, eqb-true, lt-ltb, le-ltb, ltb-true}
 use Rattle.board.specs.declared.Board.{Board}
-use Rattle.board.specs.Board.{Regular}
-use Rattle.cache.specs.Tag.{emptyTag, cleanTag, dirtyTag, isDirtyTag, names, frameOf, tagKeepsRules, tagsKeepRules}
+use Rattle.board.specs.Board.{Regular, dataLines}
+use Rattle.cache.specs.Tag.{emptyTag, cleanTag, dirtyTag, isDirtyTag, names, frameOf, tagKeepsRules, lineKeepsRules, tagsFrom, tagsKeepRules}
 
 and-left : (a b : Bool) → (a && b) ≡ true → a ≡ true
 and-left true b e = refl
@@ -106,40 +106,104 @@ module _ (b : Board) (reg : Regular b) where
       let h = leb-true 129 tag d in
       ltb-true (frameOf tag) (b .frames) (rw (ne-eqb tag 0 (omega arith)) at e)
 
-  rules-head : (tag : ℕ) (tags : List ℕ) → tagsKeepRules b (tag ∷ tags) ≡ true → tagKeepsRules b tag ≡ true
-  unfolding tagsKeepRules
-  rules-head tag tags e = and-left (tagKeepsRules b tag) (tagsKeepRules b tags) e
+  -- ---- which tags keep the rules in line n
 
-  rules-tail : (tag : ℕ) (tags : List ℕ) → tagsKeepRules b (tag ∷ tags) ≡ true → tagsKeepRules b tags ≡ true
-  unfolding tagsKeepRules
-  rules-tail tag tags e = and-right (tagKeepsRules b tag) (tagsKeepRules b tags) e
+  -- what the rule asks for by place
+  pub line-any : (n tag : ℕ) → isDirtyTag tag ≡ false → lineKeepsRules b n tag ≡ tagKeepsRules b tag
+  unfolding lineKeepsRules
+  line-any n tag e = rw (e, and-true)
 
-  rules-cons : (tag : ℕ) (tags : List ℕ) → tagKeepsRules b tag ≡ true → tagsKeepRules b tags ≡ true → tagsKeepRules b (tag ∷ tags) ≡ true
+  pub line-before : (n tag : ℕ) → n < dataLines b → lineKeepsRules b n tag ≡ tagKeepsRules b tag
+  unfolding lineKeepsRules
+  line-before n tag h = rw (lt-ltb n (dataLines b) h, or-true, and-true)
+
+  pub line-behind : (n tag : ℕ) → isDirtyTag tag ≡ true → dataLines b ≤ n → lineKeepsRules b n tag ≡ false
+  unfolding lineKeepsRules
+  line-behind n tag e h = rw (e, le-ltb n (dataLines b) h, and-false)
+
+  pub line-empty : (n : ℕ) → lineKeepsRules b n emptyTag ≡ true
+  unfolding isDirtyTag
+  line-empty n = line-any n emptyTag refl ∙ rules-empty
+
+  pub line-clean : (f n : ℕ) → f < b .frames → lineKeepsRules b n (cleanTag f) ≡ true
+  line-clean f n h = line-any n (cleanTag f) (isDirtyTag-clean f h) ∙ rules-clean f h
+
+  pub line-dirty : (f n : ℕ) → f < b .frames → n < dataLines b → lineKeepsRules b n (dirtyTag f) ≡ true
+  line-dirty f n h hn = line-before n (dirtyTag f) hn ∙ rules-dirty f h
+
+  line-tag : (n tag : ℕ) → lineKeepsRules b n tag ≡ true → tagKeepsRules b tag ≡ true
+  unfolding lineKeepsRules
+  line-tag n tag e = and-left (tagKeepsRules b tag) (not (isDirtyTag tag) || ltb n (dataLines b)) e
+
+  -- an instruction line's is not dirty
+  line-instruction : (n tag : ℕ) → dataLines b ≤ n → lineKeepsRules b n tag ≡ true → isDirtyTag tag ≡ false
+  line-instruction n tag h e = go (isDirtyTag tag) refl
+    where
+      go : (t : Bool) → isDirtyTag tag ≡ t → isDirtyTag tag ≡ false
+      go false q = q
+      go true q = absurd (true≢false (sym e ∙ line-behind n tag q h))
+
+  -- ---- the tags of all lines
+
+  from-head : (m tag : ℕ) (tags : List ℕ) → tagsFrom b m (tag ∷ tags) ≡ true → lineKeepsRules b m tag ≡ true
+  unfolding tagsFrom
+  from-head m tag tags e = and-left (lineKeepsRules b m tag) (tagsFrom b (suc m) tags) e
+
+  from-tail : (m tag : ℕ) (tags : List ℕ) → tagsFrom b m (tag ∷ tags) ≡ true → tagsFrom b (suc m) tags ≡ true
+  unfolding tagsFrom
+  from-tail m tag tags e = and-right (lineKeepsRules b m tag) (tagsFrom b (suc m) tags) e
+
+  from-cons : (m tag : ℕ) (tags : List ℕ) → lineKeepsRules b m tag ≡ true → tagsFrom b (suc m) tags ≡ true → tagsFrom b m (tag ∷ tags) ≡ true
+  unfolding tagsFrom
+  from-cons m tag tags p q = rw (p, q)
+
+  -- the same line by another name of its number
+  renamed : {m n : ℕ} (tag : ℕ) → m ≡ n → lineKeepsRules b m tag ≡ true → lineKeepsRules b n tag ≡ true
+  renamed tag e k = ap (λ (x : ℕ). lineKeepsRules b x tag) (sym e) ∙ k
+
+  from-at : (m : ℕ) (tags : List ℕ) (n : ℕ) → tagsFrom b m tags ≡ true → lineKeepsRules b (m + n) (getD tags n 0) ≡ true
+  from-at m [] n e = line-empty (m + n)
+  from-at m (tag ∷ tags) zero e = renamed tag (omega arith) (from-head m tag tags e)
+  from-at m (tag ∷ tags) (suc n) e = renamed (getD tags n 0) (omega arith) (from-at (suc m) tags n (from-tail m tag tags e))
+
+  from-all : (m : ℕ) (tags : List ℕ) → ((k : ℕ) → k < length tags → lineKeepsRules b (m + k) (getD tags k 0) ≡ true) → tagsFrom b m tags ≡ true
+  unfolding tagsFrom
+  from-all m [] h = refl
+  from-all m (tag ∷ tags) h =
+      from-cons m tag tags (renamed tag (omega arith) (h 0 (omega arith)))
+      (from-all (suc m) tags (λ k l. renamed (getD tags k 0) (omega arith) (h (suc k) (omega arith))))
+
+  from-set : (m : ℕ) (tags : List ℕ) (n tag : ℕ) → tagsFrom b m tags ≡ true → lineKeepsRules b (m + n) tag ≡ true → tagsFrom b m (set tags n tag) ≡ true
+  from-set m [] n tag e k = e
+  from-set m (t ∷ tags) zero tag e k = from-cons m tag tags (renamed tag (omega arith) k) (from-tail m t tags e)
+  from-set m (t ∷ tags) (suc n) tag e k =
+      from-cons m t (set tags n tag) (from-head m t tags e) (from-set (suc m) tags n tag (from-tail m t tags e) (renamed tag (omega arith) k))
+
+  pub rules-line : (tags : List ℕ) (n : ℕ) → tagsKeepRules b tags ≡ true → lineKeepsRules b n (getD tags n 0) ≡ true
   unfolding tagsKeepRules
-  rules-cons tag tags p q = rw (p, q)
+  rules-line tags n e = renamed (getD tags n 0) (omega arith) (from-at 0 tags n e)
 
   pub rules-at : (tags : List ℕ) (n : ℕ) → tagsKeepRules b tags ≡ true → tagKeepsRules b (getD tags n 0) ≡ true
-  rules-at [] n e = rules-empty
-  rules-at (tag ∷ tags) zero e = rules-head tag tags e
-  rules-at (tag ∷ tags) (suc n) e = rules-at tags n (rules-tail tag tags e)
+  rules-at tags n e = line-tag n (getD tags n 0) (rules-line tags n e)
 
-  pub rules-all : (tags : List ℕ) → ((k : ℕ) → k < length tags → tagKeepsRules b (getD tags k 0) ≡ true) → tagsKeepRules b tags ≡ true
+  pub rules-instruction : (tags : List ℕ) (n : ℕ) → tagsKeepRules b tags ≡ true → dataLines b ≤ n → isDirtyTag (getD tags n 0) ≡ false
+  rules-instruction tags n e h = line-instruction n (getD tags n 0) h (rules-line tags n e)
+
+  pub rules-all : (tags : List ℕ) → ((k : ℕ) → k < length tags → lineKeepsRules b k (getD tags k 0) ≡ true) → tagsKeepRules b tags ≡ true
   unfolding tagsKeepRules
-  rules-all [] h = refl
-  rules-all (tag ∷ tags) h = rules-cons tag tags (h 0 (omega arith)) (rules-all tags (λ k l. h (suc k) (omega arith)))
+  rules-all tags h = from-all 0 tags (λ k l. renamed (getD tags k 0) (omega arith) (h k l))
 
-  pub rules-set : (tags : List ℕ) (n tag : ℕ) → tagsKeepRules b tags ≡ true → tagKeepsRules b tag ≡ true → tagsKeepRules b (set tags n tag) ≡ true
-  rules-set [] n tag e k = e
-  rules-set (t ∷ tags) zero tag e k = rules-cons tag tags k (rules-tail t tags e)
-  rules-set (t ∷ tags) (suc n) tag e k = rules-cons t (set tags n tag) (rules-head t tags e) (rules-set tags n tag (rules-tail t tags e) k)
+  pub rules-set : (tags : List ℕ) (n tag : ℕ) → tagsKeepRules b tags ≡ true → lineKeepsRules b n tag ≡ true → tagsKeepRules b (set tags n tag) ≡ true
+  unfolding tagsKeepRules
+  rules-set tags n tag e k = from-set 0 tags n tag e (renamed tag (omega arith) k)
 
-  -- one tag that breaks the rules breaks those of all
-  pub rules-break : (tags : List ℕ) (n : ℕ) → tagKeepsRules b (getD tags n 0) ≡ false → tagsKeepRules b tags ≡ false
+  -- one line's tag that breaks the rules breaks those of all
+  pub rules-break : (tags : List ℕ) (n : ℕ) → lineKeepsRules b n (getD tags n 0) ≡ false → tagsKeepRules b tags ≡ false
   rules-break tags n e = go (tagsKeepRules b tags) refl
     where
       go : (t : Bool) → tagsKeepRules b tags ≡ t → tagsKeepRules b tags ≡ false
       go false h = h
-      go true h = absurd (true≢false (sym (rules-at tags n h) ∙ e))
+      go true h = absurd (true≢false (sym (rules-line tags n h) ∙ e))
 
   -- the rule of a tag as one comparison
   pub rules-below : (tag : ℕ) → isDirtyTag tag ≡ false → tagKeepsRules b tag ≡ ltb tag (cleanTag (b .frames))

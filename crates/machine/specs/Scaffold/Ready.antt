@@ -1,11 +1,11 @@
--- What the functions that carry out operations ask for: a regular board, a store of its lengths whose tags keep the rules, a frame and colours of
--- the board. A call has tested all of it.
+-- What the functions that carry out operations ask for: a regular board, a store of its lengths whose tags keep the rules, a frame of the board and
+-- pages of its caches. A call has tested all of it.
 use mathlib.Core.List.{List}
 use mathlib.Core.Path.{_≡_}
 use Prim.Native.Nat.{ℕ, _+_, _≤_, _<_}
 use lib.ListN.{length}
 use Rattle.board.specs.declared.Board.{Board}
-use Rattle.board.specs.Board.{Regular}
+use Rattle.board.specs.Board.{Regular, cachePages}
 use Rattle.page_model.specs.declared.Ops.{Ops}
 use Rattle.page_model.specs.Step.{OpBelow}
 use Rattle.cache.specs.Store.{Store, WellFormedStore}
@@ -17,7 +17,7 @@ OperationsReady b s f ops = WellFormedStore b s × (f < b .frames) × OpBelow (b
 -- and an access after them
 abbrev pub AccessReady : Board → Store → ℕ → Ops → ℕ → ℕ → Type 0
 AccessReady b s f ops colour offset =
-    WellFormedStore b s × (f < b .frames) × OpBelow (b .colours) (ops .first) × OpBelow (b .colours) (ops .second) × (colour < b .colours) × (offset < b .page)
+    WellFormedStore b s × (f < b .frames) × OpBelow (b .colours) (ops .first) × OpBelow (b .colours) (ops .second) × (colour < cachePages b) × (offset < b .page)
     × Regular b
 
 -- or a device's read

@@ -7,8 +7,10 @@ use lib.Dec.{eqb}
 use lib.ListN.{length}
 use Rattle.board.specs.declared.Board.{Board}
 use Rattle.mapping.specs.declared.Seen.{Seen}
-use Rattle.mapping.specs.Entry.{capacity, readOnly}
-use Rattle.manager.specs.Refusals.{Cause, _if_, spaceCause, frameCause, rightsCause}
+use Rattle.mapping.specs.Entry.{capacity}
+use Rattle.manager.specs.declared.AccessKind.{AccessKind}
+use Rattle.manager.specs.declared.AccessKind.the-variants.{Read, Write, Fetch}
+use Rattle.manager.specs.Refusals.{Cause, _if_, spaceCause, frameCause, rightsCause, writeRightsCause, fetchRightsCause}
 use Rattle.manager.specs.Tables.{recordWords, recordsKeepRules}
 
 -- the causes in what is lent, where kept says whether the list keeps its rules
@@ -18,7 +20,7 @@ toldTables b kept records protections =
     ∷ (2 if not (kept && recordsKeepRules b records))
     ∷ []
 
--- the causes of a mapping; of an unmap; and of an access, a write or a read, but for the mark
+-- the causes of a mapping; of an unmap; and of an access but for the mark
 abbrev pub toldMapping : Board → ℕ → ℕ → ℕ → ℕ → Seen → List Cause
 toldMapping b space page frame rights seen =
     spaceCause space page
@@ -31,5 +33,11 @@ toldMapping b space page frame rights seen =
 abbrev pub toldPage : ℕ → ℕ → Seen → List Cause
 toldPage space page seen = spaceCause space page ∷ (8 if not (seen .mapped)) ∷ []
 
-abbrev pub toldAccess : Bool → ℕ → ℕ → Seen → List Cause
-toldAccess writes space page seen = toldPage space page seen ++ (10 if (writes && eqb (seen .mapping .rights) readOnly)) ∷ []
+-- the cause of an access in the rights of its mapping
+abbrev pub toldRights : AccessKind → ℕ → List Cause
+toldRights Read rights = []
+toldRights Write rights = writeRightsCause rights ∷ []
+toldRights Fetch rights = fetchRightsCause rights ∷ []
+
+abbrev pub toldAccess : AccessKind → ℕ → ℕ → Seen → List Cause
+toldAccess kind space page seen = toldPage space page seen ++ toldRights kind (seen .mapping .rights)

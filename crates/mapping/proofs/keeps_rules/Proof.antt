@@ -20,7 +20,7 @@ use Rattle.mapping.specs.Rules.{allInRange, risesAt, rising, restZero}
 use Rattle.mapping.proofs.Tests.{all-not, all-more}
 use Rattle.mapping.proofs.Entry.{inRange-true, sum-zero}
 use Rattle.mapping.proofs.Order.{leastAt, least-next, least-kept, least-broken}
-use Rattle.mapping.proofs.Rules.{keeps-over, keeps-unranged, keeps-unordered, keeps-rest}
+use Rattle.mapping.proofs.Rules.{rest-at-each, keeps-over, keeps-unranged, keeps-unordered, keeps-rest}
 use Rattle.mapping.proofs.Records.{items-length}
 use Rattle.mapping.proofs.keeps_rules.Statement.{statement}
 use Rattle.mapping.proofs.keeps_rules.Tie as tie
@@ -52,8 +52,8 @@ unfolding restTo
 rest-more l i rest more h e f = sum-zero rest more ∙ ap₂ _&&_ e (f ∙ ap (λ (t : Bool). t || isZero (mappingAt l i)) (sym (le-ltb i (l .count) h))) ∙ sym (all-more i _)
 
 rest-all : (l : MappingList) (i : ℕ) → length (l .items) ≡ i → restTo l i ≡ restZero l
-unfolding restTo restZero
-rest-all l i e = ap (restTo l) (sym e)
+unfolding restTo
+rest-all l i e = ap (restTo l) (sym e) ∙ sym (rest-at-each l)
 
 abbrev Inv-loop : tie.InvT-loop
 Inv-loop board list count least₀ i₀ least i =

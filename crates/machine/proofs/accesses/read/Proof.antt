@@ -3,7 +3,7 @@ use mathlib.Core.Path.{_≡_, refl, sym, ap, _∙_}
 use mathlib.Core.Option.{some}
 use borrow.Author.Needs.{needs}
 use Rattle.board.specs.Board.{board01, colourOf}
-use Rattle.board.proofs.Geometry.{board01-regular}
+use Rattle.board.proofs.Geometry.{board01-regular, data-page}
 use Rattle.mapping.proofs.Laws.{items-length}
 use Rattle.manager.specs.Calls.{planRead}
 use Rattle.manager.specs.Tables.{tables}
@@ -39,8 +39,8 @@ load-requires c κs =
     let at = plan-of commit in
     let plan = at .before .before in
     let a = start-of plan .args in
-    access-requires board01 _ (read (a .space) (a .page) (a .offset)) _ _ refl (a .page) (a .offset) board01-regular
-    (sym (read-planned board01 _ (a .space) (a .page) (a .offset) (plan .with-step .ensures) (plan .before .before .before .before .before .access-refusal .ensures) (managers plan)) ∙ at .plan .given .1) refl (colour .colour-of .ensures .0)
+    access-requires board01 _ (read (a .space) (a .page) (a .offset)) _ _ refl (a .offset) board01-regular
+    (sym (read-planned board01 _ (a .space) (a .page) (a .offset) (plan .with-step .ensures) (plan .before .before .before .before .before .access-refusal .ensures) (managers plan)) ∙ at .plan .given .1) refl (data-page board01 board01-regular _ (colour .colour-of .ensures .1))
 
 returns : tie.Need-returns
 returns c =

@@ -17,7 +17,8 @@ write-word-requires : tie.Need-write-word-requires
 write-word-requires c κs =
     let orders = orders-of c in
     let s = start-of orders in
-    access-follows (s .args .board) (s .args .frame) (s .args .ops) (s .args .colour) (s .args .offset) (s .pre) (orders .carry-out .ensures)
+    let r = access-follows (s .args .board) (s .args .frame) (s .args .ops) (s .args .colour) (s .args .offset) (s .pre .0) (orders .carry-out .ensures) in
+    (r .0, r .1, s .pre .1, r .3, r .4)
 
 returns : tie.Need-returns
 returns c =

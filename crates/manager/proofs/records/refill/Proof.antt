@@ -15,7 +15,7 @@ use Rattle.mapping.specs.declared.MappingList.{MappingList}
 use Rattle.mapping.specs.Entry.{zeroMapping, mappingAt}
 use Rattle.mapping.proofs.Laws.{items-length}
 use Rattle.mapping.proofs.Tests.{lt-or-le}
-use Rattle.manager.specs.Tables.{protection, mappingState, protectionAt}
+use Rattle.manager.specs.Tables.{protection, mappingState, instructionsOf, protectionAt}
 use Rattle.manager.proofs.Laws.{set-more, is-tabulate}
 use Rattle.manager.proofs.records.refill.Statement.{statement}
 use Rattle.manager.proofs.records.refill.Tie as tie
@@ -25,7 +25,7 @@ abbrev Filled : ℕ → MappingList → List ℕ → List ℕ → ℕ → Type 0
 Filled colours l rs ps i = (b : Board) → b .colours ≡ colours → (k : ℕ) → k < i → getD ps k 0 ≡ protectionAt b l rs k
 
 -- the protection of the mapping at a listed place, and of no mapping
-listed : (b : Board) (l : MappingList) (rs : List ℕ) (i p : ℕ) (m : Mapping) → i < l .count → m ≡ mappingAt l i → p ≡ protection (mappingState b rs m) (m .rights)
+listed : (b : Board) (l : MappingList) (rs : List ℕ) (i p : ℕ) (m : Mapping) → i < l .count → m ≡ mappingAt l i → p ≡ protection (mappingState b rs m) (instructionsOf b rs m) (m .rights)
     → p ≡ protectionAt b l rs i
 unfolding protectionAt
 listed b l rs i p m lt at e = rw (lt-ltb _ _ lt, ← at) e

@@ -1,8 +1,8 @@
 -- `mapping::Mapping::in_range` meets its contract.
 use borrow.Author.Needs.{needs}
-use borrow.Author.Tests.{lt-ltb, le-ltb, eq-eqb, ne-eqb}
+use borrow.Author.Tests.{lt-ltb, le-ltb}
 use Rattle.mapping.specs.Entry.{inRange}
-use Rattle.mapping.proofs.Tests.{chain-last, or-second}
+use Rattle.mapping.proofs.Tests.{chain-last}
 use Rattle.mapping.proofs.Mapping.in_range.Statement.{statement}
 use Rattle.mapping.proofs.Mapping.in_range.Tie as tie
 
@@ -32,17 +32,9 @@ returns-3 c =
 returns-4 : tie.Need-returns-4
 unfolding inRange
 returns-4 c =
-    let at3 = c .before .before in
+    let at3 = c .before in
     let at2 = at3 .before .before .before in
-    chain-last _ _ _ _ _ (lt-ltb _ _ (at2 .before .before .if1 .left)) (lt-ltb _ _ (at2 .if2 .left)) (lt-ltb _ _ (at3 .if3 .left)) (simp (eq-eqb _ _ (c .if4 .taken)))
-
-returns-5 : tie.Need-returns-5
-unfolding inRange
-returns-5 c =
-    let at3 = c .before .before .before in
-    let at2 = at3 .before .before .before in
-    chain-last _ _ _ _ _ (lt-ltb _ _ (at2 .before .before .if1 .left)) (lt-ltb _ _ (at2 .if2 .left)) (lt-ltb _ _ (at3 .if3 .left)) (or-second _ _ (ne-eqb _ _ (c .before .if4 .left)))
+    chain-last _ _ _ _ _ (lt-ltb _ _ (at2 .before .before .if1 .left)) (lt-ltb _ _ (at2 .if2 .left)) (lt-ltb _ _ (at3 .if3 .left)) (c .is-rights .ensures)
 
 pub in-range-spec : {M : Type 1} → statement M
-in-range-spec =
-    tie.close (tie.spec cast-if1 returns cast-if2 returns-2 cast-if3 returns-3 returns-4 returns-5)
+in-range-spec = tie.close (tie.spec cast-if1 returns cast-if2 returns-2 cast-if3 returns-3 (λ c κs. search needs) returns-4)

@@ -5,6 +5,7 @@ use Prim.Native.Nat.{ℕ, zero, suc, _-_, _≤_}
 use native.Mathlib.Omega.{arith}
 use Rattle.page_model.specs.Cases.{rowAt, caseIn, caseAt}
 use Rattle.page_model.specs.Table.{none, _⇒_, roleIf}
+use Rattle.page_model.proofs.Unused.{past}
 use Rattle.page_model.proofs.table.case_at.Statement.{statement}
 use Rattle.page_model.proofs.table.case_at.Tie as tie
 
@@ -13,9 +14,9 @@ other-state : (step : ℕ) (own : Bool) (s : ℕ) → 4 ≤ s → record { 0 = 0
 unfolding caseAt
 other-state step own s l = let e : s ≡ suc (suc (suc (suc (s - 4)))) = omega arith in rw e
 
-other-step : (k : ℕ) (own : Bool) (s : ℕ) → 7 ≤ k → record { 0 = 0; 1 = s } ≡ caseAt k own s
+other-step : (k : ℕ) (own : Bool) (s : ℕ) → 8 ≤ k → record { 0 = 0; 1 = s } ≡ caseAt k own s
 unfolding caseAt
-other-step k own s l = let e : k ≡ suc (suc (suc (suc (suc (suc (suc (k - 7))))))) = omega arith in rw e (same s)
+other-step k own s l = let e : k ≡ suc (suc (suc (suc (suc (suc (suc (suc (k - 8)))))))) = omega arith in rw e (same s)
   where
     same : (s : ℕ) → record { 0 = 0; 1 = s } ≡ caseIn (λ state. none ⇒ state) s
     same zero = refl
@@ -23,18 +24,6 @@ other-step k own s l = let e : k ≡ suc (suc (suc (suc (suc (suc (suc (k - 7)))
     same (suc (suc zero)) = refl
     same (suc (suc (suc zero))) = refl
     same (suc (suc (suc (suc s)))) = refl
-
--- a number that is none of the steps': of seven tests `omega` splits no more than some at a time
-past-four : (k : ℕ) → (k ≡ 0 → ⊥) → (k ≡ 1 → ⊥) → (k ≡ 2 → ⊥) → (k ≡ 3 → ⊥) → 4 ≤ k
-past-four k n0 n1 n2 n3 = omega arith
-
-past-seven : (k : ℕ) → 4 ≤ k → (k ≡ 4 → ⊥) → (k ≡ 5 → ⊥) → (k ≡ 6 → ⊥) → 7 ≤ k
-past-seven k l n4 n5 n6 = omega arith
-
-past : (k : ℕ)
-    → ((((((Unit {0} × (k ≡ 0 → ⊥)) × (k ≡ 1 → ⊥)) × (k ≡ 2 → ⊥)) × (k ≡ 3 → ⊥)) × (k ≡ 4 → ⊥)) × (k ≡ 5 → ⊥)) × (k ≡ 6 → ⊥)
-    → 7 ≤ k
-past k n = past-seven k (past-four k (n .0 .0 .0 .0 .0 .0 .1) (n .0 .0 .0 .0 .0 .1) (n .0 .0 .0 .0 .1) (n .0 .0 .0 .1)) (n .0 .0 .1) (n .0 .1) (n .1)
 
 -- the cell of the numbers that led to an arm
 at : (step : ℕ) (own : Bool) (state : ℕ) {step′ state′ : ℕ} {own′ : Bool} → step′ ≡ step → own′ ≡ own → state′ ≡ state
@@ -90,5 +79,10 @@ case-at-spec =
     (λ c. at 6 _ 1 (omega arith) refl (omega arith))
     (λ c. at 6 _ 2 (omega arith) refl (omega arith))
     (λ c. at 6 _ 3 (omega arith) refl (omega arith))
+    (λ c. other-state _ _ _ (omega arith))
+    (λ c. at 7 _ 0 (omega arith) refl (omega arith))
+    (λ c. at 7 _ 1 (omega arith) refl (omega arith))
+    (λ c. at 7 _ 2 (omega arith) refl (omega arith))
+    (λ c. at 7 _ 3 (omega arith) refl (omega arith))
     (λ c. other-state _ _ _ (omega arith))
     (λ c. other-step _ _ _ (past _ (c .match .rest))))

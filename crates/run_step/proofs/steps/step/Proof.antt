@@ -14,7 +14,7 @@ abbrev start : tie.After-slice-known5 → tie.Start
 start c = c .before .before .before .before .before
 
 -- past the kinds that it names
-past : {n : ℕ} → OneOf (10 ∷ 11 ∷ 12 ∷ []) n → 10 ≤ n
+past : {n : ℕ} → OneOf (11 ∷ 12 ∷ 13 ∷ []) n → 11 ≤ n
 past h = ⊎-elim (λ e. omega arith) (λ h. ⊎-elim (λ e. omega arith) (λ e. omega arith) h) h
 
 -- what each kind's call did, from its call back to the kind
@@ -80,10 +80,16 @@ returns-10 c =
 
 returns-11 : tie.Need-returns-11
 returns-11 c =
+    let made = c .before .before .before .before .before .before .before .before .before .before in
+    let told = made .before .before .before .before .before .before in
+    did-kind (start (told .before .before) .args .f) (sym (told .enum-told11 .given .1)) (made .fetch .ensures)
+
+returns-12 : tie.Need-returns-12
+returns-12 c =
     let made = c .before .before .before .before .before .before in
     let left = made .before .before .before .before .before .before in
     let a = start (left .before) in
-    did-as (evict-is (a .args .f) (a .args .kind) (a .pre) (past (left .match .keys11))) (made .evict .ensures)
+    did-as (evict-is (a .args .f) (a .args .kind) (a .pre) (past (left .match .keys12))) (made .evict .ensures)
 
 pub step-spec : {M : Type 1} → statement M
 step-spec =
@@ -92,7 +98,7 @@ step-spec =
     (λ c. search needs) (λ c κs. search needs) (λ c. search needs) (λ c κs. search needs) (λ c. search needs) (λ c κs. search needs)
     (λ c. search needs) (λ c κs. search needs) (λ c. search needs) (λ c κs. search needs) (λ c. search needs) (λ c κs. search needs)
     (λ c. search needs) (λ c κs. search needs) (λ c. search needs) (λ c κs. search needs) (λ c. search needs) (λ c κs. search needs)
-    (λ c. search needs) (λ c κs. search needs) (λ c κs. search needs)
+    (λ c. search needs) (λ c κs. search needs) (λ c. search needs) (λ c κs. search needs) (λ c κs. search needs)
     (λ c. search needs) (λ c. search needs) (λ c. search needs) (λ c. search needs) (λ c. search needs) returns
     (λ c. search needs) (λ c. search needs) (λ c. search needs) (λ c. search needs) (λ c. search needs) returns-2
     (λ c. search needs) (λ c. search needs) (λ c. search needs) (λ c. search needs) (λ c. search needs) returns-3
@@ -103,4 +109,5 @@ step-spec =
     (λ c. search needs) (λ c. search needs) (λ c. search needs) (λ c. search needs) (λ c. search needs) returns-8
     (λ c. search needs) (λ c. search needs) (λ c. search needs) (λ c. search needs) (λ c. search needs) returns-9
     (λ c. search needs) (λ c. search needs) (λ c. search needs) (λ c. search needs) (λ c. search needs) returns-10
-    (λ c. search needs) (λ c. search needs) (λ c. search needs) (λ c. search needs) (λ c. search needs) returns-11)
+    (λ c. search needs) (λ c. search needs) (λ c. search needs) (λ c. search needs) (λ c. search needs) returns-11
+    (λ c. search needs) (λ c. search needs) (λ c. search needs) (λ c. search needs) (λ c. search needs) returns-12)

@@ -41,10 +41,13 @@ returns-12 : tie.Need-returns-12
 returns-12 c = let e : c .before .args .n ≡ 12 = c .match .keys12 in rw e
 
 returns-13 : tie.Need-returns-13
-returns-13 c =
+returns-13 c = let e : c .before .args .n ≡ 13 = c .match .keys13 in rw e
+
+returns-14 : tie.Need-returns-14
+returns-14 c =
     let n = c .before .args .n in
     let r = c .match .rest in
-    let low = r .0 .0 .0 .0 .0 .0 in
+    let low = r .0 .0 .0 .0 .0 .0 .0 in
     simp (
       ne-eqb n 1 (low .0 .0 .0 .0 .0 .1),
       ne-eqb n 2 (low .0 .0 .0 .0 .1),
@@ -52,16 +55,17 @@ returns-13 c =
       ne-eqb n 4 (low .0 .0 .1),
       ne-eqb n 5 (low .0 .1),
       ne-eqb n 6 (low .1),
-      ne-eqb n 7 (r .0 .0 .0 .0 .0 .1),
-      ne-eqb n 8 (r .0 .0 .0 .0 .1),
-      ne-eqb n 9 (r .0 .0 .0 .1),
-      ne-eqb n 10 (r .0 .0 .1),
-      ne-eqb n 11 (r .0 .1),
-      ne-eqb n 12 (r .1),
+      ne-eqb n 7 (r .0 .0 .0 .0 .0 .0 .1),
+      ne-eqb n 8 (r .0 .0 .0 .0 .0 .1),
+      ne-eqb n 9 (r .0 .0 .0 .0 .1),
+      ne-eqb n 10 (r .0 .0 .0 .1),
+      ne-eqb n 11 (r .0 .0 .1),
+      ne-eqb n 12 (r .0 .1),
+      ne-eqb n 13 (r .1),
     )
 
 pub kind-of-spec : {M : Type 1} → statement M
 kind-of-spec =
     tie.close
     (tie.spec returns returns-2 returns-3 returns-4 returns-5 returns-6 returns-7 returns-8 returns-9 returns-10 returns-11 returns-12
-    returns-13)
+    returns-13 returns-14)

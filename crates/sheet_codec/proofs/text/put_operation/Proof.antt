@@ -24,6 +24,12 @@ enum-known-op-2 c = search needs
 put-operation-on-requires-2 : tie.Need-put-operation-on-requires-2
 put-operation-on-requires-2 c κs = search needs
 
+enum-known-op-3 : tie.Need-enum-known-op-3
+enum-known-op-3 c = search needs
+
+put-operation-on-requires-3 : tie.Need-put-operation-on-requires-3
+put-operation-on-requires-3 c κs = search needs
+
 same-length : tie.Need-same-length
 same-length c = search needs
 
@@ -45,6 +51,13 @@ returns-3 : tie.Need-returns-3
 unfolding operationText
 returns-3 c = put-as (rw (c .before .before .before .before .before .op2 .given .1)) (omega arith) (c .before .before .put-operation-on2 .ensures)
 
+same-length-4 : tie.Need-same-length-4
+same-length-4 c = search needs
+
+returns-4 : tie.Need-returns-4
+unfolding operationText
+returns-4 c = put-as (rw (c .before .before .before .before .before .op3 .given .1)) (omega arith) (c .before .before .put-operation-on3 .ensures)
+
 pub put-operation-spec : {M : Type 1} → statement M
 put-operation-spec =
     tie.close
@@ -55,9 +68,13 @@ put-operation-spec =
     put-operation-on-requires
     enum-known-op-2
     put-operation-on-requires-2
+    enum-known-op-3
+    put-operation-on-requires-3
     same-length
     returns
     same-length-2
     returns-2
     same-length-3
-    returns-3)
+    returns-3
+    same-length-4
+    returns-4)
