@@ -6,21 +6,22 @@ use libc::STDOUT_FILENO;
 
 fn main() {
     let mut memory = [0u32; 4096];
-    let mut words = [0u32; 512];
-    let mut tags = [0u8; 64];
+    let mut words = [0u32; 1024];
+    let mut tags = [0u8; 128];
     show::count_up(&mut memory, 0);
     aliases(&mut memory, &mut words, &mut tags);
     purges(&mut memory, &mut words, &mut tags);
     flushes(&mut memory, &mut words, &mut tags);
     losses(&mut memory, &mut words, &mut tags);
     evictions(&mut memory, &mut words, &mut tags);
+    fetches(&mut memory, &mut words, &mut tags);
     transfers(&mut memory);
     words_moved(&mut memory);
     rules(&mut tags);
 }
 
 // One frame through two colours: the second finds memory's word until the first line is written back.
-fn aliases(memory: &mut [u32; 4096], words: &mut [u32; 512], tags: &mut [u8; 64]) {
+fn aliases(memory: &mut [u32; 4096], words: &mut [u32; 1024], tags: &mut [u8; 128]) {
     io::write_all(STDOUT_FILENO, b"aliases\n");
     show::read(memory, words, tags, 3, 1, 10);
     show::write(memory, words, tags, 3, 1, 11, 5000);
@@ -32,7 +33,7 @@ fn aliases(memory: &mut [u32; 4096], words: &mut [u32; 512], tags: &mut [u8; 64]
 }
 
 // A purge empties a clean line, whose words stay; the next access finds memory's.
-fn purges(memory: &mut [u32; 4096], words: &mut [u32; 512], tags: &mut [u8; 64]) {
+fn purges(memory: &mut [u32; 4096], words: &mut [u32; 1024], tags: &mut [u8; 128]) {
     io::write_all(STDOUT_FILENO, b"purges\n");
     show::purge(tags, 3, 2);
     show::line(words, tags, 17, 3);
@@ -40,7 +41,7 @@ fn purges(memory: &mut [u32; 4096], words: &mut [u32; 512], tags: &mut [u8; 64])
 }
 
 // A flush writes the dirty line and empties both; another frame's line in the colour stays.
-fn flushes(memory: &mut [u32; 4096], words: &mut [u32; 512], tags: &mut [u8; 64]) {
+fn flushes(memory: &mut [u32; 4096], words: &mut [u32; 1024], tags: &mut [u8; 128]) {
     io::write_all(STDOUT_FILENO, b"flushes\n");
     show::write(memory, words, tags, 3, 2, 63, 6000);
     show::flush(memory, words, tags, 3, 2);
@@ -52,7 +53,7 @@ fn flushes(memory: &mut [u32; 4096], words: &mut [u32; 512], tags: &mut [u8; 64]
 }
 
 // A purge of a dirty line writes nothing.
-fn losses(memory: &mut [u32; 4096], words: &mut [u32; 512], tags: &mut [u8; 64]) {
+fn losses(memory: &mut [u32; 4096], words: &mut [u32; 1024], tags: &mut [u8; 128]) {
     io::write_all(STDOUT_FILENO, b"losses\n");
     show::write(memory, words, tags, 63, 7, 63, 77);
     show::purge(tags, 63, 7);
@@ -61,7 +62,7 @@ fn losses(memory: &mut [u32; 4096], words: &mut [u32; 512], tags: &mut [u8; 64])
 }
 
 // Evicting a dirty line writes it; an empty line stays empty.
-fn evictions(memory: &mut [u32; 4096], words: &mut [u32; 512], tags: &mut [u8; 64]) {
+fn evictions(memory: &mut [u32; 4096], words: &mut [u32; 1024], tags: &mut [u8; 128]) {
     io::write_all(STDOUT_FILENO, b"evictions\n");
     show::write(memory, words, tags, 0, 0, 0, 9);
     show::evict(memory, words, tags, 0);
@@ -70,6 +71,23 @@ fn evictions(memory: &mut [u32; 4096], words: &mut [u32; 512], tags: &mut [u8; 6
     show::evict(memory, words, tags, 1);
     show::line(words, tags, 1, 0);
     show::memory_word(memory, 0, 8);
+}
+
+// Through the instruction page of colour 1, which is page 9: the line is number 73, a word written in the data cache is not found until it is flushed and
+// the line purged, and its eviction writes nothing.
+fn fetches(memory: &mut [u32; 4096], words: &mut [u32; 1024], tags: &mut [u8; 128]) {
+    io::write_all(STDOUT_FILENO, b"fetches\n");
+    show::read(memory, words, tags, 3, 9, 11);
+    show::line(words, tags, 73, 3);
+    show::write(memory, words, tags, 3, 1, 11, 8000);
+    show::read(memory, words, tags, 3, 9, 11);
+    show::flush(memory, words, tags, 3, 1);
+    show::read(memory, words, tags, 3, 9, 11);
+    show::purge(tags, 3, 9);
+    show::read(memory, words, tags, 3, 9, 11);
+    show::evict(memory, words, tags, 73);
+    show::line(words, tags, 73, 3);
+    show::memory_word(memory, 3, 11);
 }
 
 // A transfer moves the 64 words of its frame, or its last twelve, and touches no neighbour.
@@ -110,14 +128,20 @@ fn words_moved(memory: &mut [u32; 4096]) {
 }
 
 // Which tag bytes keep the rules.
-fn rules(tags: &mut [u8; 64]) {
+fn rules(tags: &mut [u8; 128]) {
     io::write_all(STDOUT_FILENO, b"rules\n");
-    show::rule(tags, 0);
-    show::rule(tags, 1);
-    show::rule(tags, 64);
-    show::rule(tags, 65);
-    show::rule(tags, 128);
-    show::rule(tags, 129);
-    show::rule(tags, 192);
-    show::rule(tags, 193);
+    show::rule(tags, 0, 0);
+    show::rule(tags, 0, 1);
+    show::rule(tags, 0, 64);
+    show::rule(tags, 0, 65);
+    show::rule(tags, 0, 128);
+    show::rule(tags, 0, 129);
+    show::rule(tags, 0, 192);
+    show::rule(tags, 0, 193);
+    show::rule(tags, 0, 0);
+    show::rule(tags, 64, 64);
+    show::rule(tags, 64, 65);
+    show::rule(tags, 64, 129);
+    show::rule(tags, 63, 129);
+    show::rule(tags, 64, 0);
 }

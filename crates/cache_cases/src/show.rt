@@ -3,18 +3,18 @@ use board::BOARD01;
 use libc::STDOUT_FILENO;
 ghost use Prim.Native.Nat.{_+_, _<_, _≤_};
 ghost use lib.ListN.{length};
-ghost use Rattle.board.specs.Board.{board01};
+ghost use Rattle.board.specs.Board.{board01, cachePages};
 
 // Reads a word, and writes it and the line's tag.
 pub fn read(
     memory: &mut [u32; 4096],
-    words: &mut [u32; 512],
-    tags: &mut [u8; 64],
+    words: &mut [u32; 1024],
+    tags: &mut [u8; 128],
     frame: usize,
     colour: usize,
     offset: usize,
 )
-    requires { ⌜ (frame < board01 .frames) × (colour < board01 .colours) × (offset < board01 .page) ⌝ }
+    requires { ⌜ (frame < board01 .frames) × (colour < cachePages board01) × (offset < board01 .page) ⌝ }
 {
     if cache::tag::tags_keep_rules(BOARD01, tags) {
         let word = cache::access::read_word(BOARD01, memory, words, tags, frame, colour, offset);
@@ -27,8 +27,8 @@ pub fn read(
 // Writes a word, and writes out the line's tag and the word that memory holds.
 pub fn write(
     memory: &mut [u32; 4096],
-    words: &mut [u32; 512],
-    tags: &mut [u8; 64],
+    words: &mut [u32; 1024],
+    tags: &mut [u8; 128],
     frame: usize,
     colour: usize,
     offset: usize,
@@ -48,12 +48,12 @@ pub fn write(
 // Flushes a frame in a colour.
 pub fn flush(
     memory: &mut [u32; 4096],
-    words: &[u32; 512],
-    tags: &mut [u8; 64],
+    words: &[u32; 1024],
+    tags: &mut [u8; 128],
     frame: usize,
     colour: usize,
 )
-    requires { ⌜ (frame < board01 .frames) × (colour < board01 .colours) ⌝ }
+    requires { ⌜ (frame < board01 .frames) × (colour < cachePages board01) ⌝ }
 {
     if cache::tag::tags_keep_rules(BOARD01, tags) {
         cache::operation::flush(BOARD01, memory, words, tags, frame, colour);
@@ -63,8 +63,8 @@ pub fn flush(
 }
 
 // Purges a frame in a colour.
-pub fn purge(tags: &mut [u8; 64], frame: usize, colour: usize)
-    requires { ⌜ (frame < board01 .frames) × (colour < board01 .colours) ⌝ }
+pub fn purge(tags: &mut [u8; 128], frame: usize, colour: usize)
+    requires { ⌜ (frame < board01 .frames) × (colour < cachePages board01) ⌝ }
 {
     cache::operation::purge(BOARD01, tags, frame, colour);
     io::write_all(STDOUT_FILENO, b"purge ");
@@ -72,8 +72,8 @@ pub fn purge(tags: &mut [u8; 64], frame: usize, colour: usize)
 }
 
 // Evicts a line.
-pub fn evict(memory: &mut [u32; 4096], words: &[u32; 512], tags: &mut [u8; 64], line: usize)
-    requires { ⌜ line < 64 ⌝ }
+pub fn evict(memory: &mut [u32; 4096], words: &[u32; 1024], tags: &mut [u8; 128], line: usize)
+    requires { ⌜ line < 128 ⌝ }
 {
     if cache::tag::tags_keep_rules(BOARD01, tags) {
         cache::line::evict(BOARD01, memory, words, tags, line);
@@ -119,8 +119,8 @@ pub fn take_word(memory: &[u32; 4096], frame: usize, offset: usize)
 }
 
 // Writes a line's tag and one of its words.
-pub fn line(words: &[u32; 512], tags: &[u8; 64], line: usize, place: usize)
-    requires { ⌜ (line < 64) × (place < board01 .line) ⌝ }
+pub fn line(words: &[u32; 1024], tags: &[u8; 128], line: usize, place: usize)
+    requires { ⌜ (line < 128) × (place < board01 .line) ⌝ }
 {
     let at = board::line_at(BOARD01, line) + place;
     io::write_all(STDOUT_FILENO, b"line ");
@@ -144,9 +144,11 @@ pub fn buffer_word(buffer: &[u32; 64], offset: usize)
     one(wide(buffer[offset]));
 }
 
-// Puts a tag in the first place, and writes whether all tags keep the rules.
-pub fn rule(tags: &mut [u8; 64], tag: u8) {
-    tags[0] = tag;
+// Puts a tag in a place, and writes whether all tags keep the rules.
+pub fn rule(tags: &mut [u8; 128], place: usize, tag: u8)
+    requires { ⌜ place < 128 ⌝ }
+{
+    tags[place] = tag;
     if cache::tag::tags_keep_rules(BOARD01, tags) {
         io::write_all(STDOUT_FILENO, b"kept\n");
     } else {

@@ -49,25 +49,27 @@ pub const READ: usize = 19;
 
 pub const WRITE: usize = 20;
 
-pub const DEVICE_READ: usize = 21;
+pub const FETCH: usize = 21;
 
-pub const DEVICE_WRITE: usize = 22;
+pub const DEVICE_READ: usize = 22;
 
-pub const DEVICE_WRITE_PART: usize = 23;
+pub const DEVICE_WRITE: usize = 23;
 
-pub const BEGIN_READ: usize = 24;
+pub const DEVICE_WRITE_PART: usize = 24;
 
-pub const BEGIN_WRITE: usize = 25;
+pub const BEGIN_READ: usize = 25;
 
-pub const BRING_WORD: usize = 26;
+pub const BEGIN_WRITE: usize = 26;
 
-pub const TAKE_WORD: usize = 27;
+pub const BRING_WORD: usize = 27;
 
-pub const END_TRANSFER: usize = 28;
+pub const TAKE_WORD: usize = 28;
 
-pub const EVICT: usize = 29;
+pub const END_TRANSFER: usize = 29;
 
-pub const LOOK: usize = 30;
+pub const EVICT: usize = 30;
+
+pub const LOOK: usize = 31;
 
 pub struct Command {
     pub name: usize,
@@ -94,7 +96,7 @@ pub fn parsed(line: &[u8], manager: bool, called: Numbers) -> Command {
         return of_table(
             b"with RPA;\
               map bhbb;unmap bh;map-all ;\
-              read bh;write bh;\
+              read bh;write bh;fetch bh;\
               device-read b;device-write b;device-write-part bnn;\
               begin-read b;begin-write b;bring-word bn;take-word bn;end-transfer b;",
             line,
@@ -105,7 +107,7 @@ pub fn parsed(line: &[u8], manager: bool, called: Numbers) -> Command {
     of_table(
         b"with RPMWTBA;\
           map bhbb;unmap bh;map-all ;\
-          read bhn;write bhnw;\
+          read bhn;write bhnw;fetch bhn;\
           device-read b;device-write b;device-write-part bnn;\
           begin-read b;begin-write b;bring-word bnw;take-word bn;end-transfer b;\
           evict n;look bhww;",

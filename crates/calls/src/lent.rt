@@ -1,4 +1,4 @@
-// What is lent to the calls, by letters: r records, p protections, m memory, w the cache's words, t its tags, b the device's buffer, a answers; and the
+// What is lent to the calls, by letters: r records, p protections, m memory, w the caches' words, t their tags, b the device's buffer, a answers; and the
 // settings of it. Each has one place more than a call takes, so that a script can lend too many as well as too few.
 use crate::commands::COUNT;
 use crate::commands::Command;
@@ -9,15 +9,15 @@ ghost use mathlib.Core.Path.{_≡_};
 ghost use Prim.Native.Nat.{_≤_};
 ghost use lib.ListN.{length};
 
-pub const RECORDS: usize = 321;
+pub const RECORDS: usize = 449;
 
 pub const PROTECTIONS: usize = 257;
 
 pub const MEMORY: usize = 4097;
 
-pub const WORDS: usize = 513;
+pub const WORDS: usize = 1025;
 
-pub const TAGS: usize = 65;
+pub const TAGS: usize = 129;
 
 pub const BUFFER: usize = 65;
 
@@ -80,7 +80,7 @@ pub fn at_most(n: u64, places: usize) -> usize
 // ---- each buffer, with its length
 
 pub fn records(l: Lent) -> [u32; RECORDS]
-    ensures { λ r. ⌜ length r ≡ 321 ⌝ }
+    ensures { λ r. ⌜ length r ≡ 449 ⌝ }
 {
     l.r
 }
@@ -98,13 +98,13 @@ pub fn memory(l: Lent) -> [u32; MEMORY]
 }
 
 pub fn words(l: Lent) -> [u32; WORDS]
-    ensures { λ r. ⌜ length r ≡ 513 ⌝ }
+    ensures { λ r. ⌜ length r ≡ 1025 ⌝ }
 {
     l.w
 }
 
 pub fn tags(l: Lent) -> [u8; TAGS]
-    ensures { λ r. ⌜ length r ≡ 65 ⌝ }
+    ensures { λ r. ⌜ length r ≡ 129 ⌝ }
 {
     l.t
 }

@@ -82,7 +82,7 @@ fn chosen(
         return listing(name, args, list, batch, r, p, m, w, t, a);
     }
     match name {
-        commands::READ..=commands::WRITE => accesses(name, args, list, r, p, m, w, t),
+        commands::READ..=commands::FETCH => accesses(name, args, list, r, p, m, w, t),
         commands::EVICT..=commands::LOOK => others(name, args, list, r, p, m, w, t),
         commands::DEVICE_READ..=commands::DEVICE_WRITE_PART => transfers(
             name,
@@ -153,6 +153,7 @@ fn accesses(
     let offset = args[2] as usize;
     match name {
         commands::READ => found(machine::read(list, r, p, m, w, t, space, page, offset)),
+        commands::FETCH => found(machine::fetch(list, r, p, m, w, t, space, page, offset)),
         _ => told(machine::write(list, r, p, m, w, t, space, page, offset, word(args[3]))),
     }
 }

@@ -96,6 +96,7 @@ fn at_once(name: usize, args: [u64; ARGS], list: MappingList, r: &mut [u32], p: 
     match name {
         commands::READ => told(manager::read(list, r, p, first, page)),
         commands::WRITE => told(manager::write(list, r, p, first, page)),
+        commands::FETCH => told(manager::fetch(list, r, p, first, page)),
         commands::DEVICE_READ => told(manager::device_read(list, r, p, first)),
         commands::DEVICE_WRITE => told(manager::device_write(list, r, p, first)),
         _ => told(manager::device_write_part(list, r, p, first, from, number)),

@@ -88,6 +88,7 @@ fn operation(frame: u8, op: Op) {
         Op::None => none(),
         Op::Flush(colour) => on(b'F', frame, colour),
         Op::Purge(colour) => on(b'P', frame, colour),
+        Op::PurgeInstructions(colour) => on(b'I', frame, colour),
     }
 }
 

@@ -13,7 +13,7 @@ fn main() {
     let mut how = [0u8; 2];
     io::read_full(STDIN_FILENO, &mut how);
     // Frame 0 is present in every colour, so each mapping of it, one of 64, has the protection 1.
-    let mut records = [0u32; 320];
+    let mut records = [0u32; 448];
     manager::start(&mut records);
     records[0] = 255;
     let mut protections = [0u8; 256];
@@ -51,7 +51,7 @@ fn listed(count: u8) -> MappingList {
 // Maps the 64 from `first` on, one call each.
 fn singly(
     list: MappingList,
-    records: &[u32; 320],
+    records: &[u32; 448],
     protections: &mut [u8; 256],
     first: u8,
 ) -> MappingList {
@@ -68,7 +68,7 @@ fn singly(
 // Maps them in one call.
 fn at_once(
     list: MappingList,
-    records: &[u32; 320],
+    records: &[u32; 448],
     protections: &mut [u8; 256],
     first: u8,
 ) -> MappingList {

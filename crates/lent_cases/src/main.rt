@@ -93,11 +93,11 @@ fn shown(batch: Batch) {
 fn laid(items: [Mapping; 4], n: usize)
     requires { ⌜ n ≤ 4 ⌝ }
 {
-    let mut records = [0u32; 320];
+    let mut records = [0u32; 448];
     manager::start(&mut records);
-    records[25] = 1;
-    records[27] = 1;
-    records[29] = 0;
+    records[35] = 1;
+    records[37] = 1;
+    records[39] = 0;
     let mut protections = [9u8; 256];
     let mut answers = [8u8; 4];
     let listed = lent::map_all(
