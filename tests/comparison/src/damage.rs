@@ -1,8 +1,8 @@
 //! Ways to damage a run sheet. Most leave it broken, in one place only.
 
 use crate::generate::{
-    Sheet, BEGIN_READ, BEGIN_WRITE, BRING, DEVICE_READ, DEVICE_WRITE, END, EVICT, MAPPINGS, READ,
-    STEPS, TAKE, UNMAP,
+    Sheet, BEGIN_READ, BEGIN_WRITE, BRING, DEVICE_READ, DEVICE_WRITE, END, EVICT, FETCH, MAPPINGS,
+    READ, STEPS, TAKE, UNMAP,
 };
 use crate::random::Random;
 
@@ -74,7 +74,7 @@ impl Damage {
             Self::Kind => {
                 if !sheet.steps.is_empty() {
                     let at = random.below(sheet.steps.len());
-                    sheet.steps[at][0] = random.pick(&[0, END + 1, END + 2, 129, 255]);
+                    sheet.steps[at][0] = random.pick(&[0, FETCH + 1, FETCH + 2, 129, 255]);
                 }
                 sheet.encode()
             }
@@ -114,7 +114,7 @@ fn with_count(random: &mut Random, mut bytes: Vec<u8>, at: usize) -> Vec<u8> {
 /// The bytes of a step that its kind does not use.
 fn unused(kind: u8) -> &'static [usize] {
     match kind {
-        READ => &[5, 6, 7, 8],
+        READ | FETCH => &[5, 6, 7, 8],
         DEVICE_READ | EVICT => &[2, 3, 4, 5, 6, 7, 8],
         BEGIN_READ | BEGIN_WRITE | END => &[2, 3, 4, 5, 6, 7, 8],
         DEVICE_WRITE => &[2, 3, 4],

@@ -1,5 +1,5 @@
 //! Random run sheets: of every size, with refusals of every sort, with many pages for few frames, with
-//! transfers that take a while, and some of them damaged.
+//! transfers that take a while, with fetches of what was just changed, and some of them damaged.
 
 use crate::damage::Damage;
 use crate::random::Random;
@@ -10,6 +10,7 @@ const SPACES: usize = 16;
 const PAGES: usize = 1024;
 const FRAMES: usize = 64;
 const OFFSETS: usize = 64;
+/// The lines of one cache. Those of the instruction cache are evicted by the numbers after them.
 const LINES: usize = 64;
 const COLOURS: usize = 8;
 const LINE_WORDS: usize = 8;
@@ -27,7 +28,13 @@ pub const BEGIN_WRITE: u8 = 9;
 pub const BRING: u8 = 10;
 pub const TAKE: u8 = 11;
 pub const END: u8 = 12;
-const KINDS: usize = END as usize;
+pub const FETCH: u8 = 13;
+const KINDS: usize = FETCH as usize;
+
+/// The rights of a mapping.
+const TO_READ: u8 = 1;
+const TO_WRITE: u8 = 2;
+const TO_FETCH: u8 = 3;
 
 pub type Mapping = [u8; 5];
 pub type Step = [u8; 9];
@@ -74,8 +81,9 @@ pub fn accepted_sheet(seed: u64, mappings: usize) -> Vec<u8> {
         frames: random.some(mappings.min(16), FRAMES),
         offsets: (0..OFFSETS).collect(),
         read_only: 0,
+        fetched: 0,
         bad: 0,
-        weights: [45, 35, 6, 6, 8, 0, 0, 0, 0, 0, 0, 0],
+        weights: [45, 35, 6, 6, 8, 0, 0, 0, 0, 0, 0, 0, 0],
     };
     Maker::make(&mut random, plan).encode()
 }
@@ -88,8 +96,9 @@ struct Plan {
     pages: Vec<usize>,
     frames: Vec<usize>,
     offsets: Vec<usize>,
-    /// How many of 100 mappings may not be written through.
+    /// How many of 100 mappings may be read through alone, and how many be fetched through too.
     read_only: usize,
+    fetched: usize,
     /// How many of 100 calls are to be refused.
     bad: usize,
     /// How often each kind of step comes, from kind 1.
@@ -127,26 +136,46 @@ impl Plan {
             pages: (first_page..first_page + pages).collect(),
             frames: random.some(frames, FRAMES),
             offsets: random.some(offsets, OFFSETS),
-            read_only: random.pick(&[0, 10, 30]),
+            read_only: random.pick(&[0, 10, 20]),
+            fetched: random.pick(&[10, 30, 50]),
             bad: random.pick(&[0, 0, 5, 30]),
             weights: random.pick(&[
-                [40, 40, 6, 6, 7, 1, 6, 0, 0, 0, 0, 0],
-                [20, 20, 25, 15, 8, 2, 20, 3, 3, 10, 10, 12],
-                [30, 30, 4, 4, 30, 2, 8, 4, 4, 20, 20, 12],
-                [30, 30, 8, 8, 4, 20, 8, 3, 3, 8, 8, 10],
-                [10, 60, 5, 10, 10, 0, 10, 3, 5, 14, 14, 14],
-                [30, 35, 4, 4, 4, 1, 30, 2, 2, 6, 6, 8],
-                [30, 20, 2, 2, 8, 2, 3, 6, 6, 40, 40, 16],
+                [40, 40, 6, 6, 7, 1, 6, 0, 0, 0, 0, 0, 20],
+                [20, 20, 25, 15, 8, 2, 20, 3, 3, 10, 10, 12, 20],
+                [30, 30, 4, 4, 30, 2, 8, 4, 4, 20, 20, 12, 25],
+                [30, 30, 8, 8, 4, 20, 8, 3, 3, 8, 8, 10, 15],
+                [10, 60, 5, 10, 10, 0, 10, 3, 5, 14, 14, 14, 40],
+                [30, 35, 4, 4, 4, 1, 30, 2, 2, 6, 6, 8, 15],
+                [30, 20, 2, 2, 8, 2, 3, 6, 6, 40, 40, 16, 15],
+                [10, 30, 3, 12, 12, 1, 15, 3, 6, 14, 6, 14, 70],
             ]),
         }
     }
 }
 
-/// A mapping that the sheet's calls so far leave in the list.
+/// A page of a space.
 #[derive(Clone, Copy, PartialEq, Eq)]
 struct Place {
     space: u8,
     page: u16,
+}
+
+/// A mapping that the sheet's calls so far leave in the list.
+#[derive(Clone, Copy)]
+struct Mapped {
+    place: Place,
+    rights: u8,
+}
+
+impl Mapped {
+    /// Whether a step of this kind may go through it.
+    fn takes(self, kind: u8) -> bool {
+        match kind {
+            WRITE => self.rights == TO_WRITE,
+            FETCH => self.rights == TO_FETCH,
+            _ => true,
+        }
+    }
 }
 
 /// A transfer that the sheet's calls so far have begun and not ended.
@@ -160,7 +189,7 @@ struct Begun {
 struct Maker<'a> {
     random: &'a mut Random,
     plan: Plan,
-    mapped: Vec<Place>,
+    mapped: Vec<Mapped>,
     unmapped: Vec<Place>,
     begun: Vec<Begun>,
 }
@@ -185,12 +214,18 @@ impl<'a> Maker<'a> {
         let [bad_place, bad_frame, bad_rights, twice] = self.faults();
         let mut place = match self.mapped.as_slice() {
             [] => self.place(),
-            mapped if twice => self.random.pick(mapped),
+            mapped if twice => self.random.pick(mapped).place,
             _ => self.fresh_place(),
         };
         let mut frame = self.random.pick(&self.plan.frames) as u8;
-        let read_only = self.random.chance(self.plan.read_only);
-        let mut rights = if read_only { 1 } else { 2 };
+        let Plan {
+            read_only, fetched, ..
+        } = self.plan;
+        let mut rights = match self.random.below(100) {
+            at if at < read_only => TO_READ,
+            at if at < read_only + fetched => TO_FETCH,
+            _ => TO_WRITE,
+        };
         if bad_place {
             place = self.beyond(place);
         }
@@ -198,10 +233,10 @@ impl<'a> Maker<'a> {
             frame = self.past_frame();
         }
         if bad_rights {
-            rights = self.random.pick(&[0, 3, 4, 255]);
+            rights = self.random.pick(&[0, 4, 5, 255]);
         }
-        if !(bad_place || bad_frame || bad_rights || self.mapped.contains(&place)) {
-            self.mapped.push(place);
+        if !(bad_place || bad_frame || bad_rights || self.is_mapped(place)) {
+            self.mapped.push(Mapped { place, rights });
         }
         let [low, high] = place.page.to_le_bytes();
         [place.space, low, high, frame, rights]
@@ -218,8 +253,8 @@ impl<'a> Maker<'a> {
         }
         let word = self.word();
         match kind {
-            READ | WRITE => {
-                let (place, offset) = self.word_place();
+            READ | WRITE | FETCH => {
+                let (place, offset) = self.word_place(kind);
                 let word = if kind == WRITE { word } else { 0 };
                 encode(kind, place.space, place.page, offset, word)
             }
@@ -249,11 +284,21 @@ impl<'a> Maker<'a> {
         self.plan.steps > 4 * self.plan.mappings
     }
 
-    /// The page and offset of a read or write: mapped, unless it is to be refused.
-    fn word_place(&mut self) -> (Place, u8) {
+    /// The page and offset of a read, write or fetch: mapped, and mostly with the rights to it, unless it is to be
+    /// refused.
+    fn word_place(&mut self, kind: u8) -> (Place, u8) {
         let [bad_place, bad_offset, not_mapped, _] = self.faults();
         let mut place = match self.mapped.as_slice() {
-            mapped @ [_, ..] if !not_mapped => self.random.pick(mapped),
+            mapped @ [_, ..] if !not_mapped => {
+                let mut found = self.random.pick(mapped);
+                for _ in 0..4 {
+                    if found.takes(kind) {
+                        break;
+                    }
+                    found = self.random.pick(mapped);
+                }
+                found.place
+            }
             _ => self.absent_place(),
         };
         if bad_place {
@@ -276,9 +321,9 @@ impl<'a> Maker<'a> {
         }
         let leaving = self.random.below(self.mapped.len());
         if bad_place {
-            return self.beyond(self.mapped[leaving]);
+            return self.beyond(self.mapped[leaving].place);
         }
-        let place = self.mapped.remove(leaving);
+        let Mapped { place, .. } = self.mapped.remove(leaving);
         self.unmapped.push(place);
         place
     }
@@ -385,17 +430,20 @@ impl<'a> Maker<'a> {
         frame
     }
 
+    /// A line to evict: where something is fetched, one of the instruction cache as often as one of the other.
     fn line(&mut self) -> u8 {
         let [bad, ..] = self.faults();
-        match self.mapped.as_slice() {
-            _ if bad => self.random.pick(&[64, 65, 127, 128, 192, 255]),
+        let line = match self.mapped.as_slice() {
+            _ if bad => return self.random.pick(&[128, 129, 191, 192, 255]),
             mapped @ [_, ..] if self.random.chance(70) => {
-                let colour = usize::from(self.random.pick(mapped).page) % COLOURS;
+                let colour = usize::from(self.random.pick(mapped).place.page) % COLOURS;
                 let offset = self.random.pick(&self.plan.offsets);
-                (colour * LINES / COLOURS + offset / LINE_WORDS) as u8
+                colour * LINES / COLOURS + offset / LINE_WORDS
             }
-            _ => self.random.below(LINES) as u8,
-        }
+            _ => self.random.below(LINES),
+        };
+        let fetched = self.plan.fetched > 0 && self.random.chance(50);
+        (if fetched { LINES + line } else { line }) as u8
     }
 
     fn word(&mut self) -> u32 {
@@ -425,11 +473,15 @@ impl<'a> Maker<'a> {
         }
     }
 
+    fn is_mapped(&self, place: Place) -> bool {
+        self.mapped.iter().any(|mapped| mapped.place == place)
+    }
+
     /// A page that is not mapped, if one is soon found.
     fn fresh_place(&mut self) -> Place {
         let mut place = self.place();
         for _ in 0..20 {
-            if !self.mapped.contains(&place) {
+            if !self.is_mapped(place) {
                 break;
             }
             place = self.place();

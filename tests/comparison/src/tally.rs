@@ -1,18 +1,18 @@
 //! What the compared sheets met, counted from their text, so that a reader sees that nothing was
 //! left out.
 
-use crate::busy::Mark::{self, DeviceReads, DeviceWrites, Free};
-use crate::busy::Marks;
 use crate::damage::Damage;
 use crate::generate::{
     BEGIN_READ, BEGIN_WRITE, BRING, DEVICE_READ, DEVICE_WRITE, DEVICE_WRITE_PART, END, EVICT,
-    MAPPINGS, READ, STEPS, TAKE, UNMAP, WRITE,
+    FETCH, MAPPINGS, READ, STEPS, TAKE, UNMAP, WRITE,
 };
+use crate::state::Mark::{DeviceReads, DeviceWrites, Free};
+use crate::state::{About, Change, State};
 use std::collections::BTreeMap;
 use std::fmt;
 
 /// The ways to be accepted: with these operations (document 01's orders).
-const ORDERS: [&str; 4] = ["no order", "F", "P", "F P"];
+const ORDERS: [&str; 6] = ["no order", "F", "P", "F P", "I", "F I"];
 
 /// A kind of call, with the orders (by their place above) and the refusals that it can meet.
 struct Kind {
@@ -31,23 +31,27 @@ const fn kind(name: &'static str, orders: &'static [usize], refusals: &'static [
 
 const MAP: &str = "map";
 
-/// The mappings, then the steps by their number: parts by how they lie to their page, and steps of a busy frame
-/// apart from the others, most by what the device does there. No sheet meets refusal 1 or 2, since the program's
+/// The mappings, then the steps by their number: parts by how they lie to their page, steps of a busy frame apart from
+/// the others, most by what the device does there, and fetches by what changed their frame's words last: an own write
+/// is one through the fetch's own colour that has yet to be flushed. No sheet meets refusal 1 or 2, since the program's
 /// own buffers have their lengths and keep the rules, 9, since no mapping follows the 256th, or 12 or 14, since no
 /// step is a list of mappings or a look at the position.
-const KINDS: [Kind; 35] = [
+const KINDS: [Kind; 48] = [
     kind(MAP, &[0], &[3, 4, 5, 7]),
     kind("read", &[0, 1, 2, 3], &[3, 6, 8]),
     kind("read, device reads", &[0, 2], &[6]),
     kind("read, device writes", &[], &[6, 15]),
     kind("write", &[0, 1, 2, 3], &[3, 6, 8, 10]),
+    kind("write, rights 3", &[], &[10]),
     kind("write, device reads", &[], &[6, 10, 15]),
     kind("write, device writes", &[], &[6, 10, 15]),
     kind("device read", &[0, 1], &[4]),
     kind("device read, busy", &[], &[15]),
     kind("device write", &[0, 2], &[4]),
     kind("device write, busy", &[], &[15]),
-    kind("evict", &[0], &[6]),
+    kind("evict", &[0], &[]),
+    kind("evict instructions", &[0], &[]),
+    kind("evict past", &[], &[6]),
     kind("unmap", &[0], &[3, 8]),
     kind("unmap, busy", &[0], &[]),
     kind("part no words", &[], &[4, 13]),
@@ -71,14 +75,25 @@ const KINDS: [Kind; 35] = [
     kind("take, device writes", &[], &[6, 16]),
     kind("end", &[], &[4, 16]),
     kind("end, busy", &[0], &[]),
+    kind("fetch", &[0], &[3, 6, 8]),
+    kind("fetch, rights 1", &[], &[17]),
+    kind("fetch, rights 2", &[], &[17]),
+    kind("fetch, device reads", &[0, 4], &[6, 17]),
+    kind("fetch, device writes", &[], &[6, 15, 17]),
+    kind("fetch after write", &[0, 1, 4, 5], &[]),
+    kind("fetch after own write", &[1, 5], &[]),
+    kind("fetch after device write", &[0, 4], &[]),
+    kind("fetch after part", &[0, 4], &[]),
+    kind("fetch after begin write", &[0, 4], &[]),
 ];
 
-/// The name of a step's kind, where its frame has this mark.
-fn name(step: &[u8], mark: Mark) -> &'static str {
-    match (step[0], mark) {
+/// The name of a step's kind, by its frame and its line.
+fn name(step: &[u8], about: About, line: &str) -> &'static str {
+    match (step[0], about.mark) {
         (READ, Free) => "read",
         (READ, DeviceReads) => "read, device reads",
         (READ, DeviceWrites) => "read, device writes",
+        (WRITE, Free) if about.rights == Some(3) => "write, rights 3",
         (WRITE, Free) => "write",
         (WRITE, DeviceReads) => "write, device reads",
         (WRITE, DeviceWrites) => "write, device writes",
@@ -86,7 +101,11 @@ fn name(step: &[u8], mark: Mark) -> &'static str {
         (DEVICE_READ, _) => "device read, busy",
         (DEVICE_WRITE, Free) => "device write",
         (DEVICE_WRITE, _) => "device write, busy",
-        (EVICT, _) => "evict",
+        (EVICT, _) => match step[1] {
+            0..64 => "evict",
+            64..128 => "evict instructions",
+            128.. => "evict past",
+        },
         (UNMAP, Free) => "unmap",
         (UNMAP, _) => "unmap, busy",
         (DEVICE_WRITE_PART, Free) => part_name(step),
@@ -103,8 +122,27 @@ fn name(step: &[u8], mark: Mark) -> &'static str {
         (TAKE, DeviceWrites) => "take, device writes",
         (END, Free) => "end",
         (END, _) => "end, busy",
+        (FETCH, Free) => match (about.rights, about.change) {
+            (Some(1), _) => "fetch, rights 1",
+            (Some(2), _) => "fetch, rights 2",
+            (_, Change::Never) => "fetch",
+            (_, Change::Write) if flushes_own(step, line) => "fetch after own write",
+            (_, Change::Write) => "fetch after write",
+            (_, Change::DeviceWrite) => "fetch after device write",
+            (_, Change::Part) => "fetch after part",
+            (_, Change::BeginWrite) => "fetch after begin write",
+        },
+        (FETCH, DeviceReads) => "fetch, device reads",
+        (FETCH, DeviceWrites) => "fetch, device writes",
         (kind, _) => panic!("a sheet with a step of kind {kind} is broken"),
     }
+}
+
+/// Whether the line of a step through a page has a flush of that page's own colour.
+fn flushes_own(step: &[u8], line: &str) -> bool {
+    let colour = step[2] % 8;
+    line.split(' ')
+        .any(|word| word.starts_with('F') && word.ends_with(&format!(".{colour}")))
 }
 
 /// The name of a part by how it lies to its page.
@@ -171,19 +209,19 @@ impl Tally {
         let steps = steps[2..].chunks(9);
         self.full_steps += u64::from(steps.len() == STEPS);
 
-        let mut marks = Marks::default();
+        let mut state = State::default();
         let mut lines = text.lines();
         let mut listed = 0;
         for (&mapping, line) in mappings.iter().zip(&mut lines) {
             if self.count(MAP, line) {
-                marks.map(mapping);
+                state.map(mapping);
                 listed += 1;
             }
         }
         self.full_lists += u64::from(listed == MAPPINGS);
         for (step, line) in steps.zip(lines) {
-            if self.count(name(step, marks.of(step)), line) {
-                marks.follow(step);
+            if self.count(name(step, state.of(step), line), line) {
+                state.follow(step);
             }
         }
     }
@@ -230,16 +268,19 @@ impl Tally {
 
 /// The place in `ORDERS` of what follows the number in an accepted call's line.
 fn orders(words: &[&str]) -> usize {
-    match words {
-        [] | ["-", ..] => 0,
-        [a, "-", ..] => 1 + usize::from(a.starts_with('P')),
-        _ => 3,
-    }
+    let letters = words.iter().take(2).filter(|word| **word != "-");
+    let letters: Vec<&str> = letters.map(|word| &word[..1]).collect();
+    let shown = match letters.as_slice() {
+        [] => ORDERS[0].to_string(),
+        letters => letters.join(" "),
+    };
+    let found = ORDERS.iter().position(|orders| *orders == shown);
+    found.unwrap_or_else(|| panic!("no call has the orders {shown}"))
 }
 
 impl fmt::Display for Tally {
     fn fmt(&self, f: &mut fmt::Formatter) -> fmt::Result {
-        write!(f, "{:20}{:>9}", "", "accepted")?;
+        write!(f, "{:24}{:>9}", "", "accepted")?;
         for orders in ORDERS {
             write!(f, "{orders:>9}")?;
         }
@@ -247,7 +288,7 @@ impl fmt::Display for Tally {
         let mut by_number = BTreeMap::new();
         for (kind, Met { accepted, refused }) in KINDS.iter().zip(&self.met) {
             let all: u64 = accepted.iter().sum();
-            write!(f, "{:20}{all:>9}", kind.name)?;
+            write!(f, "{:24}{all:>9}", kind.name)?;
             for count in accepted {
                 write!(f, "{count:>9}")?;
             }
@@ -282,6 +323,7 @@ fn counts<K: fmt::Debug>(counts: &BTreeMap<K, u64>) -> String {
 #[cfg(test)]
 mod tests {
     use super::*;
+    use std::collections::BTreeSet;
 
     #[test]
     fn parts_by_how_they_lie() {
@@ -306,18 +348,139 @@ mod tests {
         for (first, count, name) in rows {
             let [low, high] = first.to_le_bytes();
             let step = [DEVICE_WRITE_PART, 0, low, high, count, 0, 0, 0, 0];
-            assert_eq!(super::name(&step, Free), name, "{first} {count}");
+            let found = super::name(&step, About::default(), "0 0 - - -");
+            assert_eq!(found, name, "{first} {count}");
         }
     }
 
     #[test]
     fn every_name_has_a_kind() {
-        for kind in READ..=END {
-            for mark in [Free, DeviceReads, DeviceWrites] {
-                let name = name(&[kind, 0, 0, 0, 0, 0, 0, 0, 0], mark);
-                assert_eq!(KINDS[place(name)].name, name);
+        let changes = [
+            Change::Never,
+            Change::Write,
+            Change::DeviceWrite,
+            Change::Part,
+            Change::BeginWrite,
+        ];
+        let mut named = BTreeSet::from([MAP]);
+        for kind in READ..=FETCH {
+            for s in [0, 64, 128] {
+                for mark in [Free, DeviceReads, DeviceWrites] {
+                    for rights in [None, Some(1), Some(2), Some(3)] {
+                        for change in changes {
+                            let about = About {
+                                mark,
+                                change,
+                                rights,
+                            };
+                            let step = [kind, s, 0, 0, 0, 0, 0, 0, 0];
+                            for line in ["0 0 - - -", "0 0 F0.0 - 7", "0 0 F0.1 - 7"] {
+                                let name = name(&step, about, line);
+                                assert_eq!(KINDS[place(name)].name, name);
+                                named.insert(name);
+                            }
+                        }
+                    }
+                }
             }
         }
+        // And every kind has a step, the parts beside this one too.
+        let parts = KINDS.iter().filter(|kind| kind.name.starts_with("part "));
+        named.extend(parts.map(|kind| kind.name));
+        assert_eq!(named.len(), KINDS.len());
+    }
+
+    #[test]
+    fn orders_by_their_letters() {
+        let rows = [
+            ("m0 0", 0),
+            ("7 0 - - -", 0),
+            ("7 0 - - 12", 0),
+            ("7 0 F5.0 - 12", 1),
+            ("7 0 P63.7 - -", 2),
+            ("7 0 F5.0 P5.1 12", 3),
+            ("7 0 I5.0 - 12", 4),
+            ("7 0 F5.0 I5.0 12", 5),
+        ];
+        for (line, right) in rows {
+            let words: Vec<&str> = line.split(' ').collect();
+            assert_eq!(orders(&words[2..]), right, "{line}");
+        }
+    }
+
+    /// Frame 5 at page 0 to be written, at page 8, of the same colour, to be fetched, and at page 9 to be fetched.
+    #[test]
+    fn fetches_by_what_changed_their_frame() {
+        let mut sheet = vec![3, 0];
+        sheet.extend([0, 0, 0, 5, 2]);
+        sheet.extend([0, 8, 0, 5, 3]);
+        sheet.extend([0, 9, 0, 5, 3]);
+        let fetch = |page| [FETCH, 0, page, 0, 0, 0, 0, 0, 0];
+        let write = [WRITE, 0, 0, 0, 0, 7, 0, 0, 0];
+        let of_frame = |kind| [kind, 5, 0, 0, 0, 0, 0, 0, 0];
+        let steps: [[u8; 9]; 20] = [
+            fetch(8),
+            write,
+            fetch(8),
+            write,
+            fetch(9),
+            fetch(8),
+            of_frame(DEVICE_WRITE),
+            fetch(8),
+            [DEVICE_WRITE_PART, 5, 1, 0, 1, 0, 0, 0, 0],
+            fetch(8),
+            of_frame(BEGIN_WRITE),
+            fetch(8),
+            of_frame(END),
+            fetch(8),
+            of_frame(BEGIN_READ),
+            fetch(8),
+            fetch(0),
+            of_frame(END),
+            fetch(0),
+            [WRITE, 0, 8, 0, 0, 7, 0, 0, 0],
+        ];
+        sheet.extend([steps.len() as u8, 0]);
+        sheet.extend(steps.concat());
+        let mut tally = Tally::default();
+        tally.add(&sheet, None, &peer::run(&sheet));
+        let accepted = [
+            ("fetch", [1, 0, 0, 0, 0, 0]),
+            ("fetch after own write", [0, 0, 0, 0, 0, 1]),
+            ("fetch after write", [0, 1, 0, 0, 1, 0]),
+            ("fetch after device write", [0, 0, 0, 0, 1, 0]),
+            ("fetch after part", [0, 0, 0, 0, 1, 0]),
+            ("fetch after begin write", [0, 0, 0, 0, 1, 0]),
+            ("fetch, device reads", [1, 0, 0, 0, 0, 0]),
+        ];
+        for (name, right) in accepted {
+            assert_eq!(tally.met[place(name)].accepted, right, "{name}");
+        }
+        let refused = [
+            ("fetch, device writes", 15),
+            ("fetch, device reads", 17),
+            ("fetch, rights 2", 17),
+            ("write, rights 3", 10),
+        ];
+        for (name, number) in refused {
+            let right = BTreeMap::from([(number, 1)]);
+            assert_eq!(tally.met[place(name)].refused, right, "{name}");
+        }
+    }
+
+    #[test]
+    fn lines_that_are_evicted() {
+        let mut sheet = vec![0, 0, 5, 0];
+        for line in [0, 63, 64, 127, 128] {
+            sheet.extend([EVICT, line, 0, 0, 0, 0, 0, 0, 0]);
+        }
+        let mut tally = Tally::default();
+        tally.add(&sheet, None, &peer::run(&sheet));
+        for name in ["evict", "evict instructions"] {
+            assert_eq!(tally.met[place(name)].accepted[0], 2, "{name}");
+        }
+        let refused = &tally.met[place("evict past")].refused;
+        assert_eq!(*refused, BTreeMap::from([(6, 1)]));
     }
 
     /// What the steps of a frame that the device reads are counted as, to its end and after it.

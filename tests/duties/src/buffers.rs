@@ -1,10 +1,10 @@
 //! The caller's side: the buffers that it owns and lends to each call.
 
-use crate::hardware::{Hardware, CACHE_WORDS, MEMORY_WORDS};
+use crate::hardware::{Hardware, CACHE_WORDS, MEMORY_WORDS, TAGS};
 use crate::list::{MappingList, Order, MAPPINGS};
 use crate::machine::Lent;
 use crate::record;
-use peer::board::{FRAMES, LINES, PAGE_WORDS};
+use peer::board::{FRAMES, PAGE_WORDS};
 use peer::call::{sent, Accepted, Answer, Call, Found};
 use peer::record::Direction;
 
@@ -19,7 +19,7 @@ pub struct Buffers<O> {
     pub tags: Vec<u8>,
 }
 
-/// Nothing mapped, nothing in the cache, and memory all 0.
+/// Nothing mapped, nothing in the caches, and memory all 0.
 impl<O> Default for Buffers<O> {
     fn default() -> Self {
         Self {
@@ -28,7 +28,7 @@ impl<O> Default for Buffers<O> {
             protections: vec![0; MAPPINGS],
             memory: vec![0; MEMORY_WORDS],
             words: vec![0; CACHE_WORDS],
-            tags: vec![0; LINES],
+            tags: vec![0; TAGS],
         }
     }
 }
@@ -45,6 +45,11 @@ impl<O: Order> Buffers<O> {
                 page,
                 offset,
             } => lent.read(space, page, offset),
+            Call::Fetch {
+                space,
+                page,
+                offset,
+            } => lent.fetch(space, page, offset),
             Call::Write {
                 space,
                 page,

@@ -1,15 +1,17 @@
-//! The board's memory and cache as they are lent: memory frame after frame, the cache's words line
-//! after line, and a tag byte for each line.
+//! The board's memory and its two caches as they are lent: memory frame after frame; the words of the
+//! data cache line after line, and behind them those of the instruction cache; and a tag byte for each
+//! line, in the same order.
 
 use crate::every;
-use peer::board::{Colour, Frame, Line, Offset, FRAMES, LINES, LINE_WORDS, PAGE_WORDS};
+use peer::board::{Cache, Colour, Frame, Line, Offset, FRAMES, LINES, LINE_WORDS, PAGE_WORDS};
 use peer::call::Operation;
 use std::mem;
 use std::ops::Range;
 
-/// The words of memory, and of the cache.
+/// The words of memory, and the tags and words of both caches.
 pub const MEMORY_WORDS: usize = FRAMES * PAGE_WORDS;
-pub const CACHE_WORDS: usize = LINES * LINE_WORDS;
+pub const TAGS: usize = 2 * LINES;
+pub const CACHE_WORDS: usize = TAGS * LINE_WORDS;
 
 /// The tag of an empty line, and those of the first and the last frame, clean and dirty.
 const EMPTY: u8 = 0;
@@ -28,47 +30,60 @@ impl Hardware<'_> {
     pub fn has_lengths(&self) -> bool {
         self.memory.len() == MEMORY_WORDS
             && self.words.len() == CACHE_WORDS
-            && self.tags.len() == LINES
+            && self.tags.len() == TAGS
     }
 
+    /// Tests every tag. One of an instruction line is never dirty.
     pub fn keeps_rules(&self) -> bool {
-        every(self.tags, tag_keeps_rules)
+        let (data, instructions) = self.tags.split_at(LINES);
+        every(data, tag_keeps_rules) & every(instructions, |&tag| tag <= LAST_CLEAN)
     }
 
     /// The processor reads a word of the frame through a page of this colour.
     pub fn load(&mut self, frame: Frame, colour: Colour, offset: Offset) -> u32 {
-        let line = Line::of(colour, offset);
-        self.fill(line, frame);
-        self.words[words_of(line)][offset.index() % LINE_WORDS]
+        *self.cached(Cache::Data, frame, colour, offset)
+    }
+
+    /// The processor fetches an instruction of the frame through a page of this colour.
+    pub fn fetch(&mut self, frame: Frame, colour: Colour, offset: Offset) -> u32 {
+        *self.cached(Cache::Instructions, frame, colour, offset)
     }
 
     /// The processor writes a word of the frame through a page of this colour.
     pub fn store(&mut self, frame: Frame, colour: Colour, offset: Offset, word: u32) {
+        *self.cached(Cache::Data, frame, colour, offset) = word;
         let line = Line::of(colour, offset);
-        self.fill(line, frame);
-        self.words[words_of(line)][offset.index() % LINE_WORDS] = word;
-        self.tags[line.index()] = DIRTY + frame.index() as u8;
+        self.tags[number(Cache::Data, line)] = DIRTY + frame.index() as u8;
     }
 
-    /// Empties the frame's lines in a colour: a flush writes dirty ones back, a purge does not.
+    /// Empties the frame's lines of one cache in a colour: a flush writes dirty ones back, a purge does
+    /// not.
     pub fn perform(&mut self, operation: Operation) {
-        let (Operation::Flush(frame, colour) | Operation::Purge(frame, colour)) = operation;
+        let (cache, frame, colour) = match operation {
+            Operation::Flush(frame, colour) | Operation::Purge(frame, colour) => {
+                (Cache::Data, frame, colour)
+            }
+            Operation::PurgeInstructions(frame, colour) => (Cache::Instructions, frame, colour),
+        };
         for line in colour.lines() {
-            if self.names(line, frame) {
+            if self.names(cache, line, frame) {
                 match operation {
-                    Operation::Flush(..) => self.evict(line),
-                    Operation::Purge(..) => self.tags[line.index()] = EMPTY,
+                    Operation::Flush(..) => self.evict(cache, line),
+                    Operation::Purge(..) | Operation::PurgeInstructions(..) => {
+                        self.tags[number(cache, line)] = EMPTY;
+                    }
                 }
             }
         }
     }
 
     /// Writes a line back if it is dirty, and empties it (document 01's "turning out").
-    pub fn evict(&mut self, line: Line) {
-        let tag = mem::replace(&mut self.tags[line.index()], EMPTY);
+    pub fn evict(&mut self, cache: Cache, line: Line) {
+        let number = number(cache, line);
+        let tag = mem::replace(&mut self.tags[number], EMPTY);
         if let Some(frame) = tag.checked_sub(DIRTY) {
             let page = &mut self.memory[page_of(frame.into())];
-            page[line.offsets()].copy_from_slice(&self.words[words_of(line)]);
+            page[line.offsets()].copy_from_slice(&self.words[words_of(number)]);
         }
     }
 
@@ -77,18 +92,22 @@ impl Hardware<'_> {
         &mut self.memory[page_of(frame.index())]
     }
 
-    /// Has the line hold the frame's words.
-    fn fill(&mut self, line: Line, frame: Frame) {
-        if !self.names(line, frame) {
-            self.evict(line);
+    /// A word of the frame in a cache's line of this colour, which is filled from memory if it did not
+    /// hold the frame.
+    fn cached(&mut self, cache: Cache, frame: Frame, colour: Colour, offset: Offset) -> &mut u32 {
+        let line = Line::of(colour, offset);
+        let number = number(cache, line);
+        if !self.names(cache, line, frame) {
+            self.evict(cache, line);
             let page = &self.memory[page_of(frame.index())];
-            self.words[words_of(line)].copy_from_slice(&page[line.offsets()]);
-            self.tags[line.index()] = CLEAN + frame.index() as u8;
+            self.words[words_of(number)].copy_from_slice(&page[line.offsets()]);
+            self.tags[number] = CLEAN + frame.index() as u8;
         }
+        &mut self.words[words_of(number)][offset.index() % LINE_WORDS]
     }
 
-    fn names(&self, line: Line, frame: Frame) -> bool {
-        let (tag, frame) = (self.tags[line.index()], frame.index() as u8);
+    fn names(&self, cache: Cache, line: Line, frame: Frame) -> bool {
+        let (tag, frame) = (self.tags[number(cache, line)], frame.index() as u8);
         tag == CLEAN + frame || tag == DIRTY + frame
     }
 }
@@ -102,7 +121,16 @@ fn page_of(frame: usize) -> Range<usize> {
     frame * PAGE_WORDS..(frame + 1) * PAGE_WORDS
 }
 
-/// Where a line's words lie in the cache.
-fn words_of(line: Line) -> Range<usize> {
-    line.index() * LINE_WORDS..(line.index() + 1) * LINE_WORDS
+/// Where a line's tag lies among those of both caches: a data line at 8 times its colour and its place
+/// there, an instruction line 64 behind.
+fn number(cache: Cache, line: Line) -> usize {
+    match cache {
+        Cache::Data => line.index(),
+        Cache::Instructions => LINES + line.index(),
+    }
+}
+
+/// Where the words of the line with this number lie among those of both caches.
+fn words_of(number: usize) -> Range<usize> {
+    number * LINE_WORDS..(number + 1) * LINE_WORDS
 }

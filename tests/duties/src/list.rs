@@ -100,7 +100,7 @@ fn in_range(mapping: &Mapping) -> bool {
     (usize::from(mapping.space) < SPACES)
         & (usize::from(mapping.page) < PAGES)
         & (usize::from(mapping.frame) < FRAMES)
-        & matches!(mapping.rights, 1 | 2)
+        & matches!(mapping.rights, 1..=3)
 }
 
 #[derive(Clone, Debug, PartialEq, Eq)]

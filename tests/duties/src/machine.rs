@@ -5,7 +5,7 @@ use crate::every;
 use crate::hardware::Hardware;
 use crate::list::{MappingList, Order, MAPPINGS};
 use crate::record::{self, Record, RECORDS_WORDS};
-use peer::board::{Frame, Line, Offset, Part, Place, PAGE_WORDS};
+use peer::board::{Colour, Frame, Line, Offset, Part, Place, PAGE_WORDS};
 use peer::call::{Accepted, Answer, Found, Mapping, Operations};
 use peer::record::{Access, Direction, Transfer};
 use peer::Refusal;
@@ -31,7 +31,7 @@ impl<O: Order> Lent<'_, O> {
         } = mapping;
         Place::new(space, page)?;
         Frame::new(frame)?;
-        if !matches!(rights, 1 | 2) {
+        if !matches!(rights, 1..=3) {
             return Err(Refusal::Rights);
         }
         let Err(at) = self.list.find(space, page) else {
@@ -53,11 +53,23 @@ impl<O: Order> Lent<'_, O> {
     }
 
     pub fn read(&mut self, space: u8, page: u16, offset: u8) -> Answer {
-        self.access(space, page, offset, None)
+        let (operations, frame, colour, offset) = self.access(Access::Read, space, page, offset)?;
+        let word = self.hardware.load(frame, colour, offset);
+        self.accept(operations, Found::Word(word))
     }
 
     pub fn write(&mut self, space: u8, page: u16, offset: u8, word: u32) -> Answer {
-        self.access(space, page, offset, Some(word))
+        let (operations, frame, colour, offset) =
+            self.access(Access::Write, space, page, offset)?;
+        self.hardware.store(frame, colour, offset, word);
+        self.accept(operations, Found::Nothing)
+    }
+
+    pub fn fetch(&mut self, space: u8, page: u16, offset: u8) -> Answer {
+        let (operations, frame, colour, offset) =
+            self.access(Access::Fetch, space, page, offset)?;
+        let word = self.hardware.fetch(frame, colour, offset);
+        self.accept(operations, Found::Word(word))
     }
 
     /// The device takes the frame's words into its buffer.
@@ -116,35 +128,35 @@ impl<O: Order> Lent<'_, O> {
         self.accept(NO_OPERATIONS, Found::Nothing)
     }
 
-    /// Document 01's "turning out".
+    /// Document 01's "turning out", of a line of either cache.
     pub fn evict(&mut self, line: u8) -> Answer {
         self.test()?;
-        self.hardware.evict(Line::new(line)?);
+        let (cache, line) = Line::by_number(line)?;
+        self.hardware.evict(cache, line);
         self.accept(NO_OPERATIONS, Found::Nothing)
     }
 
-    /// A processor access: a write if there is a word to write.
-    fn access(&mut self, space: u8, page: u16, offset: u8, written: Option<u32>) -> Answer {
+    /// All of a processor access but the word: what it orders, and where the word lies.
+    fn access(
+        &mut self,
+        access: Access,
+        space: u8,
+        page: u16,
+        offset: u8,
+    ) -> Result<(Operations, Frame, Colour, Offset), Refusal> {
         self.test()?;
         let (place, offset) = (Place::new(space, page)?, Offset::new(offset)?);
         let Mapping { frame, rights, .. } = self.list.items[self.mapped(space, page)?];
-        let access = match written {
-            None => Access::Read,
-            Some(_) if rights == 2 => Access::Write,
-            Some(_) => return Err(Refusal::ReadOnly),
-        };
+        match (access, rights) {
+            (Access::Write, 1 | 3) => return Err(Refusal::ReadOnly),
+            (Access::Fetch, 1 | 2) => return Err(Refusal::NoFetch),
+            _ => {}
+        }
         let (frame, colour) = (Frame::new(frame)?, place.colour());
         let operations = self.step(frame, |record| {
             record::access(record, access, frame, colour)
         })?;
-        let found = match written {
-            None => Found::Word(self.hardware.load(frame, colour, offset)),
-            Some(word) => {
-                self.hardware.store(frame, colour, offset, word);
-                Found::Nothing
-            }
-        };
-        self.accept(operations, found)
+        Ok((operations, frame, colour, offset))
     }
 
     /// What comes before a transfer.

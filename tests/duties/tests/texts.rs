@@ -76,7 +76,7 @@ fn unmaps_and_refusals() {
         01 01 08 00 03 00 00 00 00    # 9 finds 7
         01 01 08 00 40 00 00 00 00    # 10 offset 64: 6
         03 05 00 00 00 00 00 00 00    # 11 the device reads frame 5
-        05 40 00 00 00 00 00 00 00    # 12 line 64: 6
+        05 80 00 00 00 00 00 00 00    # 12 line 128: 6
     ";
     let right = "m0 0\nm1 0\nm2 0\nm3 0\nm4 7\nm5 3\nm6 0\n\
         0 0 - - -\n1 0 - - 7\n2 0 - - -\n3 8 - - -\n4 0 F5.0 - 7\n5 0 - - -\n6 0 - - -\n\
@@ -140,6 +140,44 @@ fn transfers_that_take_a_while() {
         0 0 - - -\n1 0 F5.0 - -\n2 0 - - 7\n3 0 - - 7\n4 15 - - -\n5 16 - - -\n6 0 - - -\n\
         7 0 - - -\n8 0 - - -\n9 15 - - -\n10 10 - - -\n11 15 - - -\n12 0 - - -\n13 16 - - -\n\
         14 0 P5.1 - 9\nend 1 1\n";
+    assert_eq!(check(&bytes(sheet)), right);
+}
+
+/// Fetches after a write through the same colour and another, a part and a transfer that took a while, with what is
+/// refused meanwhile, and lines of both caches evicted.
+#[test]
+fn fetches() {
+    let sheet = "
+        04 00
+        00 00 00 05 02    # m0 page 0, frame 5
+        00 08 00 05 03    # m1 page 8, of the same colour, to be fetched
+        00 09 00 05 03    # m2 page 9, of another colour, to be fetched
+        00 0a 00 05 04    # m3 rights 4: 5
+        13 00
+        0d 00 08 00 00 00 00 00 00    # 0 fetches 0
+        02 00 00 00 00 07 00 00 00    # 1 writes 7 to offset 0: colour 0 is stale for instructions
+        0d 00 08 00 00 00 00 00 00    # 2 finds 7 after a flush of its own colour and a purge
+        02 00 00 00 01 08 00 00 00    # 3 writes 8 to offset 1
+        0d 00 09 00 01 00 00 00 00    # 4 finds 8 after a flush of the other colour
+        07 05 01 00 01 09 00 00 00    # 5 sends 9 to offset 1
+        0d 00 09 00 01 00 00 00 00    # 6 finds 9 after a purge
+        09 05 00 00 00 00 00 00 00    # 7 begins to write
+        0d 00 09 00 01 00 00 00 00    # 8 the device writes: 15
+        0d 00 00 00 01 00 00 00 00    # 9 not to be fetched: 17
+        0c 05 00 00 00 00 00 00 00    # 10 ends
+        08 05 00 00 00 00 00 00 00    # 11 begins to read
+        0d 00 08 00 01 00 00 00 00    # 12 finds 9 after a purge
+        0c 05 00 00 00 00 00 00 00    # 13 ends
+        02 00 08 00 00 0a 00 00 00    # 14 not to be written: 10
+        05 40 00 00 00 00 00 00 00    # 15 evicts the line of 12
+        0d 00 08 00 00 00 00 00 00    # 16 finds 7
+        0d 00 0b 00 00 00 00 00 00    # 17 not mapped: 8
+        01 00 09 00 01 00 00 00 00    # 18 reads 9
+    ";
+    let right = "m0 0\nm1 0\nm2 0\nm3 5\n\
+        0 0 - - 0\n1 0 - - -\n2 0 F5.0 I5.0 7\n3 0 - - -\n4 0 F5.0 - 8\n5 0 - - -\n6 0 I5.1 - 9\n\
+        7 0 - - -\n8 15 - - -\n9 17 - - -\n10 0 - - -\n11 0 - - -\n12 0 I5.0 - 9\n13 0 - - -\n\
+        14 10 - - -\n15 0 - - -\n16 0 - - 7\n17 8 - - -\n18 0 - - 9\nend 2 3\n";
     assert_eq!(check(&bytes(sheet)), right);
 }
 

@@ -9,6 +9,7 @@ pub const SPACES: usize = 16;
 pub const PAGES: usize = 1024;
 pub const COLOURS: usize = 8;
 pub const LINE_WORDS: usize = 8;
+/// The lines of one cache.
 pub const LINES: usize = 64;
 const PAGE_LINES: usize = PAGE_WORDS / LINE_WORDS;
 
@@ -115,13 +116,25 @@ impl Part {
     }
 }
 
-/// A line of the cache.
+/// The board's two caches, of the same lines and colours (document 02, N8).
+#[derive(Clone, Copy, Debug, PartialEq, Eq)]
+pub enum Cache {
+    Data,
+    Instructions,
+}
+
+/// A line of either cache.
 #[derive(Clone, Copy, Debug, PartialEq, Eq)]
 pub struct Line(u8);
 
 impl Line {
-    pub fn new(line: u8) -> Result<Self, Refusal> {
-        below(LINES, line, Refusal::Offset).map(Self)
+    /// The cache and the line that are evicted by this number: the data cache's come first.
+    pub fn by_number(number: u8) -> Result<(Cache, Self), Refusal> {
+        const FIRST: u8 = LINES as u8;
+        match below(2 * LINES, number, Refusal::Offset)? {
+            line @ ..FIRST => Ok((Cache::Data, Self(line))),
+            line => Ok((Cache::Instructions, Self(line - FIRST))),
+        }
     }
 
     /// The line of an offset in a page of this colour.
@@ -129,6 +142,7 @@ impl Line {
         Self(colour.0 * PAGE_LINES as u8 + offset.0 / LINE_WORDS as u8)
     }
 
+    /// Those of one cache.
     pub fn all() -> impl Iterator<Item = Self> {
         (0..LINES as u8).map(Self)
     }
@@ -156,6 +170,23 @@ fn below<N: Copy + Into<usize>>(limit: usize, n: N, refusal: Refusal) -> Result<
 #[cfg(test)]
 mod tests {
     use super::*;
+
+    #[test]
+    fn lines_of_both_caches() {
+        let rows = [
+            (0, Cache::Data, 0),
+            (63, Cache::Data, 63),
+            (64, Cache::Instructions, 0),
+            (65, Cache::Instructions, 1),
+            (127, Cache::Instructions, 63),
+        ];
+        for (number, cache, line) in rows {
+            assert_eq!(Line::by_number(number), Ok((cache, Line(line))));
+        }
+        for number in [128, 129, 192, 255] {
+            assert_eq!(Line::by_number(number), Err(Refusal::Offset));
+        }
+    }
 
     #[test]
     fn parts_in_the_page() {

@@ -33,6 +33,11 @@ impl Cacheless {
                 space,
                 page,
                 offset,
+            }
+            | Call::Fetch {
+                space,
+                page,
+                offset,
             } => {
                 if let Some(frame) = *self.frame(space, page) {
                     return Found::Word(self.words[usize::from(frame)][usize::from(offset)]);

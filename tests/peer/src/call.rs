@@ -22,6 +22,12 @@ pub enum Call {
         page: u16,
         offset: u8,
     },
+    /// A read of an instruction, through the cache of those.
+    Fetch {
+        space: u8,
+        page: u16,
+        offset: u8,
+    },
     Write {
         space: u8,
         page: u16,
@@ -64,7 +70,7 @@ pub enum Call {
     EndTransfer {
         frame: u8,
     },
-    /// Document 01's "turning out".
+    /// Document 01's "turning out", of a line of either cache.
     Evict {
         line: u8,
     },
@@ -84,6 +90,8 @@ pub fn sent(first: u32, count: usize) -> Vec<u32> {
 pub enum Operation {
     Flush(Frame, Colour),
     Purge(Frame, Colour),
+    /// A purge of the instruction cache; the other two are of the data cache.
+    PurgeInstructions(Frame, Colour),
 }
 
 impl fmt::Display for Operation {
@@ -91,6 +99,7 @@ impl fmt::Display for Operation {
         let (letter, frame, colour) = match self {
             Self::Flush(frame, colour) => ('F', frame, colour),
             Self::Purge(frame, colour) => ('P', frame, colour),
+            Self::PurgeInstructions(frame, colour) => ('I', frame, colour),
         };
         write!(f, "{letter}{}.{}", frame.index(), colour.index())
     }

@@ -1,10 +1,13 @@
-//! The board's memory and its direct-mapped, virtually indexed, physically tagged, write-back cache.
+//! The board's memory and its direct-mapped, virtually indexed, physically tagged caches: one for data, which
+//! writes back, and one for instructions, which has nothing to write.
 
-use crate::board::{Colour, Frame, Line, Offset, PageWords, FRAMES, LINES, LINE_WORDS, PAGE_WORDS};
+use crate::board::{
+    Cache, Colour, Frame, Line, Offset, PageWords, FRAMES, LINES, LINE_WORDS, PAGE_WORDS,
+};
 use crate::call::Operation;
 use crate::Refusal;
 
-/// What a line holds. A dirty line has been written by the processor and not written back since.
+/// What a line of the data cache holds. A dirty line has been written by the processor and not written back since.
 #[derive(Clone, Copy, Debug, PartialEq, Eq)]
 pub enum Tag {
     Empty,
@@ -35,28 +38,55 @@ impl TryFrom<u8> for Tag {
     }
 }
 
+/// What a line of the instruction cache holds.
 #[derive(Clone, Copy, Debug, PartialEq, Eq)]
-struct Slot {
-    tag: Tag,
+pub enum InstructionTag {
+    Empty,
+    Clean(Frame),
+}
+
+/// The tag that a byte stands for, if it keeps the rules.
+impl TryFrom<u8> for InstructionTag {
+    type Error = Refusal;
+
+    fn try_from(byte: u8) -> Result<Self, Refusal> {
+        match Tag::try_from(byte)? {
+            Tag::Empty => Ok(Self::Empty),
+            Tag::Clean(frame) => Ok(Self::Clean(frame)),
+            Tag::Dirty(_) => Err(Refusal::Rules),
+        }
+    }
+}
+
+#[derive(Clone, Copy, Debug, PartialEq, Eq)]
+struct Slot<T> {
+    tag: T,
     words: [u32; LINE_WORDS],
+}
+
+impl<T> Slot<T> {
+    fn empty(tag: T) -> Self {
+        Self {
+            tag,
+            words: [0; LINE_WORDS],
+        }
+    }
 }
 
 #[derive(Clone, Debug, PartialEq, Eq)]
 pub struct Hardware {
     memory: [PageWords; FRAMES],
-    cache: [Slot; LINES],
+    data: [Slot<Tag>; LINES],
+    instructions: [Slot<InstructionTag>; LINES],
 }
 
 /// Memory all 0 and every line empty.
 impl Default for Hardware {
     fn default() -> Self {
-        let slot = Slot {
-            tag: Tag::Empty,
-            words: [0; LINE_WORDS],
-        };
         Self {
             memory: [[0; PAGE_WORDS]; FRAMES],
-            cache: [slot; LINES],
+            data: [Slot::empty(Tag::Empty); LINES],
+            instructions: [Slot::empty(InstructionTag::Empty); LINES],
         }
     }
 }
@@ -74,26 +104,49 @@ impl Hardware {
         slot.tag = Tag::Dirty(frame);
     }
 
-    /// Empties the frame's lines in a colour: a flush writes dirty ones back, a purge does not.
+    /// The processor fetches an instruction of the frame through a page of this colour.
+    pub fn fetch(&mut self, frame: Frame, colour: Colour, offset: Offset) -> u32 {
+        let line = Line::of(colour, offset);
+        let slot = &mut self.instructions[line.index()];
+        if slot.tag != InstructionTag::Clean(frame) {
+            let words = &self.memory[frame.index()][line.offsets()];
+            slot.words.copy_from_slice(words);
+            slot.tag = InstructionTag::Clean(frame);
+        }
+        slot.words[offset.index() % LINE_WORDS]
+    }
+
+    /// Empties the frame's lines of one cache in a colour: a flush writes dirty ones back, a purge does not.
     pub fn perform(&mut self, operation: Operation) {
-        let (Operation::Flush(frame, colour) | Operation::Purge(frame, colour)) = operation;
+        let (Operation::Flush(frame, colour)
+        | Operation::Purge(frame, colour)
+        | Operation::PurgeInstructions(frame, colour)) = operation;
         for line in colour.lines() {
-            if self.tag(line).frame() == Some(frame) {
-                match operation {
-                    Operation::Flush(..) => self.evict(line),
-                    Operation::Purge(..) => self.cache[line.index()].tag = Tag::Empty,
+            let data = self.tag(line).frame() == Some(frame);
+            let instructions = self.instruction_tag(line) == InstructionTag::Clean(frame);
+            match operation {
+                Operation::Flush(..) if data => self.evict(Cache::Data, line),
+                Operation::Purge(..) if data => self.data[line.index()].tag = Tag::Empty,
+                Operation::PurgeInstructions(..) if instructions => {
+                    self.evict(Cache::Instructions, line);
                 }
+                _ => {}
             }
         }
     }
 
     /// Writes a line back if it is dirty, and empties it (document 01's "turning out").
-    pub fn evict(&mut self, line: Line) {
-        let Slot { tag, words } = self.cache[line.index()];
-        if let Tag::Dirty(frame) = tag {
-            self.memory[frame.index()][line.offsets()].copy_from_slice(&words);
+    pub fn evict(&mut self, cache: Cache, line: Line) {
+        match cache {
+            Cache::Data => {
+                let Slot { tag, words } = self.data[line.index()];
+                if let Tag::Dirty(frame) = tag {
+                    self.memory[frame.index()][line.offsets()].copy_from_slice(&words);
+                }
+                self.data[line.index()].tag = Tag::Empty;
+            }
+            Cache::Instructions => self.instructions[line.index()].tag = InstructionTag::Empty,
         }
-        self.cache[line.index()].tag = Tag::Empty;
     }
 
     /// Memory past the cache: the device's view.
@@ -106,19 +159,23 @@ impl Hardware {
     }
 
     pub fn tag(&self, line: Line) -> Tag {
-        self.cache[line.index()].tag
+        self.data[line.index()].tag
     }
 
-    /// The line of a word, filled from memory if it did not hold the frame.
-    fn slot(&mut self, frame: Frame, colour: Colour, offset: Offset) -> &mut Slot {
+    pub fn instruction_tag(&self, line: Line) -> InstructionTag {
+        self.instructions[line.index()].tag
+    }
+
+    /// The data cache's line of a word, filled from memory if it did not hold the frame.
+    fn slot(&mut self, frame: Frame, colour: Colour, offset: Offset) -> &mut Slot<Tag> {
         let line = Line::of(colour, offset);
         if self.tag(line).frame() != Some(frame) {
-            self.evict(line);
+            self.evict(Cache::Data, line);
             let words = &self.memory[frame.index()][line.offsets()];
-            let slot = &mut self.cache[line.index()];
+            let slot = &mut self.data[line.index()];
             slot.words.copy_from_slice(words);
             slot.tag = Tag::Clean(frame);
         }
-        &mut self.cache[line.index()]
+        &mut self.data[line.index()]
     }
 }

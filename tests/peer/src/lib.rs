@@ -1,5 +1,5 @@
 //! Runs a run sheet as document 01 describes, on a machine written from documents 01 and 02 (of
-//! 02 the requests N1 to N7; docs/DECISIONS.md, 87, says what else it was told), with a cacheless memory beside it that every accepted read and the
+//! 02 the requests N1 to N8; docs/DECISIONS.md, 87, says what else it was told), with a cacheless memory beside it that every accepted read and fetch and the
 //! memory at the end must equal. Of N5 no sheet has a step, and of N7 no text shows anything.
 
 pub mod board;
@@ -16,7 +16,7 @@ pub mod text;
 
 pub use refusal::Refusal;
 
-use board::{Frame, Line};
+use board::{Cache, Frame, Line};
 use cacheless::Cacheless;
 use call::{Answer, Call, Mapping};
 use machine::{Machine, ITEMS};
@@ -88,7 +88,10 @@ impl Pair {
     /// Evicts every line of a copy and compares the two memories.
     pub fn settle(&self) -> Result<(), String> {
         let mut hardware = self.machine.hardware.clone();
-        Line::all().for_each(|line| hardware.evict(line));
+        for line in Line::all() {
+            hardware.evict(Cache::Data, line);
+            hardware.evict(Cache::Instructions, line);
+        }
         for (frame, right) in Frame::all().zip(self.cacheless.words()) {
             let found = hardware.page(frame);
             if found != right {
@@ -146,6 +149,27 @@ mod tests {
         let mut pair = written();
         tamper(&mut pair, 8);
         assert!(pair.call(read).is_err());
+    }
+
+    #[test]
+    fn a_wrong_fetch_is_caught() {
+        for (offset, wrong) in [(15, false), (16, true)] {
+            let mut pair = written();
+            let mapping = Mapping {
+                space: 0,
+                page: 8,
+                frame: 0,
+                rights: 3,
+            };
+            pair.call(Call::Map(mapping)).unwrap().unwrap();
+            tamper(&mut pair, 16);
+            let fetched = pair.call(Call::Fetch {
+                space: 0,
+                page: 8,
+                offset,
+            });
+            assert_eq!(fetched.is_err(), wrong);
+        }
     }
 
     #[test]

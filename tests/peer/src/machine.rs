@@ -48,6 +48,20 @@ impl Machine {
                     found: Found::Word(word),
                 })
             }
+            Call::Fetch {
+                space,
+                page,
+                offset,
+            } => {
+                let (place, offset) = (Place::new(space, page)?, Offset::new(offset)?);
+                let (frame, operations) = self.manager.access(Access::Fetch, place)?;
+                self.perform(operations);
+                let word = self.hardware.fetch(frame, place.colour(), offset);
+                Ok(Accepted {
+                    operations,
+                    found: Found::Word(word),
+                })
+            }
             Call::Write {
                 space,
                 page,
@@ -110,7 +124,8 @@ impl Machine {
                 Ok(Accepted::default())
             }
             Call::Evict { line } => {
-                self.hardware.evict(Line::new(line)?);
+                let (cache, line) = Line::by_number(line)?;
+                self.hardware.evict(cache, line);
                 Ok(Accepted::default())
             }
         }

@@ -1,6 +1,6 @@
 //! The manager: which page maps which frame, the state of every frame, and the operations that each
-//! step needs. Protections show neither in a run's text nor in an answer, so it keeps none. No caller
-//! reaches its list, so it trusts the list's order.
+//! step needs. Protections show neither in a run's text nor in an answer, so it keeps none and gives
+//! them when they are asked for. No caller reaches its list, so it trusts the list's order.
 
 use crate::board::{Frame, Place, FRAMES};
 use crate::call::Operations;
@@ -14,6 +14,28 @@ pub const MAPPINGS: usize = 256;
 enum Rights {
     Read,
     ReadWrite,
+    ReadFetch,
+}
+
+impl Rights {
+    fn new(rights: u8) -> Result<Self, Refusal> {
+        match rights {
+            1 => Ok(Self::Read),
+            2 => Ok(Self::ReadWrite),
+            3 => Ok(Self::ReadFetch),
+            _ => Err(Refusal::Rights),
+        }
+    }
+
+    fn test(self, access: Access) -> Result<(), Refusal> {
+        match (access, self) {
+            (Access::Read, _) => Ok(()),
+            (Access::Write, Self::ReadWrite) => Ok(()),
+            (Access::Write, _) => Err(Refusal::ReadOnly),
+            (Access::Fetch, Self::ReadFetch) => Ok(()),
+            (Access::Fetch, _) => Err(Refusal::NoFetch),
+        }
+    }
 }
 
 #[derive(Clone, Copy, Debug, PartialEq, Eq)]
@@ -42,11 +64,7 @@ impl Default for Manager {
 
 impl Manager {
     pub fn map(&mut self, place: Place, frame: Frame, rights: u8) -> Result<(), Refusal> {
-        let rights = match rights {
-            1 => Rights::Read,
-            2 => Rights::ReadWrite,
-            _ => return Err(Refusal::Rights),
-        };
+        let rights = Rights::new(rights)?;
         let Err(at) = self.find(place) else {
             return Err(Refusal::Mapped);
         };
@@ -72,9 +90,7 @@ impl Manager {
     /// The frame behind a page, and what must be done before the access.
     pub fn access(&mut self, access: Access, place: Place) -> Result<(Frame, Operations), Refusal> {
         let Mapping { frame, rights, .. } = self.mappings[self.mapped(place)?];
-        if access == Access::Write && rights == Rights::Read {
-            return Err(Refusal::ReadOnly);
-        }
+        rights.test(access)?;
         let record = &mut self.records[frame.index()];
         Ok((frame, record.access(frame, access, place.colour())?))
     }
@@ -92,6 +108,23 @@ impl Manager {
     /// Ends the frame's transfer.
     pub fn end(&mut self, frame: Frame) -> Result<(), Refusal> {
         self.records[frame.index()].end()
+    }
+
+    /// Each mapping's protection, in the list's order: 1 to read, 2 to read and write, and 4 more to fetch.
+    pub fn protections(&self) -> Vec<u8> {
+        let protection = |mapping: &Mapping| {
+            let record = &self.records[mapping.frame.index()];
+            let allows = |access| {
+                mapping.rights.test(access).is_ok() && record.allows(access, mapping.place.colour())
+            };
+            let data = if allows(Access::Write) {
+                2
+            } else {
+                allows(Access::Read).into()
+            };
+            data + 4 * u8::from(allows(Access::Fetch))
+        };
+        self.mappings.iter().map(protection).collect()
     }
 
     fn mapped(&self, place: Place) -> Result<usize, Refusal> {

@@ -23,6 +23,8 @@ pub enum Refusal {
     Unmapped = 8,
     Full = 9,
     ReadOnly = 10,
+    /// A fetch through rights other than 3.
+    NoFetch = 17,
     /// The frame is busy with a transfer that this processor access, or any new transfer, must wait for.
     Busy = 15,
     /// A word of a transfer, or its end, without that transfer, or a word in the wrong direction.

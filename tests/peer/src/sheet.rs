@@ -89,6 +89,11 @@ fn step(&[kind, s, p0, p1, o, w0, w1, w2, w3]: &[u8; 9]) -> Result<Call, Refusal
         }),
         (11, 0, offset, 0) => Ok(Call::TakeWord { frame: s, offset }),
         (12, 0, 0, 0) => Ok(Call::EndTransfer { frame: s }),
+        (13, page, offset, 0) => Ok(Call::Fetch {
+            space: s,
+            page,
+            offset,
+        }),
         _ => Err(Refusal::Sheet),
     }
 }

@@ -30,7 +30,7 @@ impl Text {
         for operation in operations.iter().flatten() {
             match operation {
                 Operation::Flush(..) => self.flushes += 1,
-                Operation::Purge(..) => self.purges += 1,
+                Operation::Purge(..) | Operation::PurgeInstructions(..) => self.purges += 1,
             }
         }
         let [a, b] = operations.map(OrDash);

@@ -133,7 +133,7 @@ fn check_refused(pair: &mut Pair, rows: &[(Call, u8)]) {
 
 // ---- the record
 
-/// Held, stale, dirty and busy.
+/// Held, stale, dirty and busy. Nothing of these records is in the instruction cache.
 type Numbers = [u8; 4];
 
 /// The record of these numbers, written with the dirty colour that mask and flag give.
@@ -142,7 +142,7 @@ fn record([held, stale, dirty, busy]: Numbers) -> Result<Record, Refusal> {
         1 => held.trailing_zeros() as u8,
         _ => 8,
     };
-    Record::from_masks(held, stale, dirty, busy, dirty_colour)
+    Record::from_masks([held, stale, dirty, busy, dirty_colour, 0, 0])
 }
 
 fn all_numbers() -> impl Iterator<Item = Numbers> {

@@ -5,7 +5,7 @@ use peer::call::{Operation, Operations};
 use peer::record::{Access, Direction, Record, Transfer};
 use peer::Refusal;
 
-/// Held, stale, dirty, busy and dirty colour.
+/// Held, stale, dirty, busy and dirty colour. Nothing of these records is in the instruction cache.
 type Numbers = [u8; 5];
 
 /// Stands for the dirty colour where there is none.
@@ -14,7 +14,14 @@ const NONE: u8 = 8;
 const START: Numbers = [0, 0, 0, 0, NONE];
 
 fn record([held, stale, dirty, busy, dirty_colour]: Numbers) -> Result<Record, Refusal> {
-    Record::from_masks(held, stale, dirty, busy, dirty_colour)
+    Record::from_masks([held, stale, dirty, busy, dirty_colour, 0, 0])
+}
+
+/// The numbers that `record` makes this one of.
+fn numbers(record: Record) -> Numbers {
+    let [held, stale, dirty, busy, dirty_colour, instructions @ ..] = record.to_masks();
+    assert_eq!(instructions, [0, 0]);
+    [held, stale, dirty, busy, dirty_colour]
 }
 
 /// Every pair of masks, with flags, marks and dirty colours in range and some that are not.
@@ -53,15 +60,15 @@ fn kept() -> impl Iterator<Item = Numbers> {
 #[test]
 fn reading_and_writing_are_inverse() {
     let mut count = 0;
-    for numbers in all_numbers() {
-        match record(numbers) {
+    for right in all_numbers() {
+        match record(right) {
             Ok(record) => {
-                assert!(keeps_rules(numbers), "{numbers:?}");
-                assert_eq!(record.to_masks(), numbers);
+                assert!(keeps_rules(right), "{right:?}");
+                assert_eq!(numbers(record), right);
                 count += 1;
             }
             Err(refusal) => {
-                assert!(!keeps_rules(numbers), "{numbers:?}");
+                assert!(!keeps_rules(right), "{right:?}");
                 assert_eq!(refusal, Refusal::Rules);
             }
         }
@@ -74,7 +81,7 @@ fn reading_and_writing_are_inverse() {
 #[test]
 fn the_start() {
     assert_eq!(record(START), Ok(Record::default()));
-    assert_eq!(Record::default().to_masks(), START);
+    assert_eq!(numbers(Record::default()), START);
     assert_eq!(record([0; 5]), Err(Refusal::Rules));
 }
 
@@ -119,11 +126,11 @@ fn check_step(
 ) {
     let mut after = record(before).unwrap();
     let Ok(operations) = step(&mut after) else {
-        assert_eq!(after.to_masks(), before);
+        assert_eq!(numbers(after), before);
         return;
     };
-    assert_eq!(record(after.to_masks()), Ok(after), "{before:?}");
-    assert_eq!(after.to_masks()[4], dirty_colour, "{before:?}");
+    assert_eq!(record(numbers(after)), Ok(after), "{before:?}");
+    assert_eq!(numbers(after)[4], dirty_colour, "{before:?}");
     let flushes = operations.into_iter().flatten().filter_map(|operation| {
         let Operation::Flush(_, colour) = operation else {
             return None;
@@ -137,7 +144,7 @@ fn check_step(
 #[test]
 fn accesses() {
     let frame = Frame::new(5).unwrap();
-    for numbers @ [.., dirty_colour] in kept() {
+    for before @ [.., dirty_colour] in kept() {
         for colour in Colour::all() {
             let own = colour.index() as u8;
             let (left, flushed) = if dirty_colour == own {
@@ -147,7 +154,7 @@ fn accesses() {
             };
             for (access, after) in [(Access::Read, left), (Access::Write, own)] {
                 let step = |record: &mut Record| record.access(frame, access, colour);
-                check_step(numbers, step, after, flushed);
+                check_step(before, step, after, flushed);
             }
         }
     }
@@ -156,7 +163,7 @@ fn accesses() {
 #[test]
 fn transfers() {
     let frame = Frame::new(5).unwrap();
-    for numbers @ [.., dirty_colour] in kept() {
+    for before @ [.., dirty_colour] in kept() {
         let transfers = [
             (Transfer::Read, dirty_colour),
             (Transfer::Write, NONE),
@@ -166,23 +173,23 @@ fn transfers() {
         ];
         for (transfer, flushed) in transfers {
             let step = |record: &mut Record| record.transfer(frame, transfer);
-            check_step(numbers, step, NONE, flushed);
+            check_step(before, step, NONE, flushed);
         }
-        let mut purged = record(numbers).unwrap();
+        let mut purged = record(before).unwrap();
         if let Ok(operations) = purged.transfer(frame, Transfer::Write) {
             let colour = Colour::all().nth(dirty_colour.into());
             let purge = colour.map(|colour| Operation::Purge(frame, colour));
-            assert_eq!(operations, [purge, None], "{numbers:?}");
+            assert_eq!(operations, [purge, None], "{before:?}");
         }
     }
 }
 
 #[test]
 fn ends() {
-    for numbers @ [held, stale, dirty, busy, dirty_colour] in kept() {
-        let mut after = record(numbers).unwrap();
+    for before @ [held, stale, dirty, busy, dirty_colour] in kept() {
+        let mut after = record(before).unwrap();
         assert_eq!(after.end().is_ok(), busy != 0);
         let right = [held, stale, dirty, 0, dirty_colour];
-        assert_eq!(after.to_masks(), right, "{numbers:?}");
+        assert_eq!(numbers(after), right, "{before:?}");
     }
 }

@@ -1,4 +1,5 @@
-//! Document 01, "At the edges": its ten cases, and the smallest refusal where several apply.
+//! Document 01, "At the edges": its ten cases, and the smallest refusal where several apply. Since N8 of document 02
+//! there are two caches, so that the last line to evict is 127, and rights go up to 3.
 
 use peer::board::{Frame, Line};
 use peer::call::{Accepted, Call, Found, Mapping, Operation};
@@ -87,11 +88,12 @@ fn edge_2_last_frame() {
 fn edge_3_last_offset_and_line() {
     let mut machine = with_pages(&[3]);
     machine.call(write(3, 63, 1)).unwrap();
-    let line = Line::new(8 * 3 + 7).unwrap();
+    let (_, line) = Line::by_number(8 * 3 + 7).unwrap();
     assert_eq!(Tag::try_from(129 + 5), Ok(machine.hardware.tag(line)));
     assert_eq!(refusal(&mut machine, read(3, 64)), Refusal::Offset);
     assert!(machine.call(Call::Evict { line: 63 }).is_ok());
-    let past = Call::Evict { line: 64 };
+    assert!(machine.call(Call::Evict { line: 127 }).is_ok());
+    let past = Call::Evict { line: 128 };
     assert_eq!(refusal(&mut machine, past), Refusal::Offset);
 }
 
@@ -124,14 +126,15 @@ fn edge_6_two_writers() {
 #[test]
 fn edge_7_broken_records() {
     for dirty_colour in 0..=8 {
-        let record = |held, dirty| Record::from_masks(held, 0, dirty, 0, dirty_colour);
+        let record = |held, dirty| Record::from_masks([held, 0, dirty, 0, dirty_colour, 0, 0]);
         assert_eq!(record(3, 1), Err(Refusal::Rules));
         assert_eq!(record(0, 1), Err(Refusal::Rules));
         assert_eq!(record(1, 2), Err(Refusal::Rules));
     }
-    assert_eq!(Record::from_masks(1, 1, 0, 0, 8), Err(Refusal::Rules));
-    assert!(Record::from_masks(3, 0xfc, 0, 0, 8).is_ok());
-    assert!(Record::from_masks(0x80, 0x7f, 1, 0, 7).is_ok());
+    let both = Record::from_masks([1, 1, 0, 0, 8, 0, 0]);
+    assert_eq!(both, Err(Refusal::Rules));
+    assert!(Record::from_masks([3, 0xfc, 0, 0, 8, 0, 0]).is_ok());
+    assert!(Record::from_masks([0x80, 0x7f, 1, 0, 7, 0, 0]).is_ok());
 }
 
 #[test]
@@ -170,6 +173,7 @@ fn smallest_refusal() {
     assert_eq!(refusal(&mut machine, map(16, 0, 64, 0)), Refusal::Place);
     assert_eq!(refusal(&mut machine, map(0, 0, 64, 0)), Refusal::Frame);
     assert_eq!(refusal(&mut machine, map(0, 0, 5, 0)), Refusal::Rights);
+    assert_eq!(refusal(&mut machine, map(0, 0, 5, 4)), Refusal::Rights);
     assert_eq!(refusal(&mut machine, map(0, 0, 5, 1)), Refusal::Mapped);
     assert_eq!(refusal(&mut machine, read(1024, 64)), Refusal::Place);
     assert_eq!(refusal(&mut machine, read(1, 64)), Refusal::Offset);

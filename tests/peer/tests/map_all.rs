@@ -94,7 +94,8 @@ fn refused_items() {
         (mapping(0, 1024, 0, 1), 3),
         (mapping(0, 0, 64, 1), 4),
         (mapping(0, 0, 0, 0), 5),
-        (mapping(0, 0, 0, 3), 5),
+        (mapping(0, 0, 0, 4), 5),
+        (mapping(0, 0, 0, 255), 5),
         // The smallest of several.
         (mapping(16, 0, 64, 0), 3),
         (mapping(0, 0, 64, 0), 4),
@@ -102,9 +103,9 @@ fn refused_items() {
         (mapping(0, 0, 0, 1), 0),
         // It is taken now, which stands after the item's other faults.
         (mapping(0, 0, 64, 1), 4),
-        (mapping(0, 0, 0, 3), 5),
-        (mapping(0, 0, 0, 1), 7),
-        (mapping(0, 1, 0, 1), 0),
+        (mapping(0, 0, 0, 4), 5),
+        (mapping(0, 0, 0, 3), 7),
+        (mapping(0, 1, 0, 3), 0),
     ];
     check(&mut started(), &rows);
 }
@@ -166,7 +167,7 @@ fn a_read_finds_the_frame_of_the_accepted_item() {
     let rows = [
         (mapping(0, 0, 5, 1), 0),
         (mapping(0, 0, 6, 1), 7),
-        (mapping(0, 1, 5, 3), 5),
+        (mapping(0, 1, 5, 4), 5),
         (mapping(0, 1, 6, 1), 0),
     ];
     check(&mut pair, &rows);
@@ -209,7 +210,7 @@ impl Random {
             self.byte_below(2),
             self.below(200),
             self.byte_below(64),
-            1 + self.byte_below(2),
+            1 + self.byte_below(3),
         );
         if self.one_in(40) {
             item.space += 16;
@@ -221,7 +222,7 @@ impl Random {
             item.frame += 64;
         }
         if self.one_in(20) {
-            item.rights = 3 * self.byte_below(2);
+            item.rights = 4 * self.byte_below(2);
         }
         item
     }

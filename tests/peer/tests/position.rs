@@ -1,4 +1,5 @@
-//! Document 02, request N5: the position hold; and N6: it while transfers that take a while run.
+//! Document 02, request N5: the position hold; N6: it while transfers that take a while run; and N8: it beside
+//! fetches.
 
 use peer::board::{Frame, Part, FRAMES, PAGE_WORDS};
 use peer::call::{number, Call, Found, Mapping};
@@ -25,6 +26,14 @@ const PLACES: [(u8, u16); 2] = [(0, 0), (1, 9)];
 
 fn read(space: u8, page: u16, offset: u8) -> Call {
     Call::Read {
+        space,
+        page,
+        offset,
+    }
+}
+
+fn fetch(space: u8, page: u16, offset: u8) -> Call {
+    Call::Fetch {
         space,
         page,
         offset,
@@ -371,6 +380,26 @@ fn words_in_the_cache() {
     }
 }
 
+/// Rights 3 are to read too. The look's reads go by the data cache, whatever fetches have left in the other.
+#[test]
+fn a_look_through_rights_3() {
+    let place @ (space, page) = (2, 1);
+    let mapping = Mapping {
+        space,
+        page,
+        frame: 3,
+        rights: 3,
+    };
+    let mut machine = received([1, 999, 0, 0]);
+    accept(&mut machine, &[Call::Map(mapping), fetch(space, page, 0)]);
+    receive(&mut machine, FIX);
+    assert_eq!(shown(&mut machine, place, 1000, 2), position(FIX));
+    accept(&mut machine, &[write(1, 998), fetch(space, page, 1)]);
+    let [number, _, latitude, longitude] = FIX;
+    let fix = [number, 998, latitude, longitude];
+    assert_eq!(shown(&mut machine, place, 1000, 2), position(fix));
+}
+
 /// What a program writes over the fix is shown, through the other page too.
 #[test]
 fn a_program_writes_over_the_fix() {
@@ -453,6 +482,7 @@ impl Sent {
                 word,
             } => self.send(frame, offset.into(), 1, word),
             Call::Read { .. }
+            | Call::Fetch { .. }
             | Call::DeviceRead { .. }
             | Call::BeginRead { .. }
             | Call::BeginWrite { .. }
@@ -553,12 +583,12 @@ impl Random {
         } else {
             self.below(5) as u8
         };
-        match self.below(24) {
+        match self.below(26) {
             0..4 => Call::Map(Mapping {
                 space,
                 page,
                 frame: self.frame(),
-                rights: self.pick(&[1, 1, 1, 2, 2, 2, 2, 3]),
+                rights: self.pick(&[1, 1, 2, 2, 2, 2, 3, 3, 4]),
             }),
             4 => Call::Unmap { space, page },
             5 => read(space, page, offset),
@@ -594,8 +624,9 @@ impl Random {
             19..22 => Call::EndTransfer {
                 frame: self.frame(),
             },
+            22..24 => fetch(space, page, offset),
             _ => Call::Evict {
-                line: self.pick(&[0, 0, 8, 8, 63, 64]),
+                line: self.pick(&[0, 0, 8, 8, 63, 64, 72, 127, 128]),
             },
         }
     }
@@ -673,7 +704,7 @@ fn random_looks_find_the_words_last_sent() {
             }
         }
     }
-    let right = [0, 3, 4, 5, 6, 7, 8, 10, 13, 15, 16];
+    let right = [0, 3, 4, 5, 6, 7, 8, 10, 13, 15, 16, 17];
     assert_eq!(numbers, BTreeSet::from(right));
     assert_eq!(refused_looks, BTreeSet::from([3, 8, 15]));
     let least = both_blank.min(shorter_blank).min(none_blank);

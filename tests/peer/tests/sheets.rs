@@ -1,5 +1,5 @@
-//! Document 01, "The run sheet": its example, and what breaks a sheet; document 02, N3: kind 7, and N6: kinds 8
-//! to 12.
+//! Document 01, "The run sheet": its example, and what breaks a sheet; document 02, N3: kind 7, N6: kinds 8 to 12,
+//! and N8: kind 13.
 
 const EXAMPLE: &str = "02 00  00 00 00 03 02  01 09 00 03 01  06 00  01 01 09 00 00 00 00 00 00
     02 00 00 00 00 11 00 00 00  01 01 09 00 00 00 00 00 00  04 03 00 00 00 28 00 00 00
@@ -78,14 +78,14 @@ fn counts_past_their_limits_are_broken() {
 
 #[test]
 fn kinds_and_unused_fields() {
-    for kind in [0, 13, 0x80, 0x87, 0x8c, 0xff] {
+    for kind in [0, 14, 0x80, 0x87, 0x8d, 0xff] {
         assert_eq!(
             one_step(&format!("{kind:02x} 00 00 00 00 00 00 00 00")),
             BROKEN
         );
     }
     // For each kind, the bytes after it that may be other than 0.
-    let used: [&[usize]; 12] = [
+    let used: [&[usize]; 13] = [
         &[1, 2, 3, 4],
         &[1, 2, 3, 4, 5, 6, 7, 8],
         &[1],
@@ -98,6 +98,7 @@ fn kinds_and_unused_fields() {
         &[1, 4, 5, 6, 7, 8],
         &[1, 4],
         &[1],
+        &[1, 2, 3, 4],
     ];
     for (kind, used) in (1..).zip(used) {
         for field in 1..9 {
@@ -120,7 +121,7 @@ fn refused_steps() {
         "0 4 - - -\nend 0 0\n"
     );
     assert_eq!(
-        one_step("05 40 00 00 00 00 00 00 00"),
+        one_step("05 80 00 00 00 00 00 00 00"),
         "0 6 - - -\nend 0 0\n"
     );
     assert_eq!(
@@ -231,6 +232,77 @@ fn refused_steps_of_transfers() {
         let right = format!("0 {number} - - -\nend 0 0\n");
         assert_eq!(one_step(step), right, "{step}");
     }
+}
+
+/// Frame 5 at page 0 to be written and at pages 8 and 9, of colours 0 and 1, to be fetched; its words 40 to 103. What
+/// is written through page 0, sent in a part and brought word by word is fetched. The last line counts two flushes,
+/// three purges of the instruction cache and one of the data cache.
+#[test]
+fn fetches() {
+    let sheet = "03 00  00 00 00 05 02  00 08 00 05 03  00 09 00 05 03  1c 00
+        04 05 00 00 00 28 00 00 00
+        0d 00 08 00 00 00 00 00 00
+        02 00 00 00 00 11 00 00 00
+        0d 00 08 00 00 00 00 00 00
+        0d 00 09 00 3f 00 00 00 00
+        07 05 3f 00 01 ff ff ff ff
+        0d 00 09 00 3f 00 00 00 00
+        02 00 00 00 01 12 00 00 00
+        0d 00 00 00 00 00 00 00 00
+        02 00 08 00 00 13 00 00 00
+        0d 00 0a 00 00 00 00 00 00
+        09 05 00 00 00 00 00 00 00
+        0d 00 08 00 00 00 00 00 00
+        0a 05 00 00 02 13 00 00 00
+        0c 05 00 00 00 00 00 00 00
+        08 05 00 00 00 00 00 00 00
+        0d 00 08 00 02 00 00 00 00
+        0c 05 00 00 00 00 00 00 00
+        0d 00 08 00 01 00 00 00 00
+        05 40 00 00 00 00 00 00 00
+        05 7f 00 00 00 00 00 00 00
+        05 80 00 00 00 00 00 00 00
+        0d 00 08 00 40 00 00 00 00
+        0d 10 08 00 00 00 00 00 00
+        03 05 00 00 00 00 00 00 00
+        01 00 00 00 02 00 00 00 00
+        07 05 00 00 01 14 00 00 00
+        01 00 00 00 00 00 00 00 00";
+    let right = "m0 0\nm1 0\nm2 0\n0 0 - - -\n1 0 - - 40\n2 0 - - -\n\
+        3 0 F5.0 I5.0 17\n4 0 - - 103\n5 0 - - -\n6 0 I5.1 - 4294967295\n7 0 - - -\n\
+        8 17 - - -\n9 10 - - -\n10 8 - - -\n11 0 F5.0 - -\n12 15 - - -\n13 0 - - -\n14 0 - - -\n\
+        15 0 - - -\n16 0 I5.0 - 19\n17 0 - - -\n18 0 - - 18\n19 0 - - -\n20 0 - - -\n21 6 - - -\n\
+        22 6 - - -\n23 3 - - -\n24 0 - - 17\n25 0 - - 19\n26 0 - - -\n27 0 P5.0 - 20\nend 2 4\n";
+    assert_eq!(text(&bytes(sheet)), right);
+}
+
+/// None of these breaks the sheet; a word beside the fetch does.
+#[test]
+fn refused_fetches() {
+    let rows = [
+        ("0d 10 00 04 40 00 00 00 00", 3),
+        ("0d 00 00 04 40 00 00 00 00", 3),
+        ("0d 00 00 00 40 00 00 00 00", 6),
+        ("0d 00 00 00 ff 00 00 00 00", 6),
+        ("0d 00 00 00 3f 00 00 00 00", 8),
+        ("0d 0f ff 03 3f 00 00 00 00", 8),
+    ];
+    for (step, number) in rows {
+        let right = format!("0 {number} - - -\nend 0 0\n");
+        assert_eq!(one_step(step), right, "{step}");
+    }
+    for word in ["01 00 00 00", "00 00 00 01", "ff ff ff ff"] {
+        assert_eq!(one_step(&format!("0d 00 00 00 00 {word}")), BROKEN);
+    }
+}
+
+/// Rights 4 are the first past the last. The sheet is not broken by them.
+#[test]
+fn rights() {
+    let sheet = "06 00  00 00 00 05 00  00 01 00 05 01  00 02 00 05 02
+        00 03 00 05 03  00 04 00 05 04  00 05 00 05 ff  00 00";
+    let right = "m0 5\nm1 0\nm2 0\nm3 0\nm4 5\nm5 5\nend 0 0\n";
+    assert_eq!(text(&bytes(sheet)), right);
 }
 
 #[test]
