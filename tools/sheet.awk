@@ -28,18 +28,20 @@ BEGIN {
     instruction("bring-word", "step", 10, "FRAME s OFFSET o WORD w")
     instruction("take-word", "step", 11, "FRAME s OFFSET o")
     instruction("end-transfer", "step", 12, "FRAME s")
+    instruction("fetch", "step", 13, "SPACE s PAGE p OFFSET o")
 
     # A word that stands for a number in a field.
     word_for("RIGHTS", 1, "r")
     word_for("RIGHTS", 2, "rw")
+    word_for("RIGHTS", 3, "rx")
 
     # The numbers of a field that a call takes, where its place holds others; with these the call is refused.
     taken("SPACE", "0 to 15")
     taken("PAGE", "0 to 1023")
     taken("FRAME", "0 to 63")
-    taken("RIGHTS", "1 and 2")
+    taken("RIGHTS", "1 to 3")
     taken("OFFSET", "0 to 63")
-    taken("LINE", "0 to 63")
+    taken("LINE", "0 to 127")
     taken("FIRST", "0 to 63")
     taken("NUMBER", "1 to 64")
 
