@@ -1,4 +1,4 @@
--- The laws of the cache's operations, and the two trial claims.
+-- The laws of the cache's operations, and the trial claims.
 pub mod Laws
 pub mod Trial
 pub mod Current

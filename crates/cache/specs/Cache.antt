@@ -36,6 +36,11 @@ unfoldable pub evict : Board → ℕ → Store → Store
 unfolding writeBack empty
 evict b n s = empty n (writeBack b n s)
 
+-- line n is written back if its tag is dirty, and gets a tag
+unfoldable pub writeBackAs : Board → ℕ → ℕ → Store → Store
+unfolding writeBack
+writeBackAs b tag n s = withTag n tag (writeBack b n s)
+
 -- line n's words come from memory of frame f, and its tag is clean
 unfoldable pub fill : Board → ℕ → ℕ → Store → Store
 unfolding part overlay memoryAt lineOffset lineAt
@@ -51,10 +56,19 @@ unfolding colourLine
 sweep b op c zero s = s
 sweep b op c (suc i) s = op (colourLine b c i) (sweep b op c i s)
 
--- a line that names f is written back if it is dirty, and emptied; another stays
-unfoldable pub flushLine : Board → ℕ → ℕ → Store → Store
-unfolding names evict
-flushLine b f n s = when (names (tagAt s n) f) (evict b n) s
+-- what a flush makes of the lines that it writes back: this board's leaves them in, clean (request N9); another's empties them, as document 01's did
+pub data FlushKind : Type 0 where
+  leaving emptying : FlushKind
+
+-- the tag that it gives a line of frame f
+abbrev pub flushedTag : FlushKind → ℕ → ℕ
+flushedTag leaving f = cleanTag f
+flushedTag emptying f = emptyTag
+
+-- a line that names f is written back if it is dirty, and gets that tag; another stays
+unfoldable pub flushLine : Board → FlushKind → ℕ → ℕ → Store → Store
+unfolding names writeBackAs
+flushLine b how f n s = when (names (tagAt s n) f) (writeBackAs b (flushedTag how f) n) s
 
 -- a line that names f is emptied and not written; another stays
 unfoldable pub purgeLine : ℕ → ℕ → Store → Store
@@ -62,9 +76,12 @@ unfolding names empty
 purgeLine f n s = when (names (tagAt s n) f) (empty n) s
 
 -- the two orders on frame f in cache page c
-unfoldable pub flush : Board → ℕ → ℕ → Store → Store
+unfoldable pub flushBy : Board → FlushKind → ℕ → ℕ → Store → Store
 unfolding sweep flushLine pageLines
-flush b f c s = sweep b (flushLine b f) c (pageLines b) s
+flushBy b how f c s = sweep b (flushLine b how f) c (pageLines b) s
+
+abbrev pub flush : Board → ℕ → ℕ → Store → Store
+flush b f c s = flushBy b leaving f c s
 
 unfoldable pub purge : Board → ℕ → ℕ → Store → Store
 unfolding sweep purgeLine pageLines

@@ -1,6 +1,7 @@
 // The two operations on a frame in a page of the caches, flush and purge: document 01's orders. What goes by `colour` is such a page.
-use crate::line::evict;
+use crate::line::write_back;
 use crate::tag::EMPTY;
+use crate::tag::clean_tag;
 use crate::tag::names;
 use board::Board;
 ghost use mathlib.Core.Path.{_≡_};
@@ -9,9 +10,9 @@ ghost use Prim.Native.Nat.{ℕ, _<_};
 ghost use lib.ListN.{length};
 ghost use Rattle.board.specs.Board.{Regular, cachePages, lines};
 ghost use Rattle.cache.specs.Store.{store, WellFormedStore};
-ghost use Rattle.cache.specs.Cache.{flushLine, purgeLine, flush, purge};
+ghost use Rattle.cache.specs.Cache.{leaving, flushLine, purgeLine, flush, purge};
 
-// Writes back each dirty line of a frame in a page of the caches, and empties every line that names the frame there.
+// Writes back each dirty line of a frame in a page of the caches, and leaves the lines that name the frame there in, clean.
 pub fn flush(
     board: Board,
     memory: &mut [u32],
@@ -51,7 +52,7 @@ pub fn purge(board: Board, tags: &mut [u8], frame: usize, colour: usize)
     }
 }
 
-// Evicts a line that names a frame; another stays.
+// Writes back a line that names a frame if it is dirty, and leaves it clean; another stays.
 fn flush_line(
     board: Board,
     memory: &mut [u32],
@@ -61,10 +62,11 @@ fn flush_line(
     line: usize,
 )
     requires { ⌜ WellFormedStore board (store (now memory) (now words) (now tags)) × (frame < board .frames) × (line < lines board) × Regular board ⌝ }
-    ensures { λ _. ⌜ store (now (memory .exit)) (now (words .entry)) (now (tags .exit)) ≡ flushLine board frame line (store (now (memory .entry)) (now (words .entry)) (now (tags .entry))) ⌝ }
+    ensures { λ _. ⌜ store (now (memory .exit)) (now (words .entry)) (now (tags .exit)) ≡ flushLine board leaving frame line (store (now (memory .entry)) (now (words .entry)) (now (tags .entry))) ⌝ }
 {
     if names(tags[line], frame) {
-        evict(board, memory, words, tags, line);
+        write_back(board, memory, words, tags, line);
+        tags[line] = clean_tag(frame);
     }
 }
 

@@ -16,7 +16,7 @@ use Rattle.cache.specs.Cache.{access}
 use Rattle.cache.proofs.Laws.Tag.{names-dirty, names-one}
 use Rattle.cache.proofs.Laws.Access.{access-hit, access-names, access-tag-same, access-tag-other, access-word-same, access-word-other}
 use Rattle.cache.proofs.Current.Line.{access-current}
-use Rattle.consistency.proofs.Agrees.{Agrees, untouched-agrees}
+use Rattle.consistency.proofs.Agrees.{Agrees, same-lines, untouched-agrees}
 
 -- two offsets in one line are in one colour
 pub same-colour : (b : Board) (reg : Regular b) (d p c o : ℕ) → p < b .page → o < b .page → lineOf b d p ≡ lineOf b c o → d ≡ c
@@ -34,10 +34,8 @@ module _ (b : Board) (reg : Regular b) (f c o : ℕ) (hf : f < b .frames) (hc : 
     pub access-other : (states : ℕ → ColourState) (words : ℕ → ℕ) → Agrees b g states words s → Agrees b g states words (access b f c o s)
     access-other states words a =
         untouched-agrees b g states s (access b f c o s)
-        (record {
-          tag-from = λ d p hd hp n. access-tag-other b reg f c o hf hc ho s wf (lineOf b d p) (apart (lineOf b d p) n);
-          word-from = λ d p hd hp n. access-word-other b reg f c o hf hc ho s wf d p (apart (lineOf b d p) n);
-        })
+        (same-lines b g s (access b f c o s) (λ d p hd hp n. access-tag-other b reg f c o hf hc ho s wf (lineOf b d p) (apart (lineOf b d p) n))
+        (λ d p hd hp n. access-word-other b reg f c o hf hc ho s wf d p (apart (lineOf b d p) n)))
         words (access-current b reg f c o hf hc ho g words s wf (a .current)) a
 
   -- ---- its own frame, through a present or dirty colour beside which none is dirty

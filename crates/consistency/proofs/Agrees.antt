@@ -29,36 +29,43 @@ pub record Agrees (b : Board) (f : ℕ) (states : ℕ → ColourState) (words : 
 
 -- ---- another store
 
--- every line of t that names the frame is as it was in s
+-- every line of t that names the frame named it in s, with the same words, and was dirty if it is
 pub record Untouched (b : Board) (f : ℕ) (s t : Store) : Type 0 where
-  pub tag-from : (c o : ℕ) → c < cachePages b → o < b .page → names (tagAt t (lineOf b c o)) f ≡ true
-      → tagAt t (lineOf b c o) ≡ tagAt s (lineOf b c o)
+  pub names-from : (c o : ℕ) → c < cachePages b → o < b .page → names (tagAt t (lineOf b c o)) f ≡ true → names (tagAt s (lineOf b c o)) f ≡ true
+  pub dirty-from : (c o : ℕ) → c < cachePages b → o < b .page → tagAt t (lineOf b c o) ≡ dirtyTag f → tagAt s (lineOf b c o) ≡ dirtyTag f
   pub word-from : (c o : ℕ) → c < cachePages b → o < b .page → names (tagAt t (lineOf b c o)) f ≡ true → wordAt b t c o ≡ wordAt b s c o
 
--- lines emptied and words left are no frame's lines touched
+-- so is a frame whose lines are as they were
+pub same-lines : (b : Board) (f : ℕ) (s t : Store)
+    → ((c o : ℕ) → c < cachePages b → o < b .page → names (tagAt t (lineOf b c o)) f ≡ true → tagAt t (lineOf b c o) ≡ tagAt s (lineOf b c o))
+    → ((c o : ℕ) → c < cachePages b → o < b .page → names (tagAt t (lineOf b c o)) f ≡ true → wordAt b t c o ≡ wordAt b s c o)
+    → Untouched b f s t
+same-lines b f s t tags words =
+    record {
+      names-from = λ c o hc ho n. sym (ap (λ (x : ℕ). names x f) (tags c o hc ho n)) ∙ n;
+      dirty-from = λ c o hc ho d. sym (tags c o hc ho (ap (λ (x : ℕ). names x f) d ∙ names-dirty f)) ∙ d;
+      word-from = words;
+    }
+
+-- and every frame where lines are emptied and words left
 pub emptied : (b : Board) (reg : Regular b) (s t : Store) → ((n g : ℕ) → n < lines b → names (tagAt t n) g ≡ true → tagAt t n ≡ tagAt s n)
     → t .words ≡ s .words → (f : ℕ) → Untouched b f s t
 emptied b reg s t tags words f =
-    record {
-      tag-from = λ c o hc ho n. tags (lineOf b c o) f (lineOf-lt b reg c o hc ho) n;
-      word-from = λ c o hc ho n. ap (λ (l : List ℕ). getD l (cacheAt b c o) 0) words;
-    }
+    same-lines b f s t (λ c o hc ho n. tags (lineOf b c o) f (lineOf-lt b reg c o hc ho) n)
+    (λ c o hc ho n. ap (λ (l : List ℕ). getD l (cacheAt b c o) 0) words)
 
 module _ (b : Board) (f : ℕ) (states : ℕ → ColourState) (s t : Store) (un : Untouched b f s t) where
-  named : (c o : ℕ) → c < cachePages b → o < b .page → names (tagAt t (lineOf b c o)) f ≡ true → names (tagAt s (lineOf b c o)) f ≡ true
-  named c o hc ho n = sym (ap (λ (x : ℕ). names x f) (un .tag-from c o hc ho n)) ∙ n
-
   pub untouched-tagged : Tagged b f states s → Tagged b f states t
   untouched-tagged a =
       record {
-        occupied = λ c o hc ho n. a .occupied c o hc ho (named c o hc ho n);
-        dirty-colour = λ c o hc ho d. a .dirty-colour c o hc ho (sym (un .tag-from c o hc ho (ap (λ (x : ℕ). names x f) d ∙ names-dirty f)) ∙ d);
+        occupied = λ c o hc ho n. a .occupied c o hc ho (un .names-from c o hc ho n);
+        dirty-colour = λ c o hc ho d. a .dirty-colour c o hc ho (un .dirty-from c o hc ho d);
       }
 
   pub untouched-agrees : (words : ℕ → ℕ) → Current b f words t → Agrees b f states words s → Agrees b f states words t
   untouched-agrees words current a =
       record {
         tagged = untouched-tagged (a .tagged);
-        held-words = λ c o hc ho n h. un .word-from c o hc ho n ∙ a .held-words c o hc ho (named c o hc ho n) h;
+        held-words = λ c o hc ho n h. un .word-from c o hc ho n ∙ a .held-words c o hc ho (un .names-from c o hc ho n) h;
         current = current;
       }

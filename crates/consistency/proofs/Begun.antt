@@ -32,9 +32,11 @@ use Rattle.cache.proofs.Laws.Device.{bringWord-kept, bringWord-tags, bringWord-
 use Rattle.cache.proofs.Current.Word.{word-current-other, word-current-same}
 use Rattle.machine.specs.Refusals.{causes}
 use Rattle.machine.specs.State.{State, state, beginRead, beginWrite, bringWord, takeWord, endTransfer}
-use Rattle.machine.specs.Step.{operate, carryOut, accept}
 use Rattle.machine.proofs.StepLaws.{cleared, effect-tested}
+use Rattle.cache.specs.Cache.{FlushKind}
+use Rattle.machine.specs.Step.{operateBy, carryOutBy}
 use Rattle.consistency.specs.Cacheless.{Cacheless, replaced, afterAccepted}
+use Rattle.consistency.specs.Flushes.{acceptBy}
 use Rattle.consistency.proofs.Pages.{asPage, asPage-clean, asPage-held, pageStates, page-cases}
 use Rattle.consistency.proofs.Agrees.{Agrees, Untouched, emptied, untouched-tagged, untouched-agrees}
 use Rattle.consistency.proofs.Commit.{refill-invariant, record-invariant, commit-invariant}
@@ -43,17 +45,17 @@ use Rattle.consistency.proofs.Operations.{ordered, ordered-kept, ordere
 use Rattle.consistency.proofs.Replaced.{own-words, other-words}
 use Rattle.consistency.proofs.Table.{Spares}
 
-module _ (b : Board) (reg : Regular b) (st : State) (m : Cacheless) (inv : Invariant b st m) (f : ℕ) (hf : f < b .frames) where
+module _ (b : Board) (reg : Regular b) (how : FlushKind) (st : State) (m : Cacheless) (inv : Invariant b st m) (f : ℕ) (hf : f < b .frames) where
   -- ---- the beginning: a step that purges no dirty colour, and no access after it
 
   begun : (step : table.Step) → Spares step → bars (recordAt (st .tables .records) f .busy) step ≡ false
-      → Invariant b (state (commitChange b (st .tables) f (changeOf b (st .tables) f step .next)) (ordered b f step (recordAt (st .tables .records) f) (st .store))) m
+      → Invariant b (state (commitChange b (st .tables) f (changeOf b (st .tables) f step .next)) (ordered b how f step (recordAt (st .tables .records) f) (st .store))) m
   begun step spares free =
       let r = recordAt (st .tables .records) f in
       let rules = inv .sound .record-rules f hf in
-      commit-invariant b st m inv f hf step free (ordered b f step r (st .store)) (m .word) (ordered-kept b reg f hf (st .store) (inv .kept) step r rules)
-      (ordered-agrees b reg f hf (st .store) (inv .kept) step r rules (m .word f) spares (inv .agrees f hf))
-      (λ g hg ne. ordered-other b reg f hf (st .store) (inv .kept) step r rules g (pageStates (b .colours) (recordAt (st .tables .records) g)) (m .word g) ne (inv .agrees g hg))
+      commit-invariant b st m inv f hf step free (ordered b how f step r (st .store)) (m .word) (ordered-kept b reg how f hf (st .store) (inv .kept) step r rules)
+      (ordered-agrees b reg how f hf (st .store) (inv .kept) step r rules (m .word f) spares (inv .agrees f hf))
+      (λ g hg ne. ordered-other b reg how f hf (st .store) (inv .kept) step r rules g hg (pageStates (b .colours) (recordAt (st .tables .records) g)) (m .word g) ne (inv .agrees g hg))
 
   -- ---- a word
 
@@ -111,15 +113,15 @@ module _ (b : Board) (reg : Regular b) (st : State) (m : Cacheless) (inv : Invar
         subst⁻¹ (λ (x : ℕ). Agrees b x (pageStates (b .colours) (recordAt (st .tables .records) x)) (replaced (m .word) f o v x) brought) e
         (subst (λ (x : ℕ → ℕ). Agrees b f (pageStates (b .colours) (recordAt (st .tables .records) f)) x brought) (own-words (m .word) f o v) own)
 
-    brings : Taken b st m (bringWord f o v)
-    unfolding accept carryOut operate afterAccepted brought
+    brings : Taken b how st m (bringWord f o v)
+    unfolding acceptBy carryOutBy operateBy afterAccepted brought
     brings =
         (tt, refill-invariant b st m inv brought (replaced (m .word) f o v) (bringWord-kept b reg f hf (st .store) (inv .kept) o v ho) (λ g hg. every g hg (ℕ-discrete g f)))
 
   -- ---- the end
 
-  ends : Taken b st m (endTransfer f)
-  unfolding accept carryOut operate afterAccepted
+  ends : Taken b how st m (endTransfer f)
+  unfolding acceptBy carryOutBy operateBy afterAccepted
   ends =
       let r = recordAt (st .tables .records) f in
       let e = freed-record (b .colours) r (inv .sound .record-rules f hf) in
@@ -132,31 +134,31 @@ module _ (b : Board) (reg : Regular b) (st : State) (m : Cacheless) (inv : Invar
 
 -- ---- the calls
 
-module _ (b : Board) (reg : Regular b) (st : State) (m : Cacheless) (inv : Invariant b st m) (f : ℕ) where
-  pub begin-read-taken : firstRefusal (causes b st (beginRead f)) ≡ 0 → Taken b st m (beginRead f)
-  unfolding accept afterAccepted
-  begin-read-taken e = let tested = effect-tested b st (beginRead f) e in (tt, begun b reg st m inv f (tested .0) table.beginRead refl (tested .1))
+module _ (b : Board) (reg : Regular b) (how : FlushKind) (st : State) (m : Cacheless) (inv : Invariant b st m) (f : ℕ) where
+  pub begin-read-taken : firstRefusal (causes b st (beginRead f)) ≡ 0 → Taken b how st m (beginRead f)
+  unfolding acceptBy afterAccepted
+  begin-read-taken e = let tested = effect-tested b st (beginRead f) e in (tt, begun b reg how st m inv f (tested .0) table.beginRead refl (tested .1))
 
-  pub begin-write-taken : firstRefusal (causes b st (beginWrite f)) ≡ 0 → Taken b st m (beginWrite f)
-  unfolding accept afterAccepted
-  begin-write-taken e = let tested = effect-tested b st (beginWrite f) e in (tt, begun b reg st m inv f (tested .0) table.beginWrite refl (tested .1))
+  pub begin-write-taken : firstRefusal (causes b st (beginWrite f)) ≡ 0 → Taken b how st m (beginWrite f)
+  unfolding acceptBy afterAccepted
+  begin-write-taken e = let tested = effect-tested b st (beginWrite f) e in (tt, begun b reg how st m inv f (tested .0) table.beginWrite refl (tested .1))
 
-  pub bring-word-taken : (o v : ℕ) → firstRefusal (causes b st (bringWord f o v)) ≡ 0 → Taken b st m (bringWord f o v)
+  pub bring-word-taken : (o v : ℕ) → firstRefusal (causes b st (bringWord f o v)) ≡ 0 → Taken b how st m (bringWord f o v)
   unfolding causes
   bring-word-taken o v e =
       let call = bringWord f o v in
-      brings b reg st m inv f (leb-false (b .frames) f (cleared b st call 4 e)) o v (leb-false (b .page) o (cleared b st call 6 e))
+      brings b reg how st m inv f (leb-false (b .frames) f (cleared b st call 4 e)) o v (leb-false (b .page) o (cleared b st call 6 e))
       (eqb-true _ _ (not-false _ (cleared b st call 16 e)))
 
-  pub take-word-taken : (o : ℕ) → firstRefusal (causes b st (takeWord f o)) ≡ 0 → Taken b st m (takeWord f o)
-  unfolding causes accept carryOut operate afterAccepted
+  pub take-word-taken : (o : ℕ) → firstRefusal (causes b st (takeWord f o)) ≡ 0 → Taken b how st m (takeWord f o)
+  unfolding causes acceptBy carryOutBy operateBy afterAccepted
   take-word-taken o e =
       let call = takeWord f o in (
         ap {B = Option ℕ} some
-            (taken b reg st m inv f (leb-false (b .frames) f (cleared b st call 4 e)) o (leb-false (b .page) o (cleared b st call 6 e))
+            (taken b reg how st m inv f (leb-false (b .frames) f (cleared b st call 4 e)) o (leb-false (b .page) o (cleared b st call 6 e))
             (eqb-true _ _ (not-false _ (cleared b st call 16 e)))),
         refill-invariant b st m inv (st .store) (m .word) (inv .kept) (λ g hg. inv .agrees g hg),
       )
 
-  pub end-transfer-taken : firstRefusal (causes b st (endTransfer f)) ≡ 0 → Taken b st m (endTransfer f)
-  end-transfer-taken e = ends b reg st m inv f (effect-tested b st (endTransfer f) e)
+  pub end-transfer-taken : firstRefusal (causes b st (endTransfer f)) ≡ 0 → Taken b how st m (endTransfer f)
+  end-transfer-taken e = ends b reg how st m inv f (effect-tested b st (endTransfer f) e)

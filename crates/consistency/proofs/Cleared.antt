@@ -1,5 +1,5 @@
--- The operations of a step as they change a frame's states: with their colours empty, the states say at least what those after the step do.
-use mathlib.Core.Path.{_≡_, refl, sym, ap, _∙_, subst}
+-- The operations of a step as they change a frame's states: with their colours clean or empty, the states say at least what those after the step do.
+use mathlib.Core.Path.{_≡_, refl, sym, ap, _∙_, subst, subst⁻¹}
 use mathlib.Core.Bool.{Bool, true, false, cond}
 use mathlib.Core.List.{List, _++_, List·Memᴰ, List·Memᴰ·head, List·Memᴰ·not-nil, List·Memᴰ·eq-of-singleton, List·Memᴰ·append-cases, Memᴰ·append-left, Memᴰ·append-right}
 use mathlib.Core.Logic.{_≢_, ⊎-elim}
@@ -17,22 +17,23 @@ use Rattle.page_model.proofs.Listed.{flush-listed, purge-listed, instruction-pu
 use Rattle.page_model.proofs.Theorems.{ops-complete}
 use Rattle.consistency.proofs.Operate.{cleared, SparesDirty}
 use Rattle.consistency.proofs.Pages.{asPage, never-dirty, pageStates, pagesAfter, page-cases, instruction-weaker, instruction-clean}
-use Rattle.consistency.proofs.Table.{Spares, idle-weaker, purge-clean, empty-clean}
-use Rattle.consistency.proofs.Weaker.{weaker}
+use Rattle.consistency.proofs.Table.{Spares, next-weaker, purge-clean, empty-clean}
+use Rattle.consistency.proofs.Weaker.{cleanState, cleanState-twice, cleanState-clean, weaker, weaker-clean}
 
--- what holds of an empty page and of a page as it was, holds of it with more pages cleared
-cleared-either : (P : ColourState → Type 0) (n : ℕ) (op : Op) (states : ℕ → ColourState) (k : ℕ) → P empty → P (states k) → P (cleared n op states k)
-cleared-either P n op states k e h = go op
+-- what holds of an empty page, and of a clean page if it did of the page before, holds of a page after an operation if it did before
+cleared-keeps : (P : ColourState → Type 0) → P empty → ((s : ColourState) → P s → P (cleanState s)) → (n : ℕ) (op : Op) (states : ℕ → ColourState) (k : ℕ) → P (states k)
+    → P (cleared n op states k)
+cleared-keeps P e clean n op states k h = go op
   where
-    one : (t : Bool) → P (cond t empty (states k))
-    one true = e
-    one false = h
+    one : (act : ColourState → ColourState) → P (act (states k)) → (t : Bool) → P (cond t (act (states k)) (states k))
+    one act p true = p
+    one act p false = h
 
     go : (op : Op) → P (cleared n op states k)
     go None = h
-    go (Flush c) = one (eqb c k)
-    go (Purge c) = one (eqb c k)
-    go (PurgeInstructions c) = one (eqb (n + c) k)
+    go (Flush c) = one cleanState (clean (states k) h) (eqb c k)
+    go (Purge c) = one (λ s. empty) e (eqb c k)
+    go (PurgeInstructions c) = one (λ s. empty) e (eqb (n + c) k)
 
 -- the operation that a list of one or none holds
 in-list : (a op : Op) → List·Memᴰ op (opList a) → a ≡ op
@@ -41,12 +42,13 @@ in-list (Flush c) op m = sym (List·Memᴰ·eq-of-singleton m)
 in-list (Purge c) op m = sym (List·Memᴰ·eq-of-singleton m)
 in-list (PurgeInstructions c) op m = sym (List·Memᴰ·eq-of-singleton m)
 
--- an operation among two that empties page k
-either-clears : (n : ℕ) (a z op : Op) (states : ℕ → ColourState) (k : ℕ) → ((w : ℕ → ColourState) → cleared n op w k ≡ empty) → List·Memᴰ op (opList a ++ opList z)
-    → cleared n z (cleared n a states) k ≡ empty
-either-clears n a z op states k clears m =
-    ⊎-elim (λ i. cleared-either (λ x. x ≡ empty) n z (cleared n a states) k refl (ap (λ (x : Op). cleared n x states k) (in-list a op i) ∙ clears states))
-    (λ i. ap (λ (x : Op). cleared n x (cleared n a states) k) (in-list z op i) ∙ clears (cleared n a states))
+-- what an operation makes of a page of which R holds, two operations make if it is among them
+either-makes : (P R : ColourState → Type 0) → P empty → ((s : ColourState) → P s → P (cleanState s)) → R empty → ((s : ColourState) → R s → R (cleanState s))
+    → (n : ℕ) (a z op : Op) (states : ℕ → ColourState) (k : ℕ) → ((w : ℕ → ColourState) → R (w k) → P (cleared n op w k)) → R (states k)
+    → List·Memᴰ op (opList a ++ opList z) → P (cleared n z (cleared n a states) k)
+either-makes P R pe pc re rc n a z op states k makes r m =
+    ⊎-elim (λ i. cleared-keeps P pe pc n z (cleared n a states) k (subst⁻¹ (λ (x : Op). P (cleared n x states k)) (in-list a op i) (makes states r)))
+    (λ i. subst⁻¹ (λ (x : Op). P (cleared n x (cleared n a states) k)) (in-list z op i) (makes (cleared n a states) (cleared-keeps R re rc n a states k r)))
     (List·Memᴰ·append-cases (opList a) m)
 
 -- ---- the two operations of a step
@@ -68,25 +70,37 @@ module _ (n : ℕ) (step : Step) (r : FrameRecord) (rules : keepsRules n r ≡ t
   sound : (op : Op) → List·Memᴰ op (opList (first n step r) ++ opList (second n step r)) → List·Memᴰ op (operations n step r)
   sound op m = subst (λ (l : List Op). List·Memᴰ op l) (ops-complete n step r rules) m
 
-  -- With their pages empty, the states say at least what the states after the step do: page k is emptied by an operation, or said as much before.
+  -- With their pages clean or empty, the states say at least what the states after the step do: of page k an operation sees to it, or they said
+  -- as much before.
   module _ (k : ℕ) (after : ColourState) where
-    by-operation : (op : Op) → ((w : ℕ → ColourState) → cleared n op w k ≡ empty) → List·Memᴰ op (operations n step r) → weaker (bothCleared n step r k) after ≡ true
-    by-operation op clears m =
-        subst (λ (s : ColourState). weaker s after ≡ true) (sym (either-clears n (first n step r) (second n step r) op (pageStates n r) k clears (complete op m))) refl
+    abbrev Enough : ColourState → Type 0
+    Enough s = weaker s after ≡ true
 
-    as-before : weaker (pageStates n r k) after ≡ true → weaker (bothCleared n step r k) after ≡ true
+    by-operation : (R : ColourState → Type 0) → R empty → ((s : ColourState) → R s → R (cleanState s)) → (op : Op) → ((w : ℕ → ColourState) → R (w k) → Enough (cleared n op w k))
+        → R (pageStates n r k) → List·Memᴰ op (operations n step r) → Enough (bothCleared n step r k)
+    by-operation R re rc op makes h m =
+        either-makes Enough R refl (λ s. weaker-clean s after) re rc n (first n step r) (second n step r) op (pageStates n r) k makes h (complete op m)
+
+    by-purge : (op : Op) → ((w : ℕ → ColourState) → cleared n op w k ≡ empty) → List·Memᴰ op (operations n step r) → Enough (bothCleared n step r k)
+    by-purge op empties = by-operation (λ s. Unit {0}) tt (λ s u. tt) op (λ w u. ap (λ (s : ColourState). weaker s after) (empties w)) tt
+
+    by-flush : Enough (cleanState (pageStates n r k)) → List·Memᴰ (Flush k) (operations n step r) → Enough (bothCleared n step r k)
+    by-flush =
+        by-operation (λ s. Enough (cleanState s)) refl (λ s h. ap (λ (x : ColourState). weaker x after) (cleanState-twice s) ∙ h) (Flush k) (λ w h. rw (eq-eqb k k refl) h)
+
+    as-before : Enough (pageStates n r k) → Enough (bothCleared n step r k)
     as-before h =
-        cleared-either (λ s. weaker s after ≡ true) n (second n step r) (cleared n (first n step r) (pageStates n r)) k refl
-        (cleared-either (λ s. weaker s after ≡ true) n (first n step r) (pageStates n r) k refl h)
+        cleared-keeps Enough refl (λ s. weaker-clean s after) n (second n step r) (cleared n (first n step r) (pageStates n r)) k
+        (cleared-keeps Enough refl (λ s. weaker-clean s after) n (first n step r) (pageStates n r) k h)
 
   -- of a colour
   data-weaker : (k : ℕ) → k < n → weaker (bothCleared n step r k) (cellOf step r k .next) ≡ true
   data-weaker k l = go (cellOf step r k .operation) refl
     where
       go : (op : Operation) → cellOf step r k .operation ≡ op → weaker (bothCleared n step r k) (cellOf step r k .next) ≡ true
-      go none e = as-before k (cellOf step r k .next) (rw (lt-ltb k n l) (idle-weaker step r k e))
-      go flush e = by-operation k (cellOf step r k .next) (Flush k) (λ w. rw (eq-eqb k k refl)) (flush-listed n step r k l (ap isFlush e))
-      go purge e = by-operation k (cellOf step r k .next) (Purge k) (λ w. rw (eq-eqb k k refl)) (purge-listed n step r k l (ap isPurge e))
+      go none e = as-before k (cellOf step r k .next) (rw (lt-ltb k n l) (next-weaker step r k e))
+      go flush e = by-flush k (cellOf step r k .next) (rw (lt-ltb k n l) (next-weaker step r k e)) (flush-listed n step r k l (ap isFlush e))
+      go purge e = by-purge k (cellOf step r k .next) (Purge k) (λ w. rw (eq-eqb k k refl)) (purge-listed n step r k l (ap isPurge e))
 
   -- and of an instruction colour
   instructions-weaker : (k : ℕ) → n ≤ k → k < 2 * n → weaker (bothCleared n step r k) (asPage (instructionCellOf step r (k - n) .next)) ≡ true
@@ -95,7 +109,7 @@ module _ (n : ℕ) (step : Step) (r : FrameRecord) (rules : keepsRules n r ≡ t
     where
       go : (t : Bool) → isPurge (instructionCellOf step r (k - n) .operation) ≡ t → weaker (bothCleared n step r k) (asPage (instructionCellOf step r (k - n) .next)) ≡ true
       go true e =
-          by-operation k (asPage (instructionCellOf step r (k - n) .next)) (PurgeInstructions (k - n)) (λ w. rw (eq-eqb (n + (k - n)) k (omega arith)))
+          by-purge k (asPage (instructionCellOf step r (k - n) .next)) (PurgeInstructions (k - n)) (λ w. rw (eq-eqb (n + (k - n)) k (omega arith)))
           (instruction-purge-listed n step r (k - n) (omega arith) e)
       go false e =
           as-before k (asPage (instructionCellOf step r (k - n) .next)) (rw (le-ltb k n past) (instruction-weaker step (k - n) (instructionStateOf r (k - n)) e))
@@ -118,6 +132,6 @@ module _ (n : ℕ) (step : Step) (r : FrameRecord) (rules : keepsRules n r ≡ t
     spares-second None e = tt
     spares-second (Flush c) e = tt
     spares-second (Purge c) e =
-        cleared-either (λ s. s ≢ dirty) n (first n step r) (pageStates n r) c empty-clean
+        cleared-keeps (λ s. s ≢ dirty) empty-clean (λ s _. cleanState-clean s) n (first n step r) (pageStates n r) c
         (purged-clean c (Memᴰ·append-right (opList (first n step r)) (rw e (List·Memᴰ·head refl))))
-    spares-second (PurgeInstructions c) e = cleared-either (λ s. s ≢ dirty) n (first n step r) (pageStates n r) (n + c) empty-clean (instruction-clean n r c)
+    spares-second (PurgeInstructions c) e = cleared-keeps (λ s. s ≢ dirty) empty-clean (λ s _. cleanState-clean s) n (first n step r) (pageStates n r) (n + c) (instruction-clean n r c)

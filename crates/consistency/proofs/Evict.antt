@@ -10,9 +10,11 @@ use Rattle.cache.proofs.Laws.Evict.{evict-kept, evict-words, evict-tag-from}
 use Rattle.cache.proofs.Current.Line.{evict-current}
 use Rattle.machine.specs.Refusals.{causes}
 use Rattle.machine.specs.State.{State, state, evict}
-use Rattle.machine.specs.Step.{operate, carryOut, accept}
 use Rattle.machine.proofs.StepLaws.{evict-ready}
+use Rattle.cache.specs.Cache.{FlushKind}
+use Rattle.machine.specs.Step.{operateBy, carryOutBy}
 use Rattle.consistency.specs.Cacheless.{Cacheless, afterAccepted}
+use Rattle.consistency.specs.Flushes.{acceptBy}
 use Rattle.consistency.proofs.Pages.{pageStates}
 use Rattle.consistency.proofs.Agrees.{emptied, untouched-agrees}
 use Rattle.consistency.proofs.Commit.{refill-invariant}
@@ -28,6 +30,6 @@ module _ (b : Board) (reg : Regular b) (st : State) (m : Cacheless) (inv : Invar
       (evict-words b reg (st .store) (inv .kept) line h) f)
       (m .word f) (evict-current b reg line h f (m .word f) (st .store) (inv .kept) (inv .agrees f hf .current)) (inv .agrees f hf))
 
-  pub evict-taken : firstRefusal (causes b st (evict line)) ≡ 0 → Taken b st m (evict line)
-  unfolding accept carryOut operate afterAccepted
-  evict-taken e = (tt, evict-invariant (evict-ready b st line e .1))
+  pub evict-taken : (how : FlushKind) → firstRefusal (causes b st (evict line)) ≡ 0 → Taken b how st m (evict line)
+  unfolding acceptBy carryOutBy operateBy afterAccepted
+  evict-taken how e = (tt, evict-invariant (evict-ready b st line e .1))

@@ -19,15 +19,16 @@ use Rattle.cache.specs.Store.{Store, WellFormedStore, tagAt}
 use Rattle.cache.specs.Tag.{emptyTag, dirtyTag}
 use Rattle.cache.proofs.Laws.Evict.{evict-tag-same, evict-tag-other}
 use Rattle.cache.proofs.Laws.Instructions.{dirty-colour}
-use Rattle.machine.specs.Call.{callCauses, perform}
 use Rattle.machine.specs.Refusals.{storeLengths, causes}
 use Rattle.machine.specs.State.{State, evict, single, Result}
-use Rattle.machine.specs.Step.{operate, carryOut, accept}
-use Rattle.machine.proofs.CallLaws.{perform-accepted}
 use Rattle.machine.proofs.StoreLaws as store
+use Rattle.cache.specs.Cache.{FlushKind}
+use Rattle.machine.specs.Step.{operateBy, carryOutBy}
 use Rattle.consistency.specs.Cacheless.{Cacheless, isRefused}
 use Rattle.consistency.specs.Demand3.{stateAfter, evictions, Occurs, NoneRefused, MemoryIs}
+use Rattle.consistency.specs.Flushes.{acceptBy, performBy}
 use Rattle.consistency.proofs.Evict.{evict-invariant}
+use Rattle.consistency.proofs.Flushes.{single-cases}
 use Rattle.consistency.proofs.Invariant.{Sound, Invariant}
 
 -- ---- what the invariant says to the tests
@@ -45,33 +46,35 @@ sound-rules b t s = rules-kept b t (rules-keepsRules b (t .list) (s .list-rules)
 store-lengths : (b : Board) (s : Store) → WellFormedStore b s → storeLengths b s ≡ true
 store-lengths b s w = store.lengths-right b s (w .memory-length) (w .words-length) (w .tags-length)
 
-module _ (b : Board) (reg : Regular b) (m : Cacheless) where
+module _ (b : Board) (reg : Regular b) (how : FlushKind) (m : Cacheless) where
   module _ (st : State) (inv : Invariant b st m) (n : ℕ) (h : n < lines b) where
     evict-clear : firstRefusal (causes b st (evict n)) ≡ 0
     unfolding causes firstRefusal
     evict-clear =
         rw (sound-lengths b (st .tables) (inv .sound), store-lengths b (st .store) (inv .kept), sound-rules b (st .tables) (inv .sound), inv .kept .tags-rules, lt-leb (lines b) n h)
 
-    evict-step : perform b st (single (evict n)) ≡ accept b st (evict n)
-    unfolding callCauses
-    evict-step = sym (perform-accepted b st (single (evict n)) evict-clear)
+    evict-step : performBy b how st (single (evict n)) ≡ acceptBy b how st (evict n)
+    unfolding performBy
+    evict-step =
+        let clear = evict-clear in
+        single-cases b how st (evict n) (λ r. r ≡ acceptBy b how st (evict n)) (λ _. refl) (λ k e. absurd (omega arith))
 
     -- it is not refused
-    evict-not-refused : isRefused (perform b st (single (evict n)) .answer) ≡ false
-    unfolding accept
+    evict-not-refused : isRefused (performBy b how st (single (evict n)) .answer) ≡ false
+    unfolding acceptBy
     evict-not-refused = ap (λ (r : Result). isRefused (r .answer)) evict-step
 
-    evict-after : Invariant b (perform b st (single (evict n)) .after) m
-    unfolding accept carryOut operate
+    evict-after : Invariant b (performBy b how st (single (evict n)) .after) m
+    unfolding acceptBy carryOutBy operateBy
     evict-after = subst⁻¹ (λ (r : Result). Invariant b (r .after) m) evict-step (evict-invariant b reg st m inv n h)
 
     -- its line is empty, and an empty one stays empty
-    evict-empties : (k : ℕ) → (k ≡ n) ⊎ (tagAt (st .store) k ≡ emptyTag) → tagAt (perform b st (single (evict n)) .after .store) k ≡ emptyTag
-    unfolding accept carryOut operate
+    evict-empties : (k : ℕ) → (k ≡ n) ⊎ (tagAt (st .store) k ≡ emptyTag) → tagAt (performBy b how st (single (evict n)) .after .store) k ≡ emptyTag
+    unfolding acceptBy carryOutBy operateBy
     evict-empties k e = ap (λ (r : Result). tagAt (r .after .store) k) evict-step ∙ go (ℕ-discrete k n) e
       where
-        go : Dec (k ≡ n) → (k ≡ n) ⊎ (tagAt (st .store) k ≡ emptyTag) → tagAt (accept b st (evict n) .after .store) k ≡ emptyTag
-        go (yes q) e = ap (tagAt (accept b st (evict n) .after .store)) q ∙ evict-tag-same b reg (st .store) (inv .kept) n h
+        go : Dec (k ≡ n) → (k ≡ n) ⊎ (tagAt (st .store) k ≡ emptyTag) → tagAt (acceptBy b how st (evict n) .after .store) k ≡ emptyTag
+        go (yes q) e = ap (tagAt (acceptBy b how st (evict n) .after .store)) q ∙ evict-tag-same b reg (st .store) (inv .kept) n h
         go (no ne) (inl q) = absurd (ne q)
         go (no ne) (inr z) = evict-tag-other b reg (st .store) (inv .kept) n h k ne ∙ z
 
@@ -80,22 +83,22 @@ module _ (b : Board) (reg : Regular b) (m : Cacheless) where
   abbrev Lines : List ℕ → Type 0
   Lines ns = (n : ℕ) → Occurs n ns → n < lines b
 
-  none-are-refused : (st : State) → Invariant b st m → (ns : List ℕ) → Lines ns → NoneRefused b st (evictions ns)
+  none-are-refused : (st : State) → Invariant b st m → (ns : List ℕ) → Lines ns → NoneRefused (performBy b how) st (evictions ns)
   none-are-refused st inv [] h = tt
   none-are-refused st inv (n ∷ ns) h =
-      (evict-not-refused st inv n (h n (inl refl)), none-are-refused (perform b st (single (evict n)) .after) (evict-after st inv n (h n (inl refl))) ns (λ k e. h k (inr e)))
+      (evict-not-refused st inv n (h n (inl refl)), none-are-refused (performBy b how st (single (evict n)) .after) (evict-after st inv n (h n (inl refl))) ns (λ k e. h k (inr e)))
 
-  invariant-after : (st : State) → Invariant b st m → (ns : List ℕ) → Lines ns → Invariant b (stateAfter b st (evictions ns)) m
+  invariant-after : (st : State) → Invariant b st m → (ns : List ℕ) → Lines ns → Invariant b (stateAfter (performBy b how) st (evictions ns)) m
   invariant-after st inv [] h = inv
-  invariant-after st inv (n ∷ ns) h = invariant-after (perform b st (single (evict n)) .after) (evict-after st inv n (h n (inl refl))) ns (λ k e. h k (inr e))
+  invariant-after st inv (n ∷ ns) h = invariant-after (performBy b how st (single (evict n)) .after) (evict-after st inv n (h n (inl refl))) ns (λ k e. h k (inr e))
 
   empty-after : (st : State) → Invariant b st m → (ns : List ℕ) → Lines ns → (k : ℕ) → Occurs k ns ⊎ (tagAt (st .store) k ≡ emptyTag)
-      → tagAt (stateAfter b st (evictions ns) .store) k ≡ emptyTag
+      → tagAt (stateAfter (performBy b how) st (evictions ns) .store) k ≡ emptyTag
   empty-after st inv [] h k (inr e) = e
   empty-after st inv [] h k (inl e) = absurd e
-  empty-after st inv (n ∷ ns) h k e = empty-after (perform b st (single (evict n)) .after) (evict-after st inv n (h n (inl refl))) ns (λ j q. h j (inr q)) k (next e)
+  empty-after st inv (n ∷ ns) h k e = empty-after (performBy b how st (single (evict n)) .after) (evict-after st inv n (h n (inl refl))) ns (λ j q. h j (inr q)) k (next e)
     where
-      next : Occurs k (n ∷ ns) ⊎ (tagAt (st .store) k ≡ emptyTag) → Occurs k ns ⊎ (tagAt (perform b st (single (evict n)) .after .store) k ≡ emptyTag)
+      next : Occurs k (n ∷ ns) ⊎ (tagAt (st .store) k ≡ emptyTag) → Occurs k ns ⊎ (tagAt (performBy b how st (single (evict n)) .after .store) k ≡ emptyTag)
       next (inl (inl q)) = inr (evict-empties st inv n (h n (inl refl)) k (inl q))
       next (inl (inr o)) = inl o
       next (inr z) = inr (evict-empties st inv n (h n (inl refl)) k (inr z))
@@ -113,6 +116,6 @@ module _ (b : Board) (reg : Regular b) (m : Cacheless) where
       none f o ho c d (no h) = dirty-colour b reg (st .store) (inv .kept) c o f d (omega arith)
 
   pub all-evicted : (st : State) → Invariant b st m → (ns : List ℕ) → Lines ns → ((n : ℕ) → n < dataLines b → Occurs n ns)
-      → NoneRefused b st (evictions ns) × MemoryIs b m (stateAfter b st (evictions ns))
+      → NoneRefused (performBy b how) st (evictions ns) × MemoryIs b m (stateAfter (performBy b how) st (evictions ns))
   all-evicted st inv ns h every =
-      (none-are-refused st inv ns h, memory-is (stateAfter b st (evictions ns)) (invariant-after st inv ns h) (λ n l. empty-after st inv ns h n (inl (every n l))))
+      (none-are-refused st inv ns h, memory-is (stateAfter (performBy b how) st (evictions ns)) (invariant-after st inv ns h) (λ n l. empty-after st inv ns h n (inl (every n l))))

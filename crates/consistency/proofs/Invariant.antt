@@ -13,9 +13,10 @@ use Rattle.mapping.specs.Lookup.{mappingOf}
 use Rattle.manager.specs.Tables.{Tables, recordWords, recordAt}
 use Rattle.cache.specs.Store.{WellFormedStore}
 use Rattle.machine.specs.State.{State, Single, single}
-use Rattle.machine.specs.Step.{accept}
+use Rattle.cache.specs.Cache.{FlushKind}
 use Rattle.consistency.specs.Cacheless.{Cacheless, afterAccepted}
 use Rattle.consistency.specs.Demand3.{Finds}
+use Rattle.consistency.specs.Flushes.{acceptBy}
 use Rattle.consistency.proofs.Pages.{pageStates}
 use Rattle.consistency.proofs.Agrees.{Agrees}
 
@@ -38,6 +39,6 @@ pub record Invariant (b : Board) (st : State) (m : Cacheless) : Type 0 where
   pub agrees : (f : ℕ) → f < b .frames → Agrees b f (pageStates (b .colours) (recordAt (st .tables .records) f)) (m .word f) (st .store)
   pub frames-listed : (space page : ℕ) → m .frame space page ≡ frameIn (mappingOf (st .tables .list) space page)
 
--- an accepted single call finds its words and keeps the invariant
-abbrev pub Taken : Board → State → Cacheless → Single → Type 0
-Taken b st m call = Finds b m (single call) (accept b st call .answer) × Invariant b (accept b st call .after) (afterAccepted m call)
+-- an accepted single call finds its words and keeps the invariant, by either flush
+abbrev pub Taken : Board → FlushKind → State → Cacheless → Single → Type 0
+Taken b how st m call = Finds b m (single call) (acceptBy b how st call .answer) × Invariant b (acceptBy b how st call .after) (afterAccepted m call)

@@ -20,5 +20,6 @@ pub mod Evict
 pub mod Begun
 pub mod Start
 pub mod Evicted
+pub mod Flushes
 pub mod Theorem
 pub mod Rows

@@ -24,9 +24,11 @@ use Rattle.manager.proofs.AcceptedLaws.{map-accepted}
 use Rattle.manager.proofs.CauseLaws.{mapped-found}
 use Rattle.machine.specs.Refusals.{storeLengths, lentCauses, ownCauses, causes}
 use Rattle.machine.specs.State.{State, state, map, unmap}
-use Rattle.machine.specs.Step.{operate, carryOut, accept}
 use Rattle.machine.proofs.StepLaws.{cleared, lengths-clear, tables-clear}
+use Rattle.cache.specs.Cache.{FlushKind}
+use Rattle.machine.specs.Step.{operateBy, carryOutBy}
 use Rattle.consistency.specs.Cacheless.{Cacheless, cacheless, replaced, afterAccepted}
+use Rattle.consistency.specs.Flushes.{acceptBy}
 use Rattle.consistency.proofs.Commit.{refill-sound}
 use Rattle.consistency.proofs.Invariant.{Sound, frameIn, Invariant, Taken}
 use Rattle.consistency.proofs.Refused.{rest-clear}
@@ -88,9 +90,9 @@ module _ (b : Board) (st : State) (m : Cacheless) (inv : Invariant b st m) where
         (cacheless (m .word) (replaced (m .frame) (mp .space) (mp .page) (some (mp .frame))))
     map-kept = relisted (insert (st .tables .list) mp) (replaced (m .frame) (mp .space) (mp .page) (some (mp .frame))) map-sound map-listed
 
-  pub map-taken : (space page frame rights : ℕ) → firstRefusal (causes b st (map space page frame rights)) ≡ 0 → Taken b st m (map space page frame rights)
-  unfolding accept carryOut operate afterAccepted
-  map-taken space page frame rights e = let a = map-clear b st (record { space = space; page = page; frame = frame; rights = rights }) e in (tt, map-kept _ (a .1) (a .2) (a .3))
+  pub map-taken : (how : FlushKind) (space page frame rights : ℕ) → firstRefusal (causes b st (map space page frame rights)) ≡ 0 → Taken b how st m (map space page frame rights)
+  unfolding acceptBy carryOutBy operateBy afterAccepted
+  map-taken how space page frame rights e = let a = map-clear b st (record { space = space; page = page; frame = frame; rights = rights }) e in (tt, map-kept _ (a .1) (a .2) (a .3))
 
   -- ---- unmap
 
@@ -109,8 +111,8 @@ module _ (b : Board) (st : State) (m : Cacheless) (inv : Invariant b st m) where
     unmap-kept : Invariant b (state (commitUnmap b (st .tables) i) (st .store)) (cacheless (m .word) (replaced (m .frame) space page none))
     unmap-kept = relisted (remove (st .tables .list) i) (replaced (m .frame) space page none) unmap-sound unmap-listed
 
-  pub unmap-taken : (space page : ℕ) → firstRefusal (causes b st (unmap space page)) ≡ 0 → Taken b st m (unmap space page)
-  unfolding causes accept carryOut operate afterAccepted
-  unmap-taken space page e =
+  pub unmap-taken : (how : FlushKind) (space page : ℕ) → firstRefusal (causes b st (unmap space page)) ≡ 0 → Taken b how st m (unmap space page)
+  unfolding causes acceptBy carryOutBy operateBy afterAccepted
+  unmap-taken how space page e =
       let mapped = not-false _ (cleared b st (unmap space page) 8 e) in
       (tt, unmap-kept space page (placeOf (lookup (st .tables .list) space page)) (mapped-found b (st .tables) (tables-clear b st (unmap space page) e) space page mapped))

@@ -11,8 +11,9 @@ use Rattle.page_model.specs.Step.{OpBelow, stepped}
 use Rattle.page_model.specs.Table.{ColourState, Step}
 use Rattle.page_model.proofs.Theorems.{operations-below}
 use Rattle.manager.specs.Answers.{operationOn, accepted}
+use Rattle.cache.specs.Cache.{FlushKind}
 use Rattle.cache.specs.Store.{Store, WellFormedStore}
-use Rattle.machine.specs.Step.{operate, carryOut}
+use Rattle.machine.specs.Step.{operateBy, carryOutBy}
 use Rattle.machine.proofs.StoreLaws.{operate-kept}
 use Rattle.consistency.proofs.Agrees.{Tagged, Agrees}
 use Rattle.consistency.proofs.Cleared.{first, second, bothCleared, after-weaker, spares-first, spares-second}
@@ -22,10 +23,10 @@ use Rattle.consistency.proofs.Table.{Spares}
 use Rattle.consistency.proofs.Weaker.{weaken, weaken-tagged}
 
 -- the store after the orders of a step of frame f, whose record is r
-abbrev pub ordered : Board → ℕ → Step → FrameRecord → Store → Store
-ordered b f step r s = carryOut b (accepted f (stepped (b .colours) step r .ops)) s
+abbrev pub ordered : Board → FlushKind → ℕ → Step → FrameRecord → Store → Store
+ordered b how f step r s = carryOutBy b how (accepted f (stepped (b .colours) step r .ops)) s
 
-module _ (b : Board) (reg : Regular b) (f : ℕ) (hf : f < b .frames) (s : Store) (wf : WellFormedStore b s) (step : Step) (r : FrameRecord)
+module _ (b : Board) (reg : Regular b) (how : FlushKind) (f : ℕ) (hf : f < b .frames) (s : Store) (wf : WellFormedStore b s) (step : Step) (r : FrameRecord)
     (rules : keepsRules (b .colours) r ≡ true) where
   first-below : OpBelow (b .colours) (first (b .colours) step r)
   first-below = operations-below (b .colours) step r .1
@@ -35,34 +36,34 @@ module _ (b : Board) (reg : Regular b) (f : ℕ) (hf : f < b .frames) (s : Store
 
   -- between the two
   between : Store
-  between = operate b (operationOn f (first (b .colours) step r)) s
+  between = operateBy b how (operationOn f (first (b .colours) step r)) s
 
   between-kept : WellFormedStore b between
   unfolding between
-  between-kept = operate-kept b reg f hf (first (b .colours) step r) first-below s wf
+  between-kept = operate-kept b reg how f hf (first (b .colours) step r) first-below s wf
 
-  pub ordered-kept : WellFormedStore b (ordered b f step r s)
-  unfolding carryOut between
-  ordered-kept = operate-kept b reg f hf (second (b .colours) step r) second-below between between-kept
+  pub ordered-kept : WellFormedStore b (ordered b how f step r s)
+  unfolding carryOutBy between
+  ordered-kept = operate-kept b reg how f hf (second (b .colours) step r) second-below between between-kept
 
-  pub ordered-other : (g : ℕ) (states : ℕ → ColourState) (words : ℕ → ℕ) → g ≢ f → Agrees b g states words s → Agrees b g states words (ordered b f step r s)
-  unfolding carryOut between
-  ordered-other g states words ne a =
-      operate-other b reg f hf between between-kept (second (b .colours) step r) second-below g states words ne
-      (operate-other b reg f hf s wf (first (b .colours) step r) first-below g states words ne a)
+  pub ordered-other : (g : ℕ) → g < b .frames → (states : ℕ → ColourState) (words : ℕ → ℕ) → g ≢ f → Agrees b g states words s → Agrees b g states words (ordered b how f step r s)
+  unfolding carryOutBy between
+  ordered-other g hg states words ne a =
+      operate-other b reg how f hf between between-kept (second (b .colours) step r) second-below g hg states words ne
+      (operate-other b reg how f hf s wf (first (b .colours) step r) first-below g hg states words ne a)
 
-  pub ordered-tagged : Tagged b f (pageStates (b .colours) r) s → Tagged b f (pagesAfter (b .colours) step r) (ordered b f step r s)
-  unfolding carryOut between
+  pub ordered-tagged : Tagged b f (pageStates (b .colours) r) s → Tagged b f (pagesAfter (b .colours) step r) (ordered b how f step r s)
+  unfolding carryOutBy between
   ordered-tagged t =
-      weaken-tagged b f (bothCleared (b .colours) step r) (pagesAfter (b .colours) step r) (after-weaker (b .colours) step r rules) (ordered b f step r s)
-      (operate-tagged b reg f hf between between-kept (second (b .colours) step r) second-below (cleared (b .colours) (first (b .colours) step r) (pageStates (b .colours) r))
-      (operate-tagged b reg f hf s wf (first (b .colours) step r) first-below (pageStates (b .colours) r) t))
+      weaken-tagged b f (bothCleared (b .colours) step r) (pagesAfter (b .colours) step r) (after-weaker (b .colours) step r rules) (ordered b how f step r s)
+      (operate-tagged b reg how f hf between between-kept (second (b .colours) step r) second-below (cleared (b .colours) (first (b .colours) step r) (pageStates (b .colours) r))
+      (operate-tagged b reg how f hf s wf (first (b .colours) step r) first-below (pageStates (b .colours) r) t))
 
-  pub ordered-agrees : (words : ℕ → ℕ) → Spares step → Agrees b f (pageStates (b .colours) r) words s → Agrees b f (pagesAfter (b .colours) step r) words (ordered b f step r s)
-  unfolding carryOut between
+  pub ordered-agrees : (words : ℕ → ℕ) → Spares step → Agrees b f (pageStates (b .colours) r) words s → Agrees b f (pagesAfter (b .colours) step r) words (ordered b how f step r s)
+  unfolding carryOutBy between
   ordered-agrees words spares a =
-      weaken b f (bothCleared (b .colours) step r) (pagesAfter (b .colours) step r) (after-weaker (b .colours) step r rules) (ordered b f step r s) words
-      (operate-agrees b reg f hf between between-kept (second (b .colours) step r) second-below (cleared (b .colours) (first (b .colours) step r) (pageStates (b .colours) r)) words
+      weaken b f (bothCleared (b .colours) step r) (pagesAfter (b .colours) step r) (after-weaker (b .colours) step r rules) (ordered b how f step r s) words
+      (operate-agrees b reg how f hf between between-kept (second (b .colours) step r) second-below (cleared (b .colours) (first (b .colours) step r) (pageStates (b .colours) r)) words
       (spares-second (b .colours) step r rules spares (second (b .colours) step r) refl)
-      (operate-agrees b reg f hf s wf (first (b .colours) step r) first-below (pageStates (b .colours) r) words
+      (operate-agrees b reg how f hf s wf (first (b .colours) step r) first-below (pageStates (b .colours) r) words
       (spares-first (b .colours) step r rules spares (first (b .colours) step r) refl) a))

@@ -22,10 +22,11 @@ use Rattle.cache.specs.Store.{Store, WellFormedStore}
 use Rattle.cache.proofs.Laws.Access.{access-kept, writeWord-kept}
 use Rattle.machine.specs.Refusals.{causes}
 use Rattle.machine.specs.State.{State, pageFrame, state, read, write, fetch}
-use Rattle.machine.specs.Step.{accept}
 use Rattle.machine.proofs.StepLaws.{cleared, effect-tested}
+use Rattle.cache.specs.Cache.{FlushKind}
 use Rattle.consistency.specs.Cacheless.{Cacheless, cacheless, replaced, stored, afterAccepted}
 use Rattle.consistency.specs.Demand3.{pageWord, HasFrame}
+use Rattle.consistency.specs.Flushes.{acceptBy}
 use Rattle.consistency.proofs.Pages.{pageStates, pagesAfter, read-held, read-alone, fetch-held, fetch-clean, write-dirty, write-alone}
 use Rattle.consistency.proofs.Access.{access-words, access-own, access-other}
 use Rattle.consistency.proofs.Agrees.{Agrees}
@@ -37,29 +38,29 @@ use Rattle.consistency.proofs.Replaced.{own-words, other-words}
 use Rattle.consistency.proofs.Table.{Spares}
 use Rattle.consistency.proofs.Write.{write-own, write-other}
 
-module _ (b : Board) (reg : Regular b) (st : State) (m : Cacheless) (inv : Invariant b st m) (f : ℕ) (hf : f < b .frames) where
+module _ (b : Board) (reg : Regular b) (how : FlushKind) (st : State) (m : Cacheless) (inv : Invariant b st m) (f : ℕ) (hf : f < b .frames) where
   r : FrameRecord
   r = recordAt (st .tables .records) f
 
   -- the store after a step's orders
   now : Step → Store
-  now step = ordered b f step (recordAt (st .tables .records) f) (st .store)
+  now step = ordered b how f step (recordAt (st .tables .records) f) (st .store)
 
   module _ (step : Step) where
     now-kept : WellFormedStore b (now step)
     unfolding now
-    now-kept = ordered-kept b reg f hf (st .store) (inv .kept) step (recordAt (st .tables .records) f) (inv .sound .record-rules f hf)
+    now-kept = ordered-kept b reg how f hf (st .store) (inv .kept) step (recordAt (st .tables .records) f) (inv .sound .record-rules f hf)
 
     now-other : (g : ℕ) → g < b .frames → g ≢ f → Agrees b g (pageStates (b .colours) (recordAt (st .tables .records) g)) (m .word g) (now step)
     unfolding now
     now-other g hg ne =
-        ordered-other b reg f hf (st .store) (inv .kept) step (recordAt (st .tables .records) f) (inv .sound .record-rules f hf) g
+        ordered-other b reg how f hf (st .store) (inv .kept) step (recordAt (st .tables .records) f) (inv .sound .record-rules f hf) g hg
         (pageStates (b .colours) (recordAt (st .tables .records) g)) (m .word g) ne (inv .agrees g hg)
 
     now-own : Spares step → Agrees b f (pagesAfter (b .colours) step r) (m .word f) (now step)
     unfolding now r
     now-own spares =
-        ordered-agrees b reg f hf (st .store) (inv .kept) step (recordAt (st .tables .records) f) (inv .sound .record-rules f hf) (m .word f) spares (inv .agrees f hf)
+        ordered-agrees b reg how f hf (st .store) (inv .kept) step (recordAt (st .tables .records) f) (inv .sound .record-rules f hf) (m .word f) spares (inv .agrees f hf)
 
   -- ---- a read or a fetch of offset o through page p of the caches, which its step holds, and after which no other page is dirty
 
@@ -112,9 +113,9 @@ module _ (b : Board) (reg : Regular b) (st : State) (m : Cacheless) (inv : Invar
 
 -- ---- the calls
 
-module _ (b : Board) (reg : Regular b) (st : State) (m : Cacheless) (inv : Invariant b st m) (space page offset : ℕ) where
-  pub read-taken : firstRefusal (causes b st (read space page offset)) ≡ 0 → Taken b st m (read space page offset)
-  unfolding causes accept afterAccepted now r
+module _ (b : Board) (reg : Regular b) (how : FlushKind) (st : State) (m : Cacheless) (inv : Invariant b st m) (space page offset : ℕ) where
+  pub read-taken : firstRefusal (causes b st (read space page offset)) ≡ 0 → Taken b how st m (read space page offset)
+  unfolding causes acceptBy afterAccepted now r
   read-taken e =
       let call = read space page offset in
       let mapped = not-false _ (cleared b st call 8 e) in
@@ -126,14 +127,14 @@ module _ (b : Board) (reg : Regular b) (st : State) (m : Cacheless) (inv : Invar
       let ho = leb-false (b .page) offset (cleared b st call 6 e) in
       let held = read-held (b .colours) record-of c hc in
       let alone = read-alone (b .colours) record-of c in (
-        ap {B = Option ℕ} some (load-word b reg st m inv f (tested .0) c offset (data-page b reg c hc) ho (table.read c) refl held alone)
+        ap {B = Option ℕ} some (load-word b reg how st m inv f (tested .0) c offset (data-page b reg c hc) ho (table.read c) refl held alone)
             ∙ ap (λ (x : Option ℕ). pageWord m x offset) (sym (mapped-frame b st m inv space page mapped)),
-        load-kept b reg st m inv f (tested .0) c offset (data-page b reg c hc) ho (table.read c) refl held alone (tested .1),
+        load-kept b reg how st m inv f (tested .0) c offset (data-page b reg c hc) ho (table.read c) refl held alone (tested .1),
       )
 
   -- request N8: through the instruction page of its colour
-  pub fetch-taken : firstRefusal (causes b st (fetch space page offset)) ≡ 0 → Taken b st m (fetch space page offset)
-  unfolding causes accept afterAccepted now r
+  pub fetch-taken : firstRefusal (causes b st (fetch space page offset)) ≡ 0 → Taken b how st m (fetch space page offset)
+  unfolding causes acceptBy afterAccepted now r
   fetch-taken e =
       let call = fetch space page offset in
       let mapped = not-false _ (cleared b st call 8 e) in
@@ -145,13 +146,13 @@ module _ (b : Board) (reg : Regular b) (st : State) (m : Cacheless) (inv : Invar
       let ho = leb-false (b .page) offset (cleared b st call 6 e) in
       let held = fetch-held (b .colours) record-of c in
       let alone : (d : ℕ) → d ≢ instructionPage b c → pagesAfter (b .colours) (table.fetch c) record-of d ≢ dirty = λ d ne. fetch-clean (b .colours) record-of c d in (
-        ap {B = Option ℕ} some (load-word b reg st m inv f (tested .0) (instructionPage b c) offset (instruction-page b reg c hc) ho (table.fetch c) refl held alone)
+        ap {B = Option ℕ} some (load-word b reg how st m inv f (tested .0) (instructionPage b c) offset (instruction-page b reg c hc) ho (table.fetch c) refl held alone)
             ∙ ap (λ (x : Option ℕ). pageWord m x offset) (sym (mapped-frame b st m inv space page mapped)),
-        load-kept b reg st m inv f (tested .0) (instructionPage b c) offset (instruction-page b reg c hc) ho (table.fetch c) refl held alone (tested .1),
+        load-kept b reg how st m inv f (tested .0) (instructionPage b c) offset (instruction-page b reg c hc) ho (table.fetch c) refl held alone (tested .1),
       )
 
-  pub write-taken : (word : ℕ) → firstRefusal (causes b st (write space page offset word)) ≡ 0 → Taken b st m (write space page offset word)
-  unfolding causes accept afterAccepted now put
+  pub write-taken : (word : ℕ) → firstRefusal (causes b st (write space page offset word)) ≡ 0 → Taken b how st m (write space page offset word)
+  unfolding causes acceptBy afterAccepted now put
   write-taken word e =
       let call = write space page offset word in
       let mapped = not-false _ (cleared b st call 8 e) in
@@ -159,7 +160,7 @@ module _ (b : Board) (reg : Regular b) (st : State) (m : Cacheless) (inv : Invar
       let ho = leb-false (b .page) offset (cleared b st call 6 e) in
       let hc = colourOf-lt b reg page in (
         subst⁻¹ HasFrame (mapped-frame b st m inv space page mapped) tt,
-        subst⁻¹ (λ (x : Option ℕ). Invariant b (accept b st (write space page offset word) .after) (cacheless (stored (m .word) x offset word) (m .frame)))
+        subst⁻¹ (λ (x : Option ℕ). Invariant b (acceptBy b how st (write space page offset word) .after) (cacheless (stored (m .word) x offset word) (m .frame)))
             (mapped-frame b st m inv space page mapped)
-            (write-kept b reg st m inv (pageFrame st space page) (tested .0) (colourOf b page) offset hc ho word (tested .1)),
+            (write-kept b reg how st m inv (pageFrame st space page) (tested .0) (colourOf b page) offset hc ho word (tested .1)),
       )

@@ -1,4 +1,5 @@
--- Demand 3 admits no wrong word: each list of `specs/Rows` computes to an answer, or to words in memory, that it refuses.
+-- Demand 3 admits no wrong word: each list of `specs/Rows` computes to an answer, or to words in memory, that it refuses. And each flush leaves what its
+-- rows say.
 use mathlib.Core.Bool.{true≢false}
 use mathlib.Core.Path.{_≡_, refl, ap}
 use mathlib.Core.Logic.{_⊎_, ⊎-elim, inl, inr}
@@ -7,10 +8,12 @@ use mathlib.Core.List.{List, [], _∷_}
 use Prim.Native.Nat.{ℕ, zero, suc, _<_}
 use native.Mathlib.Omega.{arith}
 use lib.ListN.{getD}
+use Rattle.cache.specs.Cache.{FlushKind, leaving, emptying}
 use Rattle.machine.proofs.Opened.{opened}
 use Rattle.consistency.specs.Cacheless as cacheless
 use Rattle.consistency.specs.Demand3.{Occurs}
-use Rattle.consistency.specs.Rows.{WrongWords}
+use Rattle.consistency.specs.Flushes.{performBy}
+use Rattle.consistency.specs.Rows.{WrongWords, flushedOnce, recordLeft, FlushRows}
 
 -- an answer of 0 is none of 1, as a word and at the last place of a page
 not-one : _≡_ {A = Option ℕ} (some 0) (some 1) → ⊥
@@ -45,3 +48,17 @@ wrong-words =
       eviction-refused = λ h. true≢false (h .evicted four below every .0 .0);
       left-in-memory = λ h. let z : _≡_ {A = ℕ} 0 1 = h .evicted four below every .1 .memory-words 0 3 (omega arith) (omega arith) in omega arith;
     }
+
+written-back : (how : FlushKind) → flushedOnce how .store .memory ≡ 5 ∷ 0 ∷ 0 ∷ 0 ∷ []
+unfolding opened performBy
+written-back leaving = refl
+written-back emptying = refl
+
+both-present : (how : FlushKind) → recordLeft how ≡ 3 ∷ 0 ∷ 0 ∷ 0 ∷ 2 ∷ 0 ∷ 0 ∷ []
+unfolding opened performBy
+both-present leaving = refl
+both-present emptying = refl
+
+pub flush-rows : FlushRows
+unfolding opened performBy
+flush-rows = record { left-in = refl; emptied = refl; written-back = written-back; both-present = both-present }

@@ -1,5 +1,5 @@
 -- What the tables' cells say of the states before and after a step: each law is computed at every cell of the step's row.
-use mathlib.Core.Path.{_≡_, refl, sym, ap, subst⁻¹}
+use mathlib.Core.Path.{_≡_, refl, sym, ap, subst, subst⁻¹}
 use mathlib.Core.Bool.{Bool, true, false, not, _&&_, _||_, false≢true}
 use mathlib.Core.Logic.{_≢_}
 use Prim.Native.Nat.{ℕ}
@@ -9,10 +9,10 @@ use borrow.Author.Tests.{eq-eqb, ne-eqb}
 use Rattle.bits.proofs.Tautology.{and-left, and-right}
 use Rattle.page_model.specs.declared.FrameRecord.{FrameRecord}
 use Rattle.page_model.specs.Record.{stateOf, isHeld, isDirty}
-use Rattle.page_model.specs.Step.{isFlush, isPurge, cellOf}
-use Rattle.page_model.specs.Table.{ColourState, empty, present, dirty, stale, Operation, none, Cell, own, other, roleIf, Step, read, write, deviceRead, deviceWrite, deviceWritePart, beginRead, beginWrite, fetch, ownOf}
+use Rattle.page_model.specs.Step.{isPurge, cellOf}
+use Rattle.page_model.specs.Table.{ColourState, empty, present, dirty, stale, Operation, none, flush, purge, Cell, own, other, roleIf, Step, read, write, deviceRead, deviceWrite, deviceWritePart, beginRead, beginWrite, fetch, ownOf}
 use Rattle.page_model.proofs.Cells.{rowOf, row-cell, each-state}
-use Rattle.consistency.proofs.Weaker.{weaker, is-dirty}
+use Rattle.consistency.proofs.Weaker.{cleanState, weaker, is-dirty}
 
 -- ---- a law of a row
 
@@ -37,25 +37,29 @@ cell-law p step e r k = subst⁻¹ (λ (x : Cell). p (eqb (ownOf step) k) (state
 
 -- ---- operations
 
--- a cell with no operation says no more after the step than the state did before it
-abbrev idleWeaker : Law
-idleWeaker o s cell = isFlush (cell .operation) || isPurge (cell .operation) || weaker s (cell .next)
+-- what an operation leaves of a colour's state: a flush no dirty line, a purge no line
+abbrev pub leftBy : Operation → ColourState → ColourState
+leftBy none s = s
+leftBy flush s = cleanState s
+leftBy purge s = empty
 
-idle-cell : (step : Step) → everyCell idleWeaker step ≡ true
-idle-cell (read c) = refl
-idle-cell (write c) = refl
-idle-cell deviceRead = refl
-idle-cell deviceWrite = refl
-idle-cell deviceWritePart = refl
-idle-cell beginRead = refl
-idle-cell beginWrite = refl
-idle-cell (fetch c) = refl
+-- a cell's next state says no more than what its operation leaves
+abbrev nextWeaker : Law
+nextWeaker o s cell = weaker (leftBy (cell .operation) s) (cell .next)
 
-idle-from : {op : Operation} (w : Bool) → op ≡ none → (isFlush op || isPurge op || w) ≡ true → w ≡ true
-idle-from w e h = rw e at h
+every-next : (step : Step) → everyCell nextWeaker step ≡ true
+every-next (read c) = refl
+every-next (write c) = refl
+every-next deviceRead = refl
+every-next deviceWrite = refl
+every-next deviceWritePart = refl
+every-next beginRead = refl
+every-next beginWrite = refl
+every-next (fetch c) = refl
 
-pub idle-weaker : (step : Step) (r : FrameRecord) (k : ℕ) → cellOf step r k .operation ≡ none → weaker (stateOf r k) (cellOf step r k .next) ≡ true
-idle-weaker step r k e = idle-from (weaker (stateOf r k) (cellOf step r k .next)) e (cell-law idleWeaker step (idle-cell step) r k)
+pub next-weaker : (step : Step) (r : FrameRecord) (k : ℕ) {op : Operation} → cellOf step r k .operation ≡ op
+    → weaker (leftBy op (stateOf r k)) (cellOf step r k .next) ≡ true
+next-weaker step r k e = subst (λ (x : Operation). weaker (leftBy x (stateOf r k)) (cellOf step r k .next) ≡ true) e (cell-law nextWeaker step (every-next step) r k)
 
 -- no dirty colour is purged
 abbrev purgesClean : Law

@@ -9,8 +9,8 @@ use Rattle.board.specs.declared.Board.{Board}
 use Rattle.board.specs.Board.{cachePages, lineOf}
 use Rattle.page_model.specs.Record.{isHeld, isDirty, isStale}
 use Rattle.page_model.specs.Table.{ColourState, empty, present, dirty, stale}
-use Rattle.cache.specs.Store.{Store, tagAt}
-use Rattle.cache.specs.Tag.{names}
+use Rattle.cache.specs.Store.{Store, tagAt, wordAt}
+use Rattle.cache.specs.Tag.{dirtyTag, names}
 use Rattle.cache.proofs.Laws.Tag.{names-dirty}
 use Rattle.consistency.proofs.Agrees.{Tagged, Agrees}
 
@@ -70,31 +70,103 @@ module _ (b : Board) (f : ℕ) (states after : ℕ → ColourState) (says : (k :
         current = a .current;
       }
 
--- ---- a colour none of whose lines names the frame may be said to be empty
+-- ---- the state of a colour that has no dirty line, or none any more
 
+abbrev pub cleanState : ColourState → ColourState
+cleanState empty = empty
+cleanState present = present
+cleanState dirty = present
+cleanState stale = stale
+
+pub cleanState-twice : (s : ColourState) → cleanState (cleanState s) ≡ cleanState s
+cleanState-twice empty = refl
+cleanState-twice present = refl
+cleanState-twice dirty = refl
+cleanState-twice stale = refl
+
+pub cleanState-clean : (s : ColourState) → cleanState s ≢ dirty
+cleanState-clean empty e = false≢true (ap isDirty e)
+cleanState-clean present e = false≢true (ap isDirty e)
+cleanState-clean dirty e = false≢true (ap isDirty e)
+cleanState-clean stale e = false≢true (ap isDirty e)
+
+cleanState-occupied : (s : ColourState) → cleanState s ≡ empty → s ≡ empty
+cleanState-occupied empty e = refl
+cleanState-occupied present e = e
+cleanState-occupied dirty e = absurd (false≢true (ap isEmpty e))
+cleanState-occupied stale e = e
+
+cleanState-held : (s : ColourState) → isHeld (cleanState s) ≡ isHeld s
+cleanState-held empty = refl
+cleanState-held present = refl
+cleanState-held dirty = refl
+cleanState-held stale = refl
+
+-- a state says no more of a colour than z if it does not with its dirty lines written back
+pub weaker-clean : (s z : ColourState) → weaker s z ≡ true → weaker (cleanState s) z ≡ true
+weaker-clean empty z w = w
+weaker-clean present z w = w
+weaker-clean dirty z w = rw (is-dirty z w)
+weaker-clean stale z w = w
+
+-- ---- a colour's state replaced by another that says more, where its lines bear that out
+
+abbrev pub replacedAt : (ColourState → ColourState) → ℕ → (ℕ → ColourState) → ℕ → ColourState
+replacedAt act k states c = cond (eqb k c) (act (states c)) (states c)
+
+-- what holds of the new state where c is k, and of the old one, holds of it
+replaced-cases : (P : ColourState → Type 0) (act : ColourState → ColourState) (k : ℕ) (states : ℕ → ColourState) (c : ℕ) → (k ≡ c → P (act (states c)))
+    → P (states c) → P (replacedAt act k states c)
+replaced-cases P act k states c new old = go (eqb k c) refl
+  where
+    go : (t : Bool) → eqb k c ≡ t → P (cond t (act (states c)) (states c))
+    go true e = new (eqb-true k c e)
+    go false e = old
+
+-- empty, where no line of it names the frame
 abbrev pub emptyAt : ℕ → (ℕ → ColourState) → ℕ → ColourState
-emptyAt k states c = cond (eqb k c) empty (states c)
+emptyAt = replacedAt (λ s. empty)
 
 module _ (b : Board) (f k : ℕ) (states : ℕ → ColourState) (s : Store) (none : (o : ℕ) → o < b .page → names (tagAt s (lineOf b k o)) f ≡ false) where
-  -- a line that names f is in another colour, where the states are as they were
-  elsewhere : (c o : ℕ) → o < b .page → names (tagAt s (lineOf b c o)) f ≡ true → emptyAt k states c ≡ states c
-  elsewhere c o ho n = go (eqb k c) refl
-    where
-      go : (t : Bool) → eqb k c ≡ t → emptyAt k states c ≡ states c
-      go false e = rw e
-      go true e = absurd (true≢false (sym n ∙ ap (λ (x : ℕ). names (tagAt s (lineOf b x o)) f) (sym (eqb-true k c e)) ∙ none o ho))
+  -- a line that names f is in another colour
+  elsewhere : (c o : ℕ) → o < b .page → names (tagAt s (lineOf b c o)) f ≡ true → k ≡ c → ⊥
+  elsewhere c o ho n e = true≢false (sym n ∙ ap (λ (x : ℕ). names (tagAt s (lineOf b x o)) f) (sym e) ∙ none o ho)
 
   pub empty-tagged : Tagged b f states s → Tagged b f (emptyAt k states) s
   empty-tagged t =
       record {
-        occupied = λ c o hc ho n e. t .occupied c o hc ho n (sym (elsewhere c o ho n) ∙ e);
-        dirty-colour = λ c o hc ho d. elsewhere c o ho (ap (λ (x : ℕ). names x f) d ∙ names-dirty f) ∙ t .dirty-colour c o hc ho d;
+        occupied = λ c o hc ho n. replaced-cases (λ z. z ≢ empty) (λ s. empty) k states c (λ e. absurd (elsewhere c o ho n e)) (t .occupied c o hc ho n);
+        dirty-colour = λ c o hc ho d. replaced-cases (λ z. z ≡ dirty) (λ s. empty) k states c
+            (λ e. absurd (elsewhere c o ho (ap (λ (x : ℕ). names x f) d ∙ names-dirty f) e)) (t .dirty-colour c o hc ho d);
       }
 
   pub empty-agrees : (words : ℕ → ℕ) → Agrees b f states words s → Agrees b f (emptyAt k states) words s
   empty-agrees words a =
       record {
         tagged = empty-tagged (a .tagged);
-        held-words = λ c o hc ho n h. a .held-words c o hc ho n (sym (ap isHeld (elsewhere c o ho n)) ∙ h);
+        held-words = λ c o hc ho n. replaced-cases (λ z. isHeld z ≡ true → wordAt b s c o ≡ words o) (λ s. empty) k states c
+            (λ e. absurd (elsewhere c o ho n e)) (a .held-words c o hc ho n);
+        current = a .current;
+      }
+
+-- clean, where no line of it is dirty for the frame
+abbrev pub cleanAt : ℕ → (ℕ → ColourState) → ℕ → ColourState
+cleanAt = replacedAt cleanState
+
+module _ (b : Board) (f k : ℕ) (states : ℕ → ColourState) (s : Store) (none : (o : ℕ) → o < b .page → tagAt s (lineOf b k o) ≢ dirtyTag f) where
+  pub clean-tagged : Tagged b f states s → Tagged b f (cleanAt k states) s
+  clean-tagged t =
+      record {
+        occupied = λ c o hc ho n. replaced-cases (λ z. z ≢ empty) cleanState k states c (λ e q. t .occupied c o hc ho n (cleanState-occupied (states c) q)) (t .occupied c o hc ho n);
+        dirty-colour = λ c o hc ho d. replaced-cases (λ z. z ≡ dirty) cleanState k states c
+            (λ e. absurd (none o ho (ap (λ (x : ℕ). tagAt s (lineOf b x o)) e ∙ d))) (t .dirty-colour c o hc ho d);
+      }
+
+  pub clean-agrees : (words : ℕ → ℕ) → Agrees b f states words s → Agrees b f (cleanAt k states) words s
+  clean-agrees words a =
+      record {
+        tagged = clean-tagged (a .tagged);
+        held-words = λ c o hc ho n. replaced-cases (λ z. isHeld z ≡ true → wordAt b s c o ≡ words o) cleanState k states c
+            (λ e h. a .held-words c o hc ho n (sym (cleanState-held (states c)) ∙ h)) (a .held-words c o hc ho n);
         current = a .current;
       }

@@ -17,7 +17,7 @@ use Rattle.cache.specs.Current.{written}
 use Rattle.cache.proofs.Laws.Tag.{names-dirty, names-one}
 use Rattle.cache.proofs.Laws.Access.{writeWord-tag-same, writeWord-tag-other, writeWord-word-same, writeWord-word-line, writeWord-word-other}
 use Rattle.cache.proofs.Current.Write.{write-current-other, write-current-same}
-use Rattle.consistency.proofs.Agrees.{Agrees, untouched-agrees}
+use Rattle.consistency.proofs.Agrees.{Agrees, same-lines, untouched-agrees}
 use Rattle.consistency.proofs.Access.{same-colour, access-words}
 
 module _ (b : Board) (reg : Regular b) (f c o : ℕ) (hf : f < b .frames) (hc : c < cachePages b) (ho : o < b .page) (s : Store) (wf : WellFormedStore b s) (v : ℕ) where
@@ -32,10 +32,8 @@ module _ (b : Board) (reg : Regular b) (f c o : ℕ) (hf : f < b .frames) (hc : 
     pub write-other : (states : ℕ → ColourState) (words : ℕ → ℕ) → Agrees b g states words s → Agrees b g states words (writeWord b f c o v s)
     write-other states words a =
         untouched-agrees b g states s (writeWord b f c o v s)
-        (record {
-          tag-from = λ d p hd hp n. writeWord-tag-other b reg f c o hf hc ho s wf v (lineOf b d p) (apart (lineOf b d p) n);
-          word-from = λ d p hd hp n. writeWord-word-other b reg f c o hf hc ho s wf v d p (apart (lineOf b d p) n);
-        })
+        (same-lines b g s (writeWord b f c o v s) (λ d p hd hp n. writeWord-tag-other b reg f c o hf hc ho s wf v (lineOf b d p) (apart (lineOf b d p) n))
+        (λ d p hd hp n. writeWord-word-other b reg f c o hf hc ho s wf v d p (apart (lineOf b d p) n)))
         words (write-current-other b reg f c o hf hc ho s wf v g words ne (a .current)) a
 
   -- ---- its own frame, through a dirty colour beside which none is present or dirty

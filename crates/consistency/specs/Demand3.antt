@@ -15,7 +15,7 @@ use Rattle.mapping.specs.Entry.{capacity}
 use Rattle.manager.specs.Tables.{tables, tabulate, startRecords}
 use Rattle.cache.specs.Store.{store, memoryWord}
 use Rattle.machine.specs.Call.{perform}
-use Rattle.machine.specs.State.{State, state, evict, Call, single, mapAll, Answer}
+use Rattle.machine.specs.State.{State, state, evict, Call, single, mapAll, Answer, Result}
 use Rattle.consistency.specs.Cacheless.{Cacheless, startCacheless, Use, noUse, setsFrame, loads, stores, loadsPage, sendsWords, takesWord, bringsWord, useOf, isRefused, fed}
 
 -- ---- the start: empty list, page states and cache, whatever words memory, cache and protections hold
@@ -51,20 +51,24 @@ Finds b m (mapAll items answers) a = Unit {0}
 
 -- ---- a list of calls, with the cacheless memory beside it
 
+-- a machine is what it makes of a call in a state
+abbrev pub Machine : Type 0
+Machine = State → Call → Result
+
 -- every accepted read and fetch of the list finds its words
-abbrev pub AllFind : Board → State → Cacheless → List Call → Type 0
-AllFind b st m [] = Unit {0}
-AllFind b st m (call ∷ calls) =
-    (isRefused (perform b st call .answer) ≡ false → Finds b m call (perform b st call .answer))
-    × AllFind b (perform b st call .after) (fed m call (perform b st call .answer)) calls
+abbrev pub AllFind : Board → Machine → State → Cacheless → List Call → Type 0
+AllFind b machine st m [] = Unit {0}
+AllFind b machine st m (call ∷ calls) =
+    (isRefused (machine st call .answer) ≡ false → Finds b m call (machine st call .answer))
+    × AllFind b machine (machine st call .after) (fed m call (machine st call .answer)) calls
 
-abbrev pub stateAfter : Board → State → List Call → State
-stateAfter b st [] = st
-stateAfter b st (call ∷ calls) = stateAfter b (perform b st call .after) calls
+abbrev pub stateAfter : Machine → State → List Call → State
+stateAfter machine st [] = st
+stateAfter machine st (call ∷ calls) = stateAfter machine (machine st call .after) calls
 
-abbrev pub cachelessAfter : Board → State → Cacheless → List Call → Cacheless
-cachelessAfter b st m [] = m
-cachelessAfter b st m (call ∷ calls) = cachelessAfter b (perform b st call .after) (fed m call (perform b st call .answer)) calls
+abbrev pub cachelessAfter : Machine → State → Cacheless → List Call → Cacheless
+cachelessAfter machine st m [] = m
+cachelessAfter machine st m (call ∷ calls) = cachelessAfter machine (machine st call .after) (fed m call (machine st call .answer)) calls
 
 -- ---- evicting lines, which document 01 calls turning them out
 
@@ -78,9 +82,9 @@ Occurs n [] = ⊥
 Occurs n (m ∷ ms) = (n ≡ m) ⊎ Occurs n ms
 
 -- none is refused
-abbrev pub NoneRefused : Board → State → List Call → Type 0
-NoneRefused b st [] = Unit {0}
-NoneRefused b st (call ∷ calls) = (isRefused (perform b st call .answer) ≡ false) × NoneRefused b (perform b st call .after) calls
+abbrev pub NoneRefused : Machine → State → List Call → Type 0
+NoneRefused machine st [] = Unit {0}
+NoneRefused machine st (call ∷ calls) = (isRefused (machine st call .answer) ≡ false) × NoneRefused machine (machine st call .after) calls
 
 -- memory holds the cacheless memory's words, frame after frame
 pub record MemoryIs (b : Board) (m : Cacheless) (st : State) : Type 0 where
@@ -89,14 +93,17 @@ pub record MemoryIs (b : Board) (m : Cacheless) (st : State) : Type 0 where
 
 -- ---- the demand
 
-pub record Holds (b : Board) (st : State) (m : Cacheless) (calls : List Call) : Type 0 where
-  pub finds : AllFind b st m calls
+pub record Holds (b : Board) (machine : Machine) (st : State) (m : Cacheless) (calls : List Call) : Type 0 where
+  pub finds : AllFind b machine st m calls
   pub evicted :
       (ns : List ℕ) → ((n : ℕ) → Occurs n ns → n < lines b) → ((n : ℕ) → n < dataLines b → Occurs n ns)
-      → NoneRefused b (stateAfter b st calls) (evictions ns)
-      × MemoryIs b (cachelessAfter b st m calls) (stateAfter b (stateAfter b st calls) (evictions ns))
+      → NoneRefused machine (stateAfter machine st calls) (evictions ns)
+      × MemoryIs b (cachelessAfter machine st m calls) (stateAfter machine (stateAfter machine st calls) (evictions ns))
+
+abbrev pub Demand3Of : Board → Machine → Type 0
+Demand3Of b machine =
+    (memory words protections : List ℕ) (calls : List Call) → length memory ≡ memoryWords b → length words ≡ cacheWords b → length protections ≡ capacity
+    → Holds b machine (startState b memory words protections) (startCacheless b memory) calls
 
 abbrev pub Demand3 : Board → Type 0
-Demand3 b =
-    (memory words protections : List ℕ) (calls : List Call) → length memory ≡ memoryWords b → length words ≡ cacheWords b → length protections ≡ capacity
-    → Holds b (startState b memory words protections) (startCacheless b memory) calls
+Demand3 b = Demand3Of b (perform b)

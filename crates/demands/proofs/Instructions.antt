@@ -28,6 +28,7 @@ use Rattle.manager.specs.Refusals.{firstRefusal}
 use Rattle.manager.specs.Tables.{recordAt}
 use Rattle.manager.proofs.CauseLaws.{record-rules}
 use Rattle.cache.specs.Cache as cache
+use Rattle.cache.specs.Cache.{leaving}
 use Rattle.cache.specs.Store as hardware
 use Rattle.cache.specs.Store.{Store, tagAt, wordAt}
 use Rattle.cache.specs.Tag.{emptyTag, cleanTag, dirtyTag, isDirtyTag, names}
@@ -39,7 +40,7 @@ use Rattle.cache.proofs.Laws.Tag.{isDirtyTag-dirty}
 use Rattle.machine.specs.Parts.{Effect, steps, ends, nothing, effectOf, outcomeOf, accessOf}
 use Rattle.machine.specs.Refusals.{causes}
 use Rattle.machine.specs.State.{State, pageFrame, Single, map, unmap, read, write, deviceRead, deviceWrite, deviceWritePart, evict, beginRead, beginWrite, bringWord, takeWord, endTransfer, fetch}
-use Rattle.machine.specs.Step.{operate, carryOut, accept}
+use Rattle.machine.specs.Step.{operateBy, operate, carryOutBy, carryOut, accept}
 use Rattle.machine.proofs.StepLaws.{cleared, store-clear, tables-clear, Tested, effect-tested, evict-ready}
 use Rattle.machine.proofs.StoreLaws.{operate-kept}
 use Rattle.demands.specs.Demands.{InstructionCache}
@@ -94,16 +95,16 @@ module _ (n : ℕ) (step : table.Step) (r : FrameRecord) (rules : keepsRules n r
 
 module _ (b : Board) (reg : Regular b) (f : ℕ) (hf : f < b .frames) (s : Store) (wf : hardware.WellFormedStore b s) where
   operate-tag : (op : Op) → OpBelow (b .colours) op → OnData op → (n : ℕ) → dataLines b ≤ n → tagAt (operate b (operationOn f op) s) n ≡ tagAt s n
-  unfolding operate
+  unfolding operateBy
   operate-tag None below on n h = refl
-  operate-tag (Flush c) below on n h = flush-tag-other b reg f c hf (data-page b reg c below) s wf n (instruction-colour-apart b reg n c h below)
+  operate-tag (Flush c) below on n h = flush-tag-other b reg leaving f c hf (data-page b reg c below) s wf n (instruction-colour-apart b reg n c h below)
   operate-tag (Purge c) below on n h = purge-tag-other b reg f c (data-page b reg c below) s wf n (instruction-colour-apart b reg n c h below)
   operate-tag (PurgeInstructions c) below on n h = absurd on
 
   operate-words : (op : Op) → OpBelow (b .colours) op → operate b (operationOn f op) s .words ≡ s .words
-  unfolding operate
+  unfolding operateBy
   operate-words None below = refl
-  operate-words (Flush c) below = flush-words b reg f c hf (data-page b reg c below) s wf
+  operate-words (Flush c) below = flush-words b reg leaving f c hf (data-page b reg c below) s wf
   operate-words (Purge c) below = purge-words b reg f c (data-page b reg c below) s wf
   operate-words (PurgeInstructions c) below = purge-words b reg f (instructionPage b c) (instruction-page b reg c below) s wf
 
@@ -119,7 +120,7 @@ ordered b st x = carryOut b (outcomeOf b (st .tables .records) x) (st .store)
 module _ (b : Board) (reg : Regular b) (st : State) (wf : hardware.WellFormedStore b (st .store))
     (rules : (f : ℕ) → f < b .frames → keepsRules (b .colours) (recordAt (st .tables .records) f) ≡ true) where
   ordered-tag : (x : Effect) → Tested b (st .tables .records) x → Quiet x → (n : ℕ) → dataLines b ≤ n → tagAt (ordered b st x) n ≡ tagAt (st .store) n
-  unfolding carryOut operate
+  unfolding carryOutBy operateBy
   ordered-tag (ends f) tested other n h = refl
   ordered-tag nothing tested other n h = refl
   ordered-tag (steps f step) tested other n h =
@@ -127,19 +128,19 @@ module _ (b : Board) (reg : Regular b) (st : State) (wf : hardware.WellFormedSto
       let kept = rules f (tested .0) in
       let below = operations-below (b .colours) step r in
       let ops = stepped (b .colours) step r .ops in
-      operate-tag b reg f (tested .0) (operate b (operationOn f (ops .first)) (st .store)) (operate-kept b reg f (tested .0) (ops .first) (below .1) (st .store) wf)
+      operate-tag b reg f (tested .0) (operate b (operationOn f (ops .first)) (st .store)) (operate-kept b reg leaving f (tested .0) (ops .first) (below .1) (st .store) wf)
       (ops .second) (below .2) (second-on-data (b .colours) step r kept other (ops .second) refl) n h
       ∙ operate-tag b reg f (tested .0) (st .store) wf (ops .first) (below .1) (first-on-data (b .colours) step r kept other (ops .first) refl) n h
 
   ordered-words : (x : Effect) → Tested b (st .tables .records) x → ordered b st x .words ≡ st .store .words
-  unfolding carryOut operate
+  unfolding carryOutBy operateBy
   ordered-words (ends f) tested = refl
   ordered-words nothing tested = refl
   ordered-words (steps f step) tested =
       let r = recordAt (st .tables .records) f in
       let below = operations-below (b .colours) step r in
       let ops = stepped (b .colours) step r .ops in
-      operate-words b reg f (tested .0) (operate b (operationOn f (ops .first)) (st .store)) (operate-kept b reg f (tested .0) (ops .first) (below .1) (st .store) wf) (ops .second) (below .2)
+      operate-words b reg f (tested .0) (operate b (operationOn f (ops .first)) (st .store)) (operate-kept b reg leaving f (tested .0) (ops .first) (below .1) (st .store) wf) (ops .second) (below .2)
       ∙ operate-words b reg f (tested .0) (st .store) wf (ops .first) (below .1)
 
 -- ---- a fetch's orders: an instruction line is as it was, or was the frame's in the fetch's colour and is empty
@@ -174,9 +175,9 @@ module _ (b : Board) (reg : Regular b) (f : ℕ) (hf : f < b .frames) (c : ℕ) 
       go (yes at) true named = inr (at ∙ ap (instructionPage b) e, named, purge-tag-same b reg f (instructionPage b d) page s wf n high at named)
 
   operate-purged : (op : Op) → OpBelow (b .colours) op → OnColour c op → Purged b f c s (operate b (operationOn f op) s) n
-  unfolding operate
+  unfolding operateBy
   operate-purged None below on = inl refl
-  operate-purged (Flush d) below on = inl (flush-tag-other b reg f d hf (data-page b reg d below) s wf n (instruction-colour-apart b reg n d low below))
+  operate-purged (Flush d) below on = inl (flush-tag-other b reg leaving f d hf (data-page b reg d below) s wf n (instruction-colour-apart b reg n d low below))
   operate-purged (Purge d) below on = inl (purge-tag-other b reg f d (data-page b reg d below) s wf n (instruction-colour-apart b reg n d low below))
   operate-purged (PurgeInstructions d) below on = purge-instructions d below on
 
@@ -287,14 +288,14 @@ module _ (b : Board) (reg : Regular b) (st : State) where
 
   evict-left : (n : ℕ) → dataLines b ≤ n → firstRefusal (causes b st (evict n)) ≡ 0
       → (tagAt (accept b st (evict n) .after .store) n ≡ emptyTag) × (accept b st (evict n) .after .store .memory ≡ st .store .memory)
-  unfolding accept carryOut operate cache.empty
+  unfolding accept carryOutBy operateBy cache.empty
   evict-left n h e =
       let r = evict-ready b st n e in
       (evict-tag-same b reg (st .store) (r .0) n (r .1), ap (λ (t : Store). t .memory) (instruction-evicted b reg (st .store) (r .0) n h))
 
   purged-left : (space page offset : ℕ) → firstRefusal (causes b st (fetch space page offset)) ≡ 0 → (n : ℕ) → dataLines b ≤ n → n < lines b
       → Purged b (pageFrame st space page) (colourOf b page) (st .store) (ordered b st (effectOf b st (fetch space page offset))) n
-  unfolding carryOut
+  unfolding carryOutBy
   purged-left space page offset e n low high =
       let call = fetch space page offset in
       let f = pageFrame st space page in
@@ -307,7 +308,7 @@ module _ (b : Board) (reg : Regular b) (st : State) where
       let wf = store-clear b st call e in
       then-purged b f c (st .store) (operate b (operationOn f (ops .first)) (st .store)) (operate b (operationOn f (ops .second)) (operate b (operationOn f (ops .first)) (st .store))) n
       (operate-purged b reg f hf c (st .store) wf n low high (ops .first) (below .1) (fetch-first (b .colours) c r kept (ops .first) refl))
-      (operate-purged b reg f hf c (operate b (operationOn f (ops .first)) (st .store)) (operate-kept b reg f hf (ops .first) (below .1) (st .store) wf) n low high (ops .second) (below .2)
+      (operate-purged b reg f hf c (operate b (operationOn f (ops .first)) (st .store)) (operate-kept b reg leaving f hf (ops .first) (below .1) (st .store) wf) n low high (ops .second) (below .2)
       (fetch-second (b .colours) c r kept (ops .second) refl))
 
   -- what a fetch's access leaves of the store s after its orders

@@ -16,7 +16,7 @@ use Rattle.page_model.specs.Record.{stateOf, instructionStateOf, encode, freed}
 use Rattle.page_model.specs.Step.{cellOf, instructionCellOf, recordAfter, stepped}
 use Rattle.page_model.specs.Table as table
 use Rattle.page_model.specs.Theorems.{Idle}
-use Rattle.page_model.proofs.Theorems.{few-operations, state-after, instruction-state-after}
+use Rattle.page_model.proofs.Theorems.{few-operations, operations-below, state-after, instruction-state-after}
 use Rattle.mapping.specs.declared.MappingList.{MappingList}
 use Rattle.mapping.specs.Entry.{capacity, isRights, readWrite, readFetch, mappingAt}
 use Rattle.manager.specs.Answers.{accepted}
@@ -38,10 +38,11 @@ use Rattle.cache.proofs.Laws.Evict.{evict-kept}
 use Rattle.machine.specs.Refusals.{storeLengths, lentCauses, ownCauses, bufferRight, causes}
 use Rattle.machine.specs.State.{State, state, Single, map, unmap, read, write, deviceRead, deviceWrite, deviceWritePart, evict, beginRead, beginWrite, bringWord, takeWord, endTransfer, fetch}
 use Rattle.machine.specs.Parts.{Effect, steps, ends, nothing, effectOf, outcomeOf, recordsAfter, listAfter, accessed, accessOf}
-use Rattle.machine.specs.Step.{operate, carryOut, tablesLeft, accept, step}
+use Rattle.cache.specs.Cache.{leaving}
+use Rattle.machine.specs.Step.{operateBy, carryOutBy, carryOut, tablesLeft, accept, step}
+use Rattle.machine.proofs.StoreLaws.{carryOut-kept}
 use Rattle.machine.proofs.StepLaws.{cleared, lengths-clear, store-clear, tables-clear, buffer-length, Tested, effect-tested, part-ready, evict-ready, step-accepted}
 use Rattle.consistency.proofs.Map.{map-clear}
-use Rattle.consistency.proofs.Operations.{ordered-kept}
 use Rattle.demands.specs.Demands.{ByTable, ByEnd, Modelled, Left}
 use Rattle.demands.proofs.Instructions.{instruction-cache-after}
 
@@ -93,8 +94,10 @@ module _ (b : Board) (st : State) where
 -- the store after an effect's orders
 effect-ordered : (b : Board) → Regular b → (st : State) → WellFormedTables b (st .tables) → hardware.WellFormedStore b (st .store)
     → (x : Effect) → Tested b (st .tables .records) x → hardware.WellFormedStore b (carryOut b (outcomeOf b (st .tables .records) x) (st .store))
-unfolding carryOut operate
-effect-ordered b reg st w kept (steps f s) r = ordered-kept b reg f (r .0) (st .store) kept s (recordAt (st .tables .records) f) (record-rules b (st .tables) (w .1) f (r .0))
+unfolding carryOutBy operateBy
+effect-ordered b reg st w kept (steps f s) r =
+    let below = operations-below (b .colours) s (recordAt (st .tables .records) f) in
+    carryOut-kept b reg leaving f (r .0) (stepped (b .colours) s (recordAt (st .tables .records) f) .ops) (below .1) (below .2) (st .store) kept
 effect-ordered b reg st w kept (ends f) r = kept
 effect-ordered b reg st w kept nothing r = kept
 

@@ -10,6 +10,7 @@ use Rattle.edges.proofs.Order.{order-holds}
 use Rattle.edges.specs.Cells.{cells, instructionCells}
 use Rattle.edges.specs.DirtyColours.{dirtyColours}
 use Rattle.edges.specs.Fetches.{fetches}
+use Rattle.edges.specs.Flushes.{flushes}
 use Rattle.edges.specs.Lists.{lists}
 use Rattle.edges.specs.Order.{order}
 use Rattle.edges.specs.Rows.{Row, EveryRowHolds}
@@ -42,17 +43,22 @@ fetches-hold : EveryRowHolds fetches
 unfolding opened
 fetches-hold = (refl, (refl, (refl, (refl, (refl, (refl, (refl, (refl, (refl, (refl, (refl, (refl, (refl, (refl, (refl, (refl, (refl, (refl, (refl, (refl, (refl, (refl, (refl, (refl, (refl, (refl, (refl, (refl, (refl, (refl, (refl, (refl, (refl, (refl, (refl, (refl, (refl, (refl, (refl, (refl, (refl, (refl, (refl, (refl, (refl, (refl, (refl, (refl, tt))))))))))))))))))))))))))))))))))))))))))))))))
 
+flushes-hold : EveryRowHolds flushes
+unfolding opened
+flushes-hold = (refl, (refl, (refl, (refl, (refl, (refl, (refl, (refl, (refl, (refl, (refl, (refl, (refl, (refl, (refl, (refl, (refl, tt)))))))))))))))))
+
 -- the rows of the requests and of the page model
 abbrev requests : List Row
-requests = lists ++ (order ++ (transfers ++ (dirtyColours ++ (fetches ++ (cells ++ instructionCells)))))
+requests = lists ++ (order ++ (transfers ++ (dirtyColours ++ (fetches ++ (flushes ++ (cells ++ instructionCells))))))
 
 requests-hold : EveryRowHolds requests
 requests-hold =
-    both-hold lists (order ++ (transfers ++ (dirtyColours ++ (fetches ++ (cells ++ instructionCells))))) lists-hold
-    (both-hold order (transfers ++ (dirtyColours ++ (fetches ++ (cells ++ instructionCells)))) order-holds
-    (both-hold transfers (dirtyColours ++ (fetches ++ (cells ++ instructionCells))) transfers-hold
-    (both-hold dirtyColours (fetches ++ (cells ++ instructionCells)) dirty-colours-hold
-    (both-hold fetches (cells ++ instructionCells) fetches-hold (both-hold cells instructionCells cells-hold instruction-cells-hold)))))
+    both-hold lists (order ++ (transfers ++ (dirtyColours ++ (fetches ++ (flushes ++ (cells ++ instructionCells)))))) lists-hold
+    (both-hold order (transfers ++ (dirtyColours ++ (fetches ++ (flushes ++ (cells ++ instructionCells))))) order-holds
+    (both-hold transfers (dirtyColours ++ (fetches ++ (flushes ++ (cells ++ instructionCells)))) transfers-hold
+    (both-hold dirtyColours (fetches ++ (flushes ++ (cells ++ instructionCells))) dirty-colours-hold
+    (both-hold fetches (flushes ++ (cells ++ instructionCells)) fetches-hold
+    (both-hold flushes (cells ++ instructionCells) flushes-hold (both-hold cells instructionCells cells-hold instruction-cells-hold))))))
 
 cases-hold : EveryRowHolds cases
 unfolding opened

@@ -1,6 +1,6 @@
--- Document 01, "The page model": both tables, request N3's row, request N6's two and request N8's, and N8's table of the instruction colours, cell by
--- cell in their order, as rows. Each speaks of the cases by number that the contracts of `page_model::table::case_at` and `instruction_case_at` name,
--- and so of the code too.
+-- Document 01, "The page model": both tables, request N3's row, request N6's two and request N8's, with request N9's states after a flush, and N8's
+-- table of the instruction colours, cell by cell in their order, as rows. Each speaks of the cases by number that the contracts of
+-- `page_model::table::case_at` and `instruction_case_at` name, and so of the code too.
 use mathlib.Core.Bool.{Bool, true, false}
 use mathlib.Core.List.{List, [], _∷_, _++_}
 use Prim.Native.Nat.{ℕ}
@@ -65,7 +65,7 @@ cells =
     ∷ atOwn read stale (purge ⇒ present)
     ∷ atOther read empty (none ⇒ empty)
     ∷ atOther read present (none ⇒ present)
-    ∷ atOther read dirty (flush ⇒ empty)
+    ∷ atOther read dirty (flush ⇒ present)
     ∷ atOther read stale (none ⇒ stale)
     -- processor write
     ∷ atOwn write empty (none ⇒ dirty)
@@ -74,12 +74,12 @@ cells =
     ∷ atOwn write stale (purge ⇒ dirty)
     ∷ atOther write empty (none ⇒ empty)
     ∷ atOther write present (none ⇒ stale)
-    ∷ atOther write dirty (flush ⇒ empty)
+    ∷ atOther write dirty (flush ⇒ stale)
     ∷ atOther write stale (none ⇒ stale)
     -- device read (memory to device)
     ∷ atEvery deviceRead empty (none ⇒ empty)
     ∷ atEvery deviceRead present (none ⇒ present)
-    ∷ atEvery deviceRead dirty (flush ⇒ empty)
+    ∷ atEvery deviceRead dirty (flush ⇒ present)
     ∷ atEvery deviceRead stale (none ⇒ stale)
     -- device write (device to memory)
     ∷ atEvery deviceWrite empty (none ⇒ empty)
@@ -89,22 +89,22 @@ cells =
     -- part transfer
     ∷ atEvery deviceWritePart empty (none ⇒ empty)
     ∷ atEvery deviceWritePart present (none ⇒ stale)
-    ∷ atEvery deviceWritePart dirty (flush ⇒ empty)
+    ∷ atEvery deviceWritePart dirty (flush ⇒ stale)
     ∷ atEvery deviceWritePart stale (none ⇒ stale)
     -- begin read
     ∷ atEvery beginRead empty (none ⇒ empty)
     ∷ atEvery beginRead present (none ⇒ present)
-    ∷ atEvery beginRead dirty (flush ⇒ empty)
+    ∷ atEvery beginRead dirty (flush ⇒ present)
     ∷ atEvery beginRead stale (none ⇒ stale)
     -- begin write
     ∷ atEvery beginWrite empty (none ⇒ empty)
     ∷ atEvery beginWrite present (none ⇒ stale)
-    ∷ atEvery beginWrite dirty (flush ⇒ empty)
+    ∷ atEvery beginWrite dirty (flush ⇒ stale)
     ∷ atEvery beginWrite stale (none ⇒ stale)
     -- fetch
     ∷ atEvery fetch empty (none ⇒ empty)
     ∷ atEvery fetch present (none ⇒ present)
-    ∷ atEvery fetch dirty (flush ⇒ empty)
+    ∷ atEvery fetch dirty (flush ⇒ present)
     ∷ atEvery fetch stale (none ⇒ stale)
     ∷ []
 

@@ -31,15 +31,15 @@ dirtyColours =
     -- at the start; after a write through colour 2, which an unmap leaves, and then one through colour 1; after a read through another colour
     ∷ (numbers (recordOf 5 fresh) gives numbers (0 ∷ 0 ∷ 0 ∷ 0 ∷ 8 ∷ 0 ∷ 0 ∷ []))
     ∷ (numbers (recordOf 5 (after wroteLast (unmap 0 2 ∷ []))) gives numbers (4 ∷ 0 ∷ 1 ∷ 0 ∷ 2 ∷ 0 ∷ 0 ∷ []))
-    ∷ (numbers (recordOf 5 (after wroteLast (map 0 1 5 2 ∷ write 0 1 3 43 ∷ []))) gives numbers (2 ∷ 0 ∷ 1 ∷ 0 ∷ 1 ∷ 0 ∷ 0 ∷ []))
-    ∷ (numbers (recordOf 5 (after wroteLast (map 0 1 5 2 ∷ read 0 1 3 ∷ []))) gives numbers (2 ∷ 0 ∷ 0 ∷ 0 ∷ 8 ∷ 0 ∷ 0 ∷ []))
+    ∷ (numbers (recordOf 5 (after wroteLast (map 0 1 5 2 ∷ write 0 1 3 43 ∷ []))) gives numbers (2 ∷ 4 ∷ 1 ∷ 0 ∷ 1 ∷ 0 ∷ 0 ∷ []))
+    ∷ (numbers (recordOf 5 (after wroteLast (map 0 1 5 2 ∷ read 0 1 3 ∷ []))) gives numbers (6 ∷ 0 ∷ 0 ∷ 0 ∷ 8 ∷ 0 ∷ 0 ∷ []))
     -- after each transfer of the dirty page, and at the end of one that was begun
-    ∷ (numbers (recordOf 5 (after wroteLast (deviceRead 5 (replicate 64 0) ∷ []))) gives numbers (0 ∷ 0 ∷ 0 ∷ 0 ∷ 8 ∷ 0 ∷ 0 ∷ []))
+    ∷ (numbers (recordOf 5 (after wroteLast (deviceRead 5 (replicate 64 0) ∷ []))) gives numbers (4 ∷ 0 ∷ 0 ∷ 0 ∷ 8 ∷ 0 ∷ 0 ∷ []))
     ∷ (numbers (recordOf 5 (after wroteLast (deviceWrite 5 (replicate 64 7) ∷ []))) gives numbers (0 ∷ 0 ∷ 0 ∷ 0 ∷ 8 ∷ 0 ∷ 0 ∷ []))
-    ∷ (numbers (recordOf 5 (after wroteLast (sevens 0 12 ∷ []))) gives numbers (0 ∷ 0 ∷ 0 ∷ 0 ∷ 8 ∷ 0 ∷ 0 ∷ []))
-    ∷ (numbers (recordOf 5 (after wroteLast (beginWrite 5 ∷ []))) gives numbers (0 ∷ 0 ∷ 0 ∷ 2 ∷ 8 ∷ 0 ∷ 0 ∷ []))
-    ∷ (numbers (recordOf 5 (after wroteLast (beginRead 5 ∷ endTransfer 5 ∷ []))) gives numbers (0 ∷ 0 ∷ 0 ∷ 0 ∷ 8 ∷ 0 ∷ 0 ∷ []))
+    ∷ (numbers (recordOf 5 (after wroteLast (sevens 0 12 ∷ []))) gives numbers (0 ∷ 4 ∷ 0 ∷ 0 ∷ 8 ∷ 0 ∷ 0 ∷ []))
+    ∷ (numbers (recordOf 5 (after wroteLast (beginWrite 5 ∷ []))) gives numbers (0 ∷ 4 ∷ 0 ∷ 2 ∷ 8 ∷ 0 ∷ 0 ∷ []))
+    ∷ (numbers (recordOf 5 (after wroteLast (beginRead 5 ∷ endTransfer 5 ∷ []))) gives numbers (4 ∷ 0 ∷ 0 ∷ 0 ∷ 8 ∷ 0 ∷ 0 ∷ []))
     -- the dump of docs/KERNEL.md, in frame 0: a read through colour 1
     ∷ (answers (ask (recordedBoth 4 3 1 0 2 0 34) (map 0 1 0 1 ∷ read 0 1 0 ∷ [])) gives answers (done ∷ accepts 0 (record { first = Flush 2; second = Purge 1 }) (some 0) ∷ []))
-    ∷ (numbers (recordOf 0 (after (recordedBoth 4 3 1 0 2 0 34) (map 0 1 0 1 ∷ read 0 1 0 ∷ []))) gives numbers (2 ∷ 1 ∷ 0 ∷ 0 ∷ 8 ∷ 0 ∷ 34 ∷ []))
+    ∷ (numbers (recordOf 0 (after (recordedBoth 4 3 1 0 2 0 34) (map 0 1 0 1 ∷ read 0 1 0 ∷ []))) gives numbers (6 ∷ 1 ∷ 0 ∷ 0 ∷ 8 ∷ 0 ∷ 34 ∷ []))
     ∷ []

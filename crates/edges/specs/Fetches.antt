@@ -31,14 +31,14 @@ fetches =
     ∷ (answers (ask (recordedBoth 0 0 0 2 8 4 0) (map 0 0 0 1 ∷ [])) gives answers (refuses 2 ∷ []))
     ∷ (answers (ask (recordedBoth 0 0 0 2 8 0 4) (map 0 0 0 1 ∷ [])) gives answers (done ∷ []))
     ∷ (answers (ask (recordedBoth 6 0 0 1 8 4 0) (map 0 0 0 1 ∷ [])) gives answers (done ∷ []))
-    -- a fetch flushes the dirty colour, its own included, which is then empty; held and stale colours stay
+    -- a fetch flushes the dirty colour, its own included, which is then held (request N9); held and stale colours stay
     ∷ (answers (ask overlay (write 0 2 3 42 ∷ fetch 0 10 3 ∷ fetch 0 10 3 ∷ [])) gives answers (written 5 ∷ accepts 5 (only (Flush 2)) (some 42) ∷ finds 5 42 ∷ []))
-    ∷ (numbers (recordOf 5 (after overlay (write 0 2 3 42 ∷ fetch 0 10 3 ∷ []))) gives numbers (0 ∷ 0 ∷ 0 ∷ 0 ∷ 8 ∷ 4 ∷ 0 ∷ []))
+    ∷ (numbers (recordOf 5 (after overlay (write 0 2 3 42 ∷ fetch 0 10 3 ∷ []))) gives numbers (4 ∷ 0 ∷ 0 ∷ 0 ∷ 8 ∷ 4 ∷ 0 ∷ []))
     ∷ (answers (ask overlay (map 0 3 5 3 ∷ write 0 2 3 42 ∷ fetch 0 3 3 ∷ [])) gives answers (done ∷ written 5 ∷ accepts 5 (only (Flush 2)) (some 42) ∷ []))
     ∷ (numbers (recordOf 0 (after (recordedBoth 6 40 0 0 8 64 128) (map 0 1 0 3 ∷ fetch 0 1 0 ∷ []))) gives numbers (6 ∷ 40 ∷ 0 ∷ 0 ∷ 8 ∷ 66 ∷ 128 ∷ []))
     -- it purges its colour in the instruction cache if that is stale there, after the flush; the others stay (the dump of docs/KERNEL.md, in frame 0)
     ∷ (answers (ask (recordedBoth 4 3 1 0 2 0 34) (map 0 1 0 3 ∷ fetch 0 1 0 ∷ [])) gives answers (done ∷ accepts 0 (record { first = Flush 2; second = PurgeInstructions 1 }) (some 0) ∷ []))
-    ∷ (numbers (recordOf 0 (after (recordedBoth 4 3 1 0 2 0 34) (map 0 1 0 3 ∷ fetch 0 1 0 ∷ []))) gives numbers (0 ∷ 3 ∷ 0 ∷ 0 ∷ 8 ∷ 2 ∷ 32 ∷ []))
+    ∷ (numbers (recordOf 0 (after (recordedBoth 4 3 1 0 2 0 34) (map 0 1 0 3 ∷ fetch 0 1 0 ∷ []))) gives numbers (4 ∷ 3 ∷ 0 ∷ 0 ∷ 8 ∷ 2 ∷ 32 ∷ []))
     -- a write, a device's write of a page and of a part, and a begin write make it stale and order nothing for it; the next fetch finds the new word
     ∷ (answers (ask fetchedOnce (write 0 2 3 9 ∷ fetch 0 10 3 ∷ [])) gives answers (written 5 ∷ accepts 5 (record { first = Flush 2; second = PurgeInstructions 2 }) (some 9) ∷ []))
     ∷ (answers (ask fetchedOnce (deviceWrite 5 (replicate 64 7) ∷ fetch 0 10 3 ∷ [])) gives answers (written 5 ∷ accepts 5 (only (PurgeInstructions 2)) (some 7) ∷ []))
@@ -51,7 +51,7 @@ fetches =
     ∷ (numbers (recordOf 5 (after fetchedOnce (deviceRead 5 (replicate 64 0) ∷ []))) gives numbers (0 ∷ 0 ∷ 0 ∷ 0 ∷ 8 ∷ 4 ∷ 0 ∷ []))
     -- the word comes through the instruction cache: its line is filled, the data line and memory stay, and a word that lies there is found though the data
     -- line has another
-    ∷ (numbers (offsetThree (after overlay (write 0 2 3 42 ∷ fetch 0 10 3 ∷ []))) gives numbers (0 ∷ 42 ∷ 6 ∷ 42 ∷ 42 ∷ []))
+    ∷ (numbers (offsetThree (after overlay (write 0 2 3 42 ∷ fetch 0 10 3 ∷ []))) gives numbers (6 ∷ 42 ∷ 6 ∷ 42 ∷ 42 ∷ []))
     ∷ (numbers (offsetThree (after fetchedOnce (write 0 2 3 9 ∷ []))) gives numbers (134 ∷ 9 ∷ 6 ∷ 0 ∷ 0 ∷ []))
     -- one line is filled and no other; a purge empties the frame's lines of the colour and no other frame's
     ∷ (numbers (fetchedOnce .store .tags) gives numbers (replicate 80 0 ++ (6 ∷ replicate 47 0)))

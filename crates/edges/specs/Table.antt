@@ -2,7 +2,7 @@
 -- of request N1, the order of N2, the parts of N3, the transfers of N6, the dirty colours of N7 and the fetches of N8; a sheet of each kind of
 -- step and every cell of the page model. Each row is a case and what it must give, and every row holds.
 use mathlib.Core.List.{List, [], _∷_, _++_}
-use mathlib.Core.Option.{none}
+use mathlib.Core.Option.{none, some}
 use Prim.Native.Nat.{_+_, _*_}
 use lib.ListN.{replicate, getD}
 use Rattle.bits.specs.Mask.{digit}
@@ -17,6 +17,7 @@ use Rattle.edges.specs.Calls.{ask, map, unmap, read, write, deviceWrite,
 use Rattle.edges.specs.Cells.{cells, instructionCells}
 use Rattle.edges.specs.DirtyColours.{dirtyColours}
 use Rattle.edges.specs.Fetches.{fetches}
+use Rattle.edges.specs.Flushes.{flushes}
 use Rattle.edges.specs.Lists.{lists}
 use Rattle.edges.specs.Order.{order}
 use Rattle.edges.specs.Rows.{text, answers, outcome, numbers, Row, _gives_, EveryRowHolds}
@@ -83,9 +84,9 @@ cases =
     ∷ (answers (ask (tagged 192) (evict 0 ∷ map 0 0 63 1 ∷ read 0 0 0 ∷ [])) gives answers (done ∷ done ∷ finds 63 77 ∷ []))
     -- a part's words up to offset 63 are accepted; one more, or none, gets 13
     ∷ (answers (ask fresh (sevens 52 12 ∷ sevens 53 12 ∷ sevens 63 1 ∷ sevens 64 1 ∷ sevens 0 65 ∷ sevens 52 0 ∷ [])) gives answers (written 5 ∷ refuses 13 ∷ written 5 ∷ refuses 13 ∷ refuses 13 ∷ refuses 13 ∷ []))
-    -- all 64 words from 0 over a dirty page: one purge; 63 words: one flush, and the word that was not sent survives
+    -- all 64 words from 0 over a dirty page: one purge; 63 words: one flush, after which the page is stale, and the word that was not sent survives
     ∷ (answers (ask wroteLast (sevens 0 64 ∷ read 0 2 63 ∷ [])) gives answers (accepts 5 (only (Purge 2)) none ∷ finds 5 7 ∷ []))
-    ∷ (answers (ask wroteLast (sevens 0 63 ∷ read 0 2 63 ∷ read 0 2 62 ∷ [])) gives answers (accepts 5 (only (Flush 2)) none ∷ finds 5 42 ∷ finds 5 7 ∷ []))
+    ∷ (answers (ask wroteLast (sevens 0 63 ∷ read 0 2 63 ∷ read 0 2 62 ∷ [])) gives answers (accepts 5 (only (Flush 2)) none ∷ accepts 5 (only (Purge 2)) (some 42) ∷ finds 5 7 ∷ []))
     ∷ []
 
 -- a sheet of each kind of step
@@ -122,10 +123,10 @@ kinds =
     ∷ (text (sheetText board01 overlaySheet) gives text overlayText)
     ∷ []
 
--- these, request N1's lists of mappings, request N2's order, request N6's transfers, request N7's dirty colours, request N8's fetches, and the cells of the
--- page model
+-- these, request N1's lists of mappings, request N2's order, request N6's transfers, request N7's dirty colours, request N8's fetches, request N9's
+-- flushes, and the cells of the page model
 abbrev pub table : List Row
-table = cases ++ (kinds ++ (lists ++ (order ++ (transfers ++ (dirtyColours ++ (fetches ++ (cells ++ instructionCells)))))))
+table = cases ++ (kinds ++ (lists ++ (order ++ (transfers ++ (dirtyColours ++ (fetches ++ (flushes ++ (cells ++ instructionCells))))))))
 
 -- every row of the table holds
 abbrev pub Edges : Type 0

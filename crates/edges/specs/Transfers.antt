@@ -31,8 +31,8 @@ transfers =
     ∷ (answers (ask (recorded 0 0 0 3 8) (map 0 0 0 1 ∷ [])) gives answers (refuses 2 ∷ []))
     -- begin read over a dirty page: one flush, and its word is taken; until the end the page is read and not written
     ∷ (answers (ask wroteLast (beginRead 5 ∷ takeWord 5 63 ∷ read 0 2 63 ∷ write 0 2 63 43 ∷ endTransfer 5 ∷ write 0 2 63 43 ∷ [])) gives answers (accepts 5 (only (Flush 2)) none ∷ takes 42 ∷ finds 5 42 ∷ refuses 15 ∷ done ∷ written 5 ∷ []))
-    -- begin write over a dirty page: one flush; until the end the page is neither read nor written
-    ∷ (answers (ask wroteLast (beginWrite 5 ∷ bringWord 5 62 7 ∷ read 0 2 62 ∷ write 0 2 62 43 ∷ endTransfer 5 ∷ read 0 2 62 ∷ read 0 2 63 ∷ [])) gives answers (accepts 5 (only (Flush 2)) none ∷ done ∷ refuses 15 ∷ refuses 15 ∷ done ∷ finds 5 7 ∷ finds 5 42 ∷ []))
+    -- begin write over a dirty page: one flush, and the page is stale; until the end it is neither read nor written
+    ∷ (answers (ask wroteLast (beginWrite 5 ∷ bringWord 5 62 7 ∷ read 0 2 62 ∷ write 0 2 62 43 ∷ endTransfer 5 ∷ read 0 2 62 ∷ read 0 2 63 ∷ [])) gives answers (accepts 5 (only (Flush 2)) none ∷ done ∷ refuses 15 ∷ refuses 15 ∷ done ∷ accepts 5 (only (Purge 2)) (some 7) ∷ finds 5 42 ∷ []))
     -- begin write over a held page, which goes stale: the read after the end is purged first
     ∷ (answers (ask readOnce (beginWrite 5 ∷ bringWord 5 3 7 ∷ endTransfer 5 ∷ read 0 2 3 ∷ [])) gives answers (begun 5 ∷ done ∷ done ∷ accepts 5 (only (Purge 2)) (some 7) ∷ []))
     -- frame 63 is accepted, 64 gets 4

@@ -16,7 +16,7 @@ use Rattle.machine.specs.Call.{afterItems, itemAnswer, callCauses, callB
 use Rattle.machine.specs.Refusals.{causes}
 use Rattle.machine.specs.State.{State, Single, map, Call, single, mapAll, Result, lentBuffer}
 use Rattle.machine.specs.Parts.{Effect, steps, ends, nothing, effectOf, outcomeOf}
-use Rattle.machine.specs.Step.{operate, carryOut, answer, result, accept, step}
+use Rattle.machine.specs.Step.{operateBy, carryOutBy, answer, result, accept, step}
 
 -- what a call is where it is accepted
 abbrev pub acceptCall : Board → State → Call → Result
@@ -26,7 +26,7 @@ acceptCall b st (mapAll items answers) =
 
 -- ---- by its refusal
 
-by-refusal : (made : Result) (buffer : List ℕ) (st : State) (P : Result → Type 0) (n : ℕ) → (n ≡ 0 → P made)
+pub by-refusal : (made : Result) (buffer : List ℕ) (st : State) (P : Result → Type 0) (n : ℕ) → (n ≡ 0 → P made)
     → ((k : ℕ) → n ≡ suc k → P (result (answer (refused (suc k)) none buffer) st))
     → P (elim n as (λ _. Result) [ zero ↦ made | suc k ↦ result (answer (refused (suc k)) none buffer) st ])
 by-refusal made buffer st P zero taken left = taken refl
@@ -77,5 +77,5 @@ refused-number b st call =
 
 -- a map leaves memory and cache as they were
 pub map-store : (b : Board) (st : State) (space page frame rights : ℕ) → step b st (map space page frame rights) .after .store ≡ st .store
-unfolding perform accept carryOut operate
+unfolding perform accept carryOutBy operateBy
 map-store b st space page frame rights = perform-cases b st (single (map space page frame rights)) (λ r. r .after .store ≡ st .store) (λ _. refl) (λ n _. refl)

@@ -33,11 +33,11 @@ unfolding refusals.firstRefusal manager-tables.recordAt manager-tables.putRecord
 tables-opened = tt
 
 hardware-opened : Unit {0}
-unfolding hardware.flush hardware.purge hardware.readWord hardware.writeWord hardware.deviceRead hardware.deviceWrite hardware.bringWord tag.tagsKeepRules
+unfolding hardware.evict hardware.flushBy hardware.purge hardware.readWord hardware.writeWord hardware.deviceRead hardware.deviceWrite hardware.bringWord tag.tagsKeepRules
 hardware-opened = tt
 
 calls-opened : Unit {0}
-unfolding machine-refusals.causes machine-step.carryOut machine-step.step machine-call.perform
+unfolding machine-refusals.causes machine-step.carryOutBy machine-step.step machine-call.perform
 calls-opened = tt
 
 unfoldable pub opened : Unit {0}

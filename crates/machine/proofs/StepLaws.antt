@@ -33,7 +33,7 @@ use Rattle.machine.specs.Scaffold.Ready.{OperationsReady, AccessReady, T
 use Rattle.machine.specs.Refusals.{storeLengths, bufferRight, causes}
 use Rattle.machine.specs.State.{State, state, Single, map, unmap, read, write, deviceRead, deviceWrite, deviceWritePart, evict, beginRead, beginWrite, bringWord, takeWord, endTransfer, fetch, Result, lentBuffer}
 use Rattle.machine.specs.Parts.{Effect, steps, ends, nothing, effectOf, outcomeOf, Access, accessed, accessOf}
-use Rattle.machine.specs.Step.{operate, carryOut, answer, result, tablesLeft, accept, step}
+use Rattle.machine.specs.Step.{operateBy, carryOutBy, carryOut, answer, result, tablesLeft, accept, step}
 use Rattle.machine.specs.Scaffold.Plans.{planStep, planPlace, refusalOf, placeRefusal}
 use Rattle.machine.proofs.StoreLaws.{well-formed}
 
@@ -291,7 +291,7 @@ module _ (b : Board) (st : State) (call : Single) where
       → t ≡ tablesLeft b st call
       → s ≡ accessOf b st call (st .store) .store
       → result (answer o w l) (state t s) ≡ step b st call
-  unfolding accept carryOut operate
+  unfolding accept carryOutBy operateBy
   plain-made e unordered eo ew el et es = made eo ew el et es ∙ ap taken (sym unordered) ∙ step-accepted b st call e
     where
       taken : Outcome → Result

@@ -15,11 +15,12 @@ use Rattle.page_model.specs.declared.Ops.{Ops}
 use Rattle.page_model.specs.Step.{OpBelow}
 use Rattle.manager.specs.Answers.{operationOn, accepted}
 use Rattle.cache.specs.Store.{Store, WellFormedStore}
+use Rattle.cache.specs.Cache.{FlushKind, leaving}
 use Rattle.cache.specs.Tag.{tagsKeepRules}
 use Rattle.cache.proofs.Laws.Operations.{flush-kept, purge-kept}
 use Rattle.machine.specs.Scaffold.Ready.{AccessReady}
 use Rattle.machine.specs.Refusals.{storeLengths}
-use Rattle.machine.specs.Step.{operate, carryOut}
+use Rattle.machine.specs.Step.{operateBy, carryOutBy, carryOut}
 
 module _ (b : Board) (s : Store) where
   pub lengths-memory : eqb (length (s .memory)) (memoryWords b) ≡ false → storeLengths b s ≡ false
@@ -51,23 +52,23 @@ module _ (b : Board) (s : Store) where
 
 -- ---- a frame's operations, and the access after them
 
--- an operation on a frame leaves a store of its lengths, whose tags keep the rules
-pub operate-kept : (b : Board) → Regular b → (f : ℕ) → f < b .frames → (op : Op) → OpBelow (b .colours) op → (s : Store) → WellFormedStore b s
-    → WellFormedStore b (operate b (operationOn f op) s)
-unfolding operate
-operate-kept b reg f hf None below s wf = wf
-operate-kept b reg f hf (Flush c) below s wf = flush-kept b reg f c hf (data-page b reg c below) s wf
-operate-kept b reg f hf (Purge c) below s wf = purge-kept b reg f c (data-page b reg c below) s wf
-operate-kept b reg f hf (PurgeInstructions c) below s wf = purge-kept b reg f (instructionPage b c) (instruction-page b reg c below) s wf
+module _ (b : Board) (reg : Regular b) (how : FlushKind) (f : ℕ) (hf : f < b .frames) where
+  -- an operation on a frame, by either flush, leaves a store of its lengths, whose tags keep the rules
+  pub operate-kept : (op : Op) → OpBelow (b .colours) op → (s : Store) → WellFormedStore b s → WellFormedStore b (operateBy b how (operationOn f op) s)
+  unfolding operateBy
+  operate-kept None below s wf = wf
+  operate-kept (Flush c) below s wf = flush-kept b reg how f c hf (data-page b reg c below) s wf
+  operate-kept (Purge c) below s wf = purge-kept b reg f c (data-page b reg c below) s wf
+  operate-kept (PurgeInstructions c) below s wf = purge-kept b reg f (instructionPage b c) (instruction-page b reg c below) s wf
 
--- and so do two
-pub carryOut-kept : (b : Board) → Regular b → (f : ℕ) → f < b .frames → (ops : Ops) → OpBelow (b .colours) (ops .first) → OpBelow (b .colours) (ops .second)
-    → (s : Store) → WellFormedStore b s → WellFormedStore b (carryOut b (accepted f ops) s)
-unfolding carryOut
-carryOut-kept b reg f hf ops first second s wf = operate-kept b reg f hf (ops .second) second _ (operate-kept b reg f hf (ops .first) first s wf)
+  -- and so do two
+  pub carryOut-kept : (ops : Ops) → OpBelow (b .colours) (ops .first) → OpBelow (b .colours) (ops .second) → (s : Store) → WellFormedStore b s
+      → WellFormedStore b (carryOutBy b how (accepted f ops) s)
+  unfolding carryOutBy
+  carryOut-kept ops first second s wf = operate-kept (ops .second) second _ (operate-kept (ops .first) first s wf)
 
 -- so an access may follow them
 pub access-follows : (b : Board) (f : ℕ) (ops : Ops) (colour offset : ℕ) {s s′ : Store} → AccessReady b s f ops colour offset → s′ ≡ carryOut b (accepted f ops) s
     → WellFormedStore b s′ × (f < b .frames) × (colour < cachePages b) × (offset < b .page) × Regular b
 access-follows b f ops colour offset r e =
-    (subst⁻¹ (WellFormedStore b) e (carryOut-kept b (r .6) f (r .1) ops (r .2) (r .3) _ (r .0)), r .1, r .4, r .5, r .6)
+    (subst⁻¹ (WellFormedStore b) e (carryOut-kept b (r .6) leaving f (r .1) ops (r .2) (r .3) _ (r .0)), r .1, r .4, r .5, r .6)

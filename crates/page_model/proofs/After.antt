@@ -1,5 +1,5 @@
 -- What the record after a step says: it keeps the rules, if its mark did not bar the step, and each colour's state is its cell's.
-use mathlib.Core.Path.{_≡_, refl, sym, ap, _∙_}
+use mathlib.Core.Path.{_≡_, refl, sym, ap, ap₂, _∙_}
 use mathlib.Core.Bool.{Bool, true, false, not, _&&_, _||_, false≢true, and-false}
 use Prim.Native.Nat.{ℕ, _<_}
 use native.Mathlib.Omega.{arith}
@@ -14,15 +14,20 @@ use Rattle.page_model.specs.Step.{cellOf, instructionCellOf, recordAfter
 use Rattle.page_model.specs.Table.{ColourState, Step, read, write, deviceRead, deviceWrite, deviceWritePart, beginRead, beginWrite, fetch}
 use Rattle.page_model.specs.Instructions.{InstructionState, InstructionCell}
 use Rattle.page_model.specs.Theorems.{StepKeepsRules, StateAfter, InstructionStateAfter, OneDirty, MarkFits}
-use Rattle.page_model.proofs.Rules.{Keeps, keeps, flag}
+use Rattle.page_model.proofs.Rules.{Keeps, keeps, flag, dirty-at}
 use Rattle.page_model.proofs.Cells.{Agree, apart, stateTest, nextTest, at-law, kept-next}
 use Rattle.page_model.proofs.Instructions.{left-stays, never-held, beside-held}
 use Rattle.page_model.proofs.Encoding.{kept-mark, decode-encode}
 
-own-left : (o h : Bool) {d : Bool} → d ≡ true → (o || h && not d) ≡ true → o ≡ true
-own-left true h z e = refl
-own-left false true z e = ap not (sym z) ∙ e
-own-left false false z e = e
+-- of two colours the dirty one, and another that is the own one or held
+own-or-held : (n : ℕ) (r : FrameRecord) → Keeps n r → (c k : ℕ) → (flag r && bit (r .masks .held) c) ≡ true → (eqb c k || bit (r .masks .held) k) ≡ true → c ≡ k
+own-or-held n r kr c k d e = go (eqb c k) refl e
+  where
+    go : (o : Bool) → eqb c k ≡ o → (o || bit (r .masks .held) k) ≡ true → c ≡ k
+    go true q e = eqb-true c k q
+    go false q e =
+        let is : (j : ℕ) → (flag r && bit (r .masks .held) j) ≡ true → r .«dirty_colour» ≡ j = λ j h. eqb-true (r .«dirty_colour») j (and-right (flag r) _ (sym (dirty-at n r kr j) ∙ h)) in
+        sym (is c d) ∙ is k (ap₂ _&&_ (and-left (flag r) _ d) e)
 
 -- a step that leaves no colour dirty
 no-dirty : (n : ℕ) (step : Step) (r : FrameRecord) → Keeps n r → Agree apart (λ o s h d. false) (nextTest step isDirty) → OneDirty n (λ k. cellOf step r k .next)
@@ -32,9 +37,10 @@ no-dirty n step r kr e j k lj lk ej ek = absurd (false≢true (kept-next n r kr 
 one-dirty : (n : ℕ) (step : Step) (r : FrameRecord) → Keeps n r → OneDirty n (λ k. cellOf step r k .next)
 one-dirty n (read c) r kr j k lj lk ej ek =
     let next = kept-next n r kr (read c) in
-    let dj : (eqb c j && (bit (r .masks .held) j && flag r)) ≡ true = next isDirty (λ o s h d. o && (h && d)) refl j lj ∙ ap isDirty ej in
-    let hk : (eqb c k || bit (r .masks .held) k && not (flag r)) ≡ true = next isHeld (λ o s h d. o || h && not d) refl k lk ∙ ek in
-    sym (eqb-true c j (and-left _ _ dj)) ∙ eqb-true c k (own-left _ (bit (r .masks .held) k) (and-right (bit (r .masks .held) j) _ (and-right (eqb c j) _ dj)) hk)
+    let dj : (eqb c j && (flag r && bit (r .masks .held) j)) ≡ true = next isDirty (λ o s h d. o && (d && h)) refl j lj ∙ ap isDirty ej in
+    let hk : (eqb c k || bit (r .masks .held) k) ≡ true = next isHeld (λ o s h d. o || h) refl k lk ∙ ek in
+    let own : c ≡ j = eqb-true c j (and-left _ _ dj) in
+    sym own ∙ own-or-held n r kr c k (ap (λ (x : ℕ). flag r && bit (r .masks .held) x) own ∙ and-right (eqb c j) _ dj) hk
 one-dirty n (write c) r kr j k lj lk ej ek =
     let next = kept-next n r kr (write c) in
     sym (eqb-true c j (next isDirty (λ o s h d. o) refl j lj ∙ ap isDirty ej)) ∙ eqb-true c k (next isHeld (λ o s h d. o) refl k lk ∙ ek)

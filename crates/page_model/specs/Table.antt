@@ -1,5 +1,6 @@
--- Document 01, "The page model": both tables, cell by cell, in its order of steps and states; request N3's transfer of a part, request
--- N6's beginnings and request N8's fetch stand last.
+-- Document 01, "The page model": both tables, cell by cell, in its order of steps and states; request N3's transfer of a part, request N6's beginnings
+-- and request N8's fetch stand last. A flush leaves a colour's lines in (request N9), so that the colour is present after it, or stale where what it
+-- is flushed for writes.
 use mathlib.Core.Bool.{Bool, true, false}
 use Prim.Native.Nat.{ℕ, suc}
 use lib.Dec.{eqb}
@@ -34,7 +35,7 @@ readCell own dirty = none ⇒ dirty
 readCell own stale = purge ⇒ present
 readCell other empty = none ⇒ empty
 readCell other present = none ⇒ present
-readCell other dirty = flush ⇒ empty
+readCell other dirty = flush ⇒ present
 readCell other stale = none ⇒ stale
 
 abbrev pub writeCell : Role → ColourState → Cell
@@ -44,7 +45,7 @@ writeCell own dirty = none ⇒ dirty
 writeCell own stale = purge ⇒ dirty
 writeCell other empty = none ⇒ empty
 writeCell other present = none ⇒ stale
-writeCell other dirty = flush ⇒ empty
+writeCell other dirty = flush ⇒ stale
 writeCell other stale = none ⇒ stale
 
 -- ---- transfers, the same for every colour
@@ -53,7 +54,7 @@ writeCell other stale = none ⇒ stale
 abbrev pub deviceReadCell : ColourState → Cell
 deviceReadCell empty = none ⇒ empty
 deviceReadCell present = none ⇒ present
-deviceReadCell dirty = flush ⇒ empty
+deviceReadCell dirty = flush ⇒ present
 deviceReadCell stale = none ⇒ stale
 
 -- device to memory
@@ -67,21 +68,21 @@ deviceWriteCell stale = none ⇒ stale
 abbrev pub deviceWritePartCell : ColourState → Cell
 deviceWritePartCell empty = none ⇒ empty
 deviceWritePartCell present = none ⇒ stale
-deviceWritePartCell dirty = flush ⇒ empty
+deviceWritePartCell dirty = flush ⇒ stale
 deviceWritePartCell stale = none ⇒ stale
 
 -- the beginning of a read by a device that takes a while
 abbrev pub beginReadCell : ColourState → Cell
 beginReadCell empty = none ⇒ empty
 beginReadCell present = none ⇒ present
-beginReadCell dirty = flush ⇒ empty
+beginReadCell dirty = flush ⇒ present
 beginReadCell stale = none ⇒ stale
 
 -- and of a write
 abbrev pub beginWriteCell : ColourState → Cell
 beginWriteCell empty = none ⇒ empty
 beginWriteCell present = none ⇒ stale
-beginWriteCell dirty = flush ⇒ empty
+beginWriteCell dirty = flush ⇒ stale
 beginWriteCell stale = none ⇒ stale
 
 -- ---- a fetch of an instruction, the same for every colour, its own included: memory is what it reads
@@ -89,7 +90,7 @@ beginWriteCell stale = none ⇒ stale
 abbrev pub fetchCell : ColourState → Cell
 fetchCell empty = none ⇒ empty
 fetchCell present = none ⇒ present
-fetchCell dirty = flush ⇒ empty
+fetchCell dirty = flush ⇒ present
 fetchCell stale = none ⇒ stale
 
 -- ---- a step

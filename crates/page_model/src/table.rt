@@ -61,7 +61,7 @@ pub fn case_at(step: u8, own: bool, state: u8) -> Case
                 match state {
                     EMPTY => Case(NONE, EMPTY),
                     PRESENT => Case(NONE, PRESENT),
-                    DIRTY => Case(FLUSH, EMPTY),
+                    DIRTY => Case(FLUSH, PRESENT),
                     STALE => Case(NONE, STALE),
                     4..=255 => Case(NONE, state),
                 }
@@ -83,7 +83,7 @@ pub fn case_at(step: u8, own: bool, state: u8) -> Case
                 match state {
                     EMPTY => Case(NONE, EMPTY),
                     PRESENT => Case(NONE, STALE),
-                    DIRTY => Case(FLUSH, EMPTY),
+                    DIRTY => Case(FLUSH, STALE),
                     STALE => Case(NONE, STALE),
                     4..=255 => Case(NONE, state),
                 }
@@ -93,7 +93,7 @@ pub fn case_at(step: u8, own: bool, state: u8) -> Case
         DEVICE_READ => match state {
             EMPTY => Case(NONE, EMPTY),
             PRESENT => Case(NONE, PRESENT),
-            DIRTY => Case(FLUSH, EMPTY),
+            DIRTY => Case(FLUSH, PRESENT),
             STALE => Case(NONE, STALE),
             4..=255 => Case(NONE, state),
         },
@@ -109,7 +109,7 @@ pub fn case_at(step: u8, own: bool, state: u8) -> Case
         DEVICE_WRITE_PART => match state {
             EMPTY => Case(NONE, EMPTY),
             PRESENT => Case(NONE, STALE),
-            DIRTY => Case(FLUSH, EMPTY),
+            DIRTY => Case(FLUSH, STALE),
             STALE => Case(NONE, STALE),
             4..=255 => Case(NONE, state),
         },
@@ -117,7 +117,7 @@ pub fn case_at(step: u8, own: bool, state: u8) -> Case
         BEGIN_READ => match state {
             EMPTY => Case(NONE, EMPTY),
             PRESENT => Case(NONE, PRESENT),
-            DIRTY => Case(FLUSH, EMPTY),
+            DIRTY => Case(FLUSH, PRESENT),
             STALE => Case(NONE, STALE),
             4..=255 => Case(NONE, state),
         },
@@ -125,7 +125,7 @@ pub fn case_at(step: u8, own: bool, state: u8) -> Case
         BEGIN_WRITE => match state {
             EMPTY => Case(NONE, EMPTY),
             PRESENT => Case(NONE, STALE),
-            DIRTY => Case(FLUSH, EMPTY),
+            DIRTY => Case(FLUSH, STALE),
             STALE => Case(NONE, STALE),
             4..=255 => Case(NONE, state),
         },
@@ -133,7 +133,7 @@ pub fn case_at(step: u8, own: bool, state: u8) -> Case
         FETCH => match state {
             EMPTY => Case(NONE, EMPTY),
             PRESENT => Case(NONE, PRESENT),
-            DIRTY => Case(FLUSH, EMPTY),
+            DIRTY => Case(FLUSH, PRESENT),
             STALE => Case(NONE, STALE),
             4..=255 => Case(NONE, state),
         },

@@ -8,10 +8,9 @@ use Rattle.machine.specs.Call.{perform}
 use Rattle.machine.specs.State.{State}
 use Rattle.consistency.specs.Cacheless.{Cacheless, startCacheless, fed}
 use Rattle.consistency.specs.Demand3.{startState}
-use Rattle.consistency.proofs.Evicted.{all-evicted}
 use Rattle.consistency.proofs.Invariant.{Invariant}
 use Rattle.consistency.proofs.Start.{start-invariant}
-use Rattle.consistency.proofs.Theorem.{serves}
+use Rattle.consistency.proofs.Theorem.{serves, evicted-here}
 use Rattle.position_hold.specs.Demand3.{LookFinds, AllFind, cachelessAfter, Demand3, EveryBoard, Board01}
 use Rattle.position_hold.specs.Look as position-hold
 use Rattle.position_hold.specs.Look.{Words, stopped, words, fixWords, fixReads}
@@ -47,7 +46,7 @@ module _ (b : Board) (reg : Regular b) where
       let inv = start-invariant b reg memory cache protections full wide long in
       record {
         finds = all-find st (startCacheless b memory) inv acts;
-        evicted = all-evicted b reg (cachelessAfter b st (startCacheless b memory) acts) (stateAfter b st acts) (invariant-after st (startCacheless b memory) inv acts);
+        evicted = evicted-here b reg (cachelessAfter b st (startCacheless b memory) acts) (stateAfter b st acts) (invariant-after st (startCacheless b memory) inv acts);
       }
 
 pub every-board : EveryBoard

@@ -14,12 +14,14 @@ use Rattle.mapping.specs.declared.Found.{Found}
 use Rattle.mapping.specs.declared.Found.the-variants.{At, Nothing}
 use Rattle.mapping.specs.Entry.{mappingAt}
 use Rattle.mapping.specs.Lookup.{lookup, mappingFound, mappingOf, placeOf}
+use Rattle.cache.specs.Cache.{leaving}
 use Rattle.machine.specs.Call.{callCauses, perform}
 use Rattle.machine.specs.State.{State, pageFrame, read, single}
 use Rattle.machine.specs.Step.{accept}
 use Rattle.machine.proofs.CallLaws.{perform-cases}
 use Rattle.consistency.specs.Cacheless.{Cacheless, afterAccepted}
 use Rattle.consistency.specs.Demand3.{pageWord}
+use Rattle.consistency.specs.Flushes.{acceptBy}
 use Rattle.consistency.proofs.Invariant.{frameIn, Invariant}
 use Rattle.consistency.proofs.Processor.{read-taken}
 use Rattle.position_hold.specs.Fix.{holdRefused, refused}
@@ -51,11 +53,11 @@ module _ (b : Board) (reg : Regular b) (m : Cacheless) (space page : ℕ) where
           h .1 j (omega arith) ∙ sym (ap {B = Option ℕ} some (List·getD-append ws (w ∷ []) 0 j (omega arith)))
 
   read-next : (k : ℕ) (st : State) → Invariant b st m → (ws : Words) → FoundIn k ws → Kept (suc k) (readNext b space page k ws st)
-  unfolding perform callCauses accept afterAccepted
+  unfolding perform callCauses accept acceptBy afterAccepted
   read-next k st inv (stopped n) h = record { invariant = inv; found = tt }
   read-next k st inv (words ws) h =
       perform-cases b st (single (read space page k)) (λ r. Kept (suc k) (reads (withAnswer ws (r .answer .outcome) (r .answer .word)) (r .after)))
-      (λ e. let t = read-taken b reg st m inv space page k e in record { invariant = t .1; found = found-more k ws _ h (t .0) })
+      (λ e. let t = read-taken b reg leaving st m inv space page k e in record { invariant = t .1; found = found-more k ws _ h (t .0) })
       (λ n _. record { invariant = inv; found = tt })
 
   pub first-reads : (st : State) → Invariant b st m → (k : ℕ) → Kept k (firstReads b st space page k)

@@ -40,8 +40,8 @@ pub record Holds (b : Board) (st : State) (m : Cacheless) (acts : List Act) : Ty
   pub finds : AllFind b st m acts
   pub evicted :
       (ns : List ℕ) → ((n : ℕ) → Occurs n ns → n < lines b) → ((n : ℕ) → n < dataLines b → Occurs n ns)
-      → NoneRefused b (stateAfter b st acts) (evictions ns)
-      × MemoryIs b (cachelessAfter b st m acts) (of-calls.stateAfter b (stateAfter b st acts) (evictions ns))
+      → NoneRefused (perform b) (stateAfter b st acts) (evictions ns)
+      × MemoryIs b (cachelessAfter b st m acts) (of-calls.stateAfter (perform b) (stateAfter b st acts) (evictions ns))
 
 abbrev pub Demand3 : Board → Type 0
 Demand3 b =

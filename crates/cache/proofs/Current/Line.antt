@@ -1,5 +1,6 @@
 -- Eviction, flush and access lose no current word of any frame.
 use mathlib.Core.Path.{_≡_, sym, ap, _∙_}
+use mathlib.Core.Bool.{true}
 use mathlib.Core.Logic.{_≢_}
 use mathlib.Core.List.{List}
 use Prim.Native.Nat.{ℕ, _<_}
@@ -10,11 +11,12 @@ use Rattle.board.specs.declared.Board.{Board}
 use Rattle.board.specs.Board.{Regular, cachePages, lines, lineOf, lineColour, cacheAt, memoryAt}
 use Rattle.board.proofs.Geometry.{lineOf-lt, lineOf-colour, lineColour-lt}
 use Rattle.cache.specs.Store.{Store, WellFormedStore, tagAt, wordAt, memoryWord}
-use Rattle.cache.specs.Tag.{dirtyTag}
-use Rattle.cache.specs.Cache.{writeBack, evict, flush, replace, access}
+use Rattle.cache.specs.Tag.{emptyTag, dirtyTag, lineKeepsRules}
+use Rattle.cache.specs.Cache.{writeBack, writeBackAs, evict, FlushKind, flushedTag, flushBy, replace, access}
 use Rattle.cache.specs.Current.{Current, LosesNone}
+use Rattle.cache.proofs.Laws.Tag.{flushed-rules, flushed-clean, line-empty}
 use Rattle.cache.proofs.Laws.WriteBack.{writeBack-memory-same, writeBack-memory-other}
-use Rattle.cache.proofs.Laws.Evict.{evict-tag-same, evict-tag-other, evict-words, evict-memory}
+use Rattle.cache.proofs.Laws.Evict.{writeBackAs-tag-same, writeBackAs-tag-other, writeBackAs-words, writeBackAs-memory}
 use Rattle.cache.proofs.Laws.Operations.{flush-keeps}
 use Rattle.cache.proofs.Laws.Access.{replace-tag-same, replace-tag-other, replace-word-other, replace-memory, access-cases}
 
@@ -50,12 +52,11 @@ module _ (b : Board) (reg : Regular b) (f : ℕ) (current : ℕ → ℕ) (s : St
               ∙ memory-current o ho none (ℕ-discrete (lineOf b (lineColour b n) o) n) (ℕ-discrete (tagAt s n) (dirtyTag f));
         }
 
-  evict-line : Current b f current (evict b n s)
-  evict-line =
-      out-current (evict b n s) (evict-memory b reg s wf n hn)
-      (λ d. let e = evict-tag-same b reg s wf n hn in omega arith)
-      (evict-tag-other b reg s wf n hn)
-      (λ c o ne. ap (λ (l : List ℕ). getD l (cacheAt b c o) 0) (evict-words b reg s wf n hn))
+  written-line : (tag : ℕ) → lineKeepsRules b n tag ≡ true → tag ≢ dirtyTag f → Current b f current (writeBackAs b tag n s)
+  written-line tag rules clean =
+      out-current (writeBackAs b tag n s) (writeBackAs-memory b reg s wf tag n rules hn) (λ d. clean (sym (writeBackAs-tag-same b reg s wf tag n rules hn) ∙ d))
+      (writeBackAs-tag-other b reg s wf tag n rules hn)
+      (λ c o ne. ap (λ (l : List ℕ). getD l (cacheAt b c o) 0) (writeBackAs-words b reg s wf tag n rules hn))
 
   replace-line : (g : ℕ) → g < b .frames → Current b f current (replace b g n s)
   replace-line g hg =
@@ -66,11 +67,13 @@ module _ (b : Board) (reg : Regular b) (f : ℕ) (current : ℕ → ℕ) (s : St
 
 module _ (b : Board) (reg : Regular b) where
   pub evict-current : (n : ℕ) → n < lines b → LosesNone b (evict b n)
-  evict-current n hn f current s wf was = evict-line b reg f current s wf was n hn
+  unfolding evict writeBackAs
+  evict-current n hn f current s wf was = written-line b reg f current s wf was n hn emptyTag (line-empty b reg n) (λ e. omega arith)
 
-  pub flush-current : (g c : ℕ) → c < cachePages b → LosesNone b (flush b g c)
-  flush-current g c hc f current s wf was =
-      flush-keeps b reg g c hc s wf (Current b f current) (λ m t hm w cur. evict-line b reg f current t w cur m hm) was
+  pub flush-current : (how : FlushKind) (g c : ℕ) → g < b .frames → c < cachePages b → LosesNone b (flushBy b how g c)
+  flush-current how g c hg hc f current s wf was =
+      flush-keeps b reg how g c hg hc s wf (Current b f current)
+      (λ m t hm w cur. written-line b reg f current t w cur m hm (flushedTag how g) (flushed-rules b reg how g hg m) (flushed-clean b reg how g hg f)) was
 
   pub access-current : (g c o : ℕ) → g < b .frames → c < cachePages b → o < b .page → LosesNone b (access b g c o)
   access-current g c o hg hc ho f current s wf was =

@@ -1,7 +1,7 @@
 -- The laws of an operation on every line of a colour: what the line's own turn does stays, and no other turn matters to it.
-use mathlib.Core.Path.{_≡_, refl, sym, ap, _∙_}
+use mathlib.Core.Path.{_≡_, refl, sym, ap, subst⁻¹, _∙_}
 use mathlib.Core.Bool.{Bool, true, false}
-use mathlib.Core.Logic.{_≢_}
+use mathlib.Core.Logic.{_≢_, _⊎_, inl, inr}
 use Prim.Native.Nat.{ℕ, zero, suc, _+_, _%_, _≤_, _<_}
 use native.Mathlib.Omega.{arith}
 use native.Mathlib.Numerals.{add-one}
@@ -10,14 +10,13 @@ use Rattle.board.specs.declared.Board.{Board}
 use Rattle.board.specs.Board.{Regular, cachePages, lines, pageLines, colourLine, lineColour}
 use Rattle.board.proofs.Geometry.{colourLine-lt, colourLine-colour, colourLine-index, colourLine-split, colourLine-inj}
 use Rattle.cache.specs.Store.{Store, WellFormedStore, tagAt}
-use Rattle.cache.specs.Tag.{emptyTag, names}
+use Rattle.cache.specs.Tag.{names}
 use Rattle.cache.specs.Cache.{sweep}
-use Rattle.cache.proofs.Laws.Tag.{names-empty, names-not-empty}
 
--- an operation that, on any line, empties it if it names f and leaves it else, and touches no other line's tag
-pub record Empties (b : Board) (f : ℕ) (op : ℕ → Store → Store) : Type 0 where
+-- an operation that, on any line, gives it a tag if it names f and leaves it else, and touches no other line's tag
+pub record Retags (b : Board) (f tag : ℕ) (op : ℕ → Store → Store) : Type 0 where
   pub kept : (n : ℕ) (s : Store) → n < lines b → WellFormedStore b s → WellFormedStore b (op n s)
-  pub tag-same : (n : ℕ) (s : Store) → n < lines b → WellFormedStore b s → names (tagAt s n) f ≡ true → tagAt (op n s) n ≡ emptyTag
+  pub tag-same : (n : ℕ) (s : Store) → n < lines b → WellFormedStore b s → names (tagAt s n) f ≡ true → tagAt (op n s) n ≡ tag
   pub tag-left : (n : ℕ) (s : Store) → names (tagAt s n) f ≡ false → tagAt (op n s) n ≡ tagAt s n
   pub tag-other : (n : ℕ) (s : Store) → n < lines b → WellFormedStore b s → (m : ℕ) → m ≢ n → tagAt (op n s) m ≡ tagAt s m
 
@@ -37,7 +36,7 @@ pub sweep-more : (b : Board) (op : ℕ → Store → Store) (c i : ℕ) (s : Sto
 unfolding sweep
 sweep-more b op c i s = ap (λ (k : ℕ). sweep b op c k s) (add-one i)
 
-module _ (b : Board) (reg : Regular b) (f : ℕ) (op : ℕ → Store → Store) (does : Empties b f op) (c : ℕ) (hc : c < cachePages b) (s : Store) (wf : WellFormedStore b s) where
+module _ (b : Board) (reg : Regular b) (f : ℕ) {tag : ℕ} (op : ℕ → Store → Store) (does : Retags b f tag op) (c : ℕ) (hc : c < cachePages b) (s : Store) (wf : WellFormedStore b s) where
   pub turn-kept : (i : ℕ) → i ≤ pageLines b → WellFormedStore b (sweep b op c i s)
   unfolding sweep
   turn-kept zero h = wf
@@ -86,7 +85,7 @@ module _ (b : Board) (reg : Regular b) (f : ℕ) (op : ℕ → Store → Store) 
   tag-apart : (n : ℕ) → Apart b op c n (λ t. tagAt t n)
   tag-apart n m t h e w ne = does .tag-other m t h w n (λ q. ne (sym q))
 
-  pub sweep-tag-same : (n : ℕ) → n < lines b → lineColour b n ≡ c → names (tagAt s n) f ≡ true → tagAt (sweep b op c (pageLines b) s) n ≡ emptyTag
+  pub sweep-tag-same : (n : ℕ) → n < lines b → lineColour b n ≡ c → names (tagAt s n) f ≡ true → tagAt (sweep b op c (pageLines b) s) n ≡ tag
   sweep-tag-same n h e named =
       let turn = sweep-turn n e in
       turn .after (λ t. tagAt t n) (tag-apart n)
@@ -108,21 +107,22 @@ module _ (b : Board) (reg : Regular b) (f : ℕ) (op : ℕ → Store → Store) 
       go (yes e) = own-tag-left n e other
       go (no ne) = sweep-tag-other n ne
 
-  pub sweep-names : (n : ℕ) → n < lines b → lineColour b n ≡ c → names (tagAt (sweep b op c (pageLines b) s) n) f ≡ false
-  sweep-names n h e = go (names (tagAt s n) f) refl
+  -- a tag is as it was, or the line named f and has the new one
+  pub sweep-tag-either : (n : ℕ) → n < lines b → (tagAt (sweep b op c (pageLines b) s) n ≡ tagAt s n) ⊎ ((names (tagAt s n) f ≡ true) × (tagAt (sweep b op c (pageLines b) s) n ≡ tag))
+  sweep-tag-either n h = go (ℕ-discrete (lineColour b n) c) (names (tagAt s n) f) refl
     where
-      go : (t : Bool) → names (tagAt s n) f ≡ t → names (tagAt (sweep b op c (pageLines b) s) n) f ≡ false
-      go true named = ap (λ (t : ℕ). names t f) (sweep-tag-same n h e named) ∙ names-empty f
-      go false other = ap (λ (t : ℕ). names t f) (sweep-tag-left n other) ∙ other
+      go : Dec (lineColour b n ≡ c) → (t : Bool) → names (tagAt s n) f ≡ t → (tagAt (sweep b op c (pageLines b) s) n ≡ tagAt s n) ⊎ ((names (tagAt s n) f ≡ true) × (tagAt (sweep b op c (pageLines b) s) n ≡ tag))
+      go (no ne) t q = inl (sweep-tag-other n ne)
+      go (yes e) false q = inl (sweep-tag-left n q)
+      go (yes e) true q = inr (q, sweep-tag-same n h e q)
 
-  -- a tag that names a frame afterwards was there before
-  pub sweep-tag-from : (n g : ℕ) → n < lines b → names (tagAt (sweep b op c (pageLines b) s) n) g ≡ true → tagAt (sweep b op c (pageLines b) s) n ≡ tagAt s n
-  sweep-tag-from n g h named = go (ℕ-discrete (lineColour b n) c) (names (tagAt s n) f) refl
+  -- what holds of the new tag, and of every tag that does not name f, holds of the tag of every line of the colour
+  pub sweep-none : (P : ℕ → Type 0) → P tag → ((t : ℕ) → names t f ≡ false → P t) → (n : ℕ) → n < lines b → lineColour b n ≡ c → P (tagAt (sweep b op c (pageLines b) s) n)
+  sweep-none P new other n h e = go (names (tagAt s n) f) refl
     where
-      go : Dec (lineColour b n ≡ c) → (t : Bool) → names (tagAt s n) f ≡ t → tagAt (sweep b op c (pageLines b) s) n ≡ tagAt s n
-      go (no ne) t q = sweep-tag-other n ne
-      go (yes e) false q = sweep-tag-left n q
-      go (yes e) true q = absurd (names-not-empty g (sweep-tag-same n h e q) named)
+      go : (t : Bool) → names (tagAt s n) f ≡ t → P (tagAt (sweep b op c (pageLines b) s) n)
+      go true q = subst⁻¹ P (sweep-tag-same n h e q) new
+      go false q = subst⁻¹ P (sweep-tag-left n q) (other (tagAt s n) q)
 
   -- what every turn keeps, the sweep keeps
   pub sweep-keeps : (P : Store → Type 0) → ((m : ℕ) (t : Store) → m < lines b → WellFormedStore b t → P t → P (op m t)) → P s → P (sweep b op c (pageLines b) s)

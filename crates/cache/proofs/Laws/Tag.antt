@@ -1,7 +1,7 @@
 -- The laws of tags: what a clean, a dirty and an empty tag says, and what a tag that keeps the rules can be.
 use mathlib.Core.Path.{_≡_, refl, sym, ap, _∙_}
 use mathlib.Core.Bool.{Bool, true, false, not, _&&_, _||_, or-true, and-true, and-false, true≢false, false≢true}
-use mathlib.Core.Logic.{_⊎_, inl, inr}
+use mathlib.Core.Logic.{_≢_, _⊎_, inl, inr}
 use mathlib.Core.List.{List, [], _∷_}
 use Prim.Native.Nat.{ℕ, zero, suc, _+_, _-_, _≤_, _<_}
 use native.Mathlib.Omega.{arith}
@@ -11,6 +11,7 @@ use lib.ListN.{length, getD, set}
 use borrow.Author.Tests.{le-leb, lt-leb, leb-true, eq-eqb, ne-eqb, eqb-true, lt-ltb, le-ltb, ltb-true}
 use Rattle.board.specs.declared.Board.{Board}
 use Rattle.board.specs.Board.{Regular, dataLines}
+use Rattle.cache.specs.Cache.{FlushKind, leaving, emptying, flushedTag}
 use Rattle.cache.specs.Tag.{emptyTag, cleanTag, dirtyTag, isDirtyTag, names, frameOf, tagKeepsRules, lineKeepsRules, tagsFrom, tagsKeepRules}
 
 and-left : (a b : Bool) → (a && b) ≡ true → a ≡ true
@@ -127,6 +128,20 @@ module _ (b : Board) (reg : Regular b) where
 
   pub line-clean : (f n : ℕ) → f < b .frames → lineKeepsRules b n (cleanTag f) ≡ true
   line-clean f n h = line-any n (cleanTag f) (isDirtyTag-clean f h) ∙ rules-clean f h
+
+  -- ---- the tag that a flush of frame f gives: it keeps the rules, is dirty for no frame, and names none but f
+
+  pub flushed-rules : (how : FlushKind) (f : ℕ) → f < b .frames → (n : ℕ) → lineKeepsRules b n (flushedTag how f) ≡ true
+  flushed-rules leaving f h n = line-clean f n h
+  flushed-rules emptying f h n = line-empty n
+
+  pub flushed-clean : (how : FlushKind) (f : ℕ) → f < b .frames → (g : ℕ) → flushedTag how f ≢ dirtyTag g
+  flushed-clean leaving f h g e = let few = reg .few-frames in omega arith
+  flushed-clean emptying f h g e = omega arith
+
+  pub flushed-names : (how : FlushKind) (f : ℕ) → f < b .frames → (g : ℕ) → g < b .frames → names (flushedTag how f) g ≡ true → g ≡ f
+  flushed-names leaving f h g hg named = names-one (cleanTag f) g f hg h named (names-clean f)
+  flushed-names emptying f h g hg named = absurd (names-not-empty g refl named)
 
   pub line-dirty : (f n : ℕ) → f < b .frames → n < dataLines b → lineKeepsRules b n (dirtyTag f) ≡ true
   line-dirty f n h hn = line-before n (dirtyTag f) hn ∙ rules-dirty f h

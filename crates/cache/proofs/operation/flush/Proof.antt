@@ -5,16 +5,16 @@ use native.Mathlib.Omega.{arith}
 use borrow.Author.Needs.{needs}
 use lib.ListN.{length}
 use Rattle.cache.specs.Store.{store, WellFormedStore}
-use Rattle.cache.specs.Cache.{sweep, flushLine}
+use Rattle.cache.specs.Cache.{sweep, leaving, flushLine}
 use Rattle.cache.proofs.Laws.Sweep.{turn-kept, sweep-more}
-use Rattle.cache.proofs.Laws.Operations.{flushLine-empties, flush-done}
+use Rattle.cache.proofs.Laws.Operations.{flushLine-retags, flush-done}
 use Rattle.cache.proofs.operation.flush.Statement.{statement}
 use Rattle.cache.proofs.operation.flush.Tie as tie
 
 abbrev Inv-loop : tie.InvT-loop
 Inv-loop board memory₀ words tags₀ frame colour lines i₀ memory tags i =
     (i ≤ lines) × (length memory ≡ length memory₀) × (length tags ≡ length tags₀)
-    × (store memory words tags ≡ sweep board (flushLine board frame) colour i (store memory₀ words tags₀))
+    × (store memory words tags ≡ sweep board (flushLine board leaving frame) colour i (store memory₀ words tags₀))
 
 abbrev μ-loop : tie.MeasureT-loop
 μ-loop board memory₀ words tags₀ frame colour lines i₀ memory tags i = lines - i
@@ -35,7 +35,7 @@ flush-line-requires c κs =
     let start = at .before .before .before .before .before in
     let pre = start .pre in (
       subst⁻¹ (WellFormedStore (start .args .board)) (at .loop .inv .3)
-          (turn-kept _ (pre .3) (start .args .frame) _ (flushLine-empties _ (pre .3) (start .args .frame)) (start .args .colour) (pre .2) _ (pre .0) (at .loop .i) (omega arith)),
+          (turn-kept _ (pre .3) (start .args .frame) _ (flushLine-retags _ (pre .3) leaving (start .args .frame) (pre .1)) (start .args .colour) (pre .2) _ (pre .0) (at .loop .i) (omega arith)),
       pre .1,
       search needs,
       pre .3,
@@ -58,8 +58,8 @@ loop-again c =
       c .before .before .before .before .flush-line .kept .1 .0 ∙ at .loop .inv .1,
       c .before .before .before .before .flush-line .kept .1 .1 .1 .0 ∙ at .loop .inv .2,
       c .before .before .before .before .flush-line .ensures
-          ∙ ap₂ (flushLine board frame) (c .before .before .before .before .before .colour-line .ensures .0) (at .loop .inv .3)
-          ∙ sym (sweep-more board (flushLine board frame) colour (at .loop .i) _),
+          ∙ ap₂ (flushLine board leaving frame) (c .before .before .before .before .before .colour-line .ensures .0) (at .loop .inv .3)
+          ∙ sym (sweep-more board (flushLine board leaving frame) colour (at .loop .i) _),
     )
 
 same-length : tie.Need-same-length Inv-loop μ-loop
@@ -72,7 +72,7 @@ returns : tie.Need-returns Inv-loop μ-loop
 returns c =
     let at = c .before in
     let start = at .before .before .before .before .before in
-    at .loop .inv .3 ∙ flush-done (start .args .board) (start .args .frame) (start .args .colour) (at .loop .i) _ (omega arith)
+    at .loop .inv .3 ∙ flush-done (start .args .board) leaving (start .args .frame) (start .args .colour) (at .loop .i) _ (omega arith)
 
 pub flush-spec : {M : Type 1} → statement M
 flush-spec =

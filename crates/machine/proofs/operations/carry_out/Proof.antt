@@ -3,7 +3,8 @@ use mathlib.Core.Path.{ap, subst⁻¹, _∙_}
 use borrow.Author.Needs.{needs}
 use Rattle.manager.specs.Answers.{operationOn}
 use Rattle.cache.specs.Store.{WellFormedStore}
-use Rattle.machine.specs.Step.{operate, carryOut}
+use Rattle.cache.specs.Cache.{leaving}
+use Rattle.machine.specs.Step.{operate, carryOutBy}
 use Rattle.machine.proofs.StoreLaws.{operate-kept}
 use Rattle.machine.proofs.operations.carry_out.Statement.{statement}
 use Rattle.machine.proofs.operations.carry_out.Tie as tie
@@ -19,11 +20,11 @@ operate-requires-2 : tie.Need-operate-requires-2
 operate-requires-2 c κs =
     let first = first-of c in
     let s = start-of first in
-    let kept = operate-kept _ (s .pre .4) _ (s .pre .1) (s .args .ops .first) (s .pre .2) _ (s .pre .0) in
+    let kept = operate-kept _ (s .pre .4) leaving _ (s .pre .1) (s .args .ops .first) (s .pre .2) _ (s .pre .0) in
     (subst⁻¹ (WellFormedStore (s .args .board)) (first .operate .ensures) kept, s .pre .1, s .pre .3, s .pre .4)
 
 returns : tie.Need-returns
-unfolding carryOut
+unfolding carryOutBy
 returns c =
     let second = c .before .before .before .before in
     let first = first-of (second .before) in

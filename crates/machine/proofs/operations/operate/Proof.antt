@@ -5,7 +5,7 @@ use Rattle.board.proofs.Geometry.{data-page}
 use Rattle.page_model.specs.Step.{OpBelow}
 use Rattle.cache.specs.Cache.{purge}
 use Rattle.cache.specs.Store.{store}
-use Rattle.machine.specs.Step.{operate}
+use Rattle.machine.specs.Step.{operateBy, operate}
 use borrow.Author.Needs.{needs}
 use Rattle.machine.proofs.operations.operate.Statement.{statement}
 use Rattle.machine.proofs.operations.operate.Tie as tie
@@ -35,25 +35,25 @@ purge-requires-2 c κs =
     (s .pre .0 .tags-length, s .pre .1, page .instruction-page .ensures .1, s .pre .3)
 
 returns : tie.Need-returns
-unfolding operate
+unfolding operateBy
 returns c = rw (c .enum-told .given .1)
 
 returns-2 : tie.Need-returns-2
-unfolding operate
+unfolding operateBy
 returns-2 c =
     let done = c .before .before .before .before in
     let told = done .before .before .before .before in
     rw (told .op .given .1) (done .flush .ensures)
 
 returns-3 : tie.Need-returns-3
-unfolding operate
+unfolding operateBy
 returns-3 c =
     let done = c .before .before in
     let told = done .before .before .before in
     rw (told .op2 .given .1) (done .purge .ensures _ _)
 
 returns-4 : tie.Need-returns-4
-unfolding operate
+unfolding operateBy
 returns-4 c =
     let done = c .before .before in
     let page = done .before .before in
