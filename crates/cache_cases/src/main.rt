@@ -40,7 +40,8 @@ fn purges(memory: &mut [u32; 4096], words: &mut [u32; 1024], tags: &mut [u8; 128
     show::read(memory, words, tags, 3, 2, 11);
 }
 
-// A flush writes the dirty line and empties both; another frame's line in the colour stays.
+// A flush writes the dirty line and leaves both in, clean; another frame's line in the colour stays, and stays dirty. A word that a device brings then is
+// not found by a read, which hits the line, and is not written over when the line, now clean, is flushed once more or evicted.
 fn flushes(memory: &mut [u32; 4096], words: &mut [u32; 1024], tags: &mut [u8; 128]) {
     io::write_all(STDOUT_FILENO, b"flushes\n");
     show::write(memory, words, tags, 3, 2, 63, 6000);
@@ -48,8 +49,16 @@ fn flushes(memory: &mut [u32; 4096], words: &mut [u32; 1024], tags: &mut [u8; 12
     show::memory_word(memory, 3, 63);
     show::line(words, tags, 17, 3);
     show::line(words, tags, 23, 7);
+    show::write(memory, words, tags, 5, 1, 8, 7000);
     show::flush(memory, words, tags, 3, 1);
     show::line(words, tags, 9, 0);
+    show::memory_word(memory, 5, 8);
+    show::bring_word(memory, 3, 63, 6500);
+    show::read(memory, words, tags, 3, 2, 63);
+    show::flush(memory, words, tags, 3, 2);
+    show::memory_word(memory, 3, 63);
+    show::evict(memory, words, tags, 23);
+    show::memory_word(memory, 3, 63);
 }
 
 // A purge of a dirty line writes nothing.
