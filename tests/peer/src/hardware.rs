@@ -116,7 +116,8 @@ impl Hardware {
         slot.words[offset.index() % LINE_WORDS]
     }
 
-    /// Empties the frame's lines of one cache in a colour: a flush writes dirty ones back, a purge does not.
+    /// What is ordered of the frame's lines in a colour: a flush writes the dirty ones back and leaves all in, clean
+    /// (document 02, N9); a purge empties those of its cache and writes nothing.
     pub fn perform(&mut self, operation: Operation) {
         let (Operation::Flush(frame, colour)
         | Operation::Purge(frame, colour)
@@ -125,7 +126,7 @@ impl Hardware {
             let data = self.tag(line).frame() == Some(frame);
             let instructions = self.instruction_tag(line) == InstructionTag::Clean(frame);
             match operation {
-                Operation::Flush(..) if data => self.evict(Cache::Data, line),
+                Operation::Flush(..) if data => self.write_back(line),
                 Operation::Purge(..) if data => self.data[line.index()].tag = Tag::Empty,
                 Operation::PurgeInstructions(..) if instructions => {
                     self.evict(Cache::Instructions, line);
@@ -139,10 +140,7 @@ impl Hardware {
     pub fn evict(&mut self, cache: Cache, line: Line) {
         match cache {
             Cache::Data => {
-                let Slot { tag, words } = self.data[line.index()];
-                if let Tag::Dirty(frame) = tag {
-                    self.memory[frame.index()][line.offsets()].copy_from_slice(&words);
-                }
+                self.write_back(line);
                 self.data[line.index()].tag = Tag::Empty;
             }
             Cache::Instructions => self.instructions[line.index()].tag = InstructionTag::Empty,
@@ -164,6 +162,15 @@ impl Hardware {
 
     pub fn instruction_tag(&self, line: Line) -> InstructionTag {
         self.instructions[line.index()].tag
+    }
+
+    /// Writes a line of the data cache back if it is dirty, and leaves it clean.
+    fn write_back(&mut self, line: Line) {
+        let Slot { tag, words } = &mut self.data[line.index()];
+        if let Tag::Dirty(frame) = *tag {
+            self.memory[frame.index()][line.offsets()].copy_from_slice(words);
+            *tag = Tag::Clean(frame);
+        }
     }
 
     /// The data cache's line of a word, filled from memory if it did not hold the frame.

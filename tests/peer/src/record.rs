@@ -51,7 +51,7 @@ fn own_colour(access: Access, state: State) -> (State, Due) {
         (Access::Read, Stale) => (Present, Purge),
         (Access::Write, Empty | Present | Dirty) => (Dirty, Nothing),
         (Access::Write, Stale) => (Dirty, Purge),
-        (Access::Fetch, Dirty) => (Empty, Flush),
+        (Access::Fetch, Dirty) => (Present, Flush),
         (Access::Fetch, Empty | Present | Stale) => (state, Nothing),
     }
 }
@@ -60,8 +60,9 @@ fn other_colour(access: Access, state: State) -> (State, Due) {
     match (access, state) {
         (_, Empty) => (Empty, Nothing),
         (Access::Read | Access::Fetch, Present) => (Present, Nothing),
+        (Access::Read | Access::Fetch, Dirty) => (Present, Flush),
         (Access::Write, Present) => (Stale, Nothing),
-        (_, Dirty) => (Empty, Flush),
+        (Access::Write, Dirty) => (Stale, Flush),
         (_, Stale) => (Stale, Nothing),
     }
 }
@@ -98,10 +99,11 @@ fn every_colour(transfer: Transfer, state: State) -> (State, Due) {
     match (transfer, state) {
         (_, Empty) => (Empty, Nothing),
         (Transfer::Read | Transfer::Begin(Direction::Read), Present) => (Present, Nothing),
-        (Transfer::Write | Transfer::WritePart, Present) => (Stale, Nothing),
-        (Transfer::Begin(Direction::Write), Present) => (Stale, Nothing),
-        (Transfer::Read | Transfer::WritePart | Transfer::Begin(_), Dirty) => (Empty, Flush),
+        (Transfer::Read | Transfer::Begin(Direction::Read), Dirty) => (Present, Flush),
+        (Transfer::Write, Present) => (Stale, Nothing),
         (Transfer::Write, Dirty) => (Empty, Purge),
+        (Transfer::WritePart | Transfer::Begin(Direction::Write), Present) => (Stale, Nothing),
+        (Transfer::WritePart | Transfer::Begin(Direction::Write), Dirty) => (Stale, Flush),
         (_, Stale) => (Stale, Nothing),
     }
 }

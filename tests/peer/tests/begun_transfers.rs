@@ -202,6 +202,7 @@ fn check_step(
     assert_eq!(due, right.map(|(_, due)| due), "{before:?}");
 }
 
+/// The dirty colour is flushed, and stays held or goes stale as the held ones do.
 #[test]
 fn begins_of_every_record() {
     let frame = Frame::new(5).unwrap();
@@ -209,10 +210,9 @@ fn begins_of_every_record() {
         let colour = Colour::all().nth(held.trailing_zeros() as usize);
         let flush = colour.filter(|_| dirty == 1);
         let due = [flush.map(|colour| Operation::Flush(frame, colour)), None];
-        let kept = if dirty == 1 { 0 } else { held };
         let begun = [
-            (Direction::Read, [kept, stale, 0, 1]),
-            (Direction::Write, [0, stale | kept, 0, 2]),
+            (Direction::Read, [held, stale, 0, 1]),
+            (Direction::Write, [0, stale | held, 0, 2]),
         ];
         for (direction, next) in begun {
             let right = match busy {
@@ -288,7 +288,7 @@ fn numbers() {
     assert_eq!(Refusal::NotBegun.number(), 16);
 }
 
-/// The dirty colour is flushed, so that the device finds what the processor wrote, and empty then.
+/// The dirty colour is flushed, so that the device finds what the processor wrote, and held then.
 #[test]
 fn a_begin_read_over_a_dirty_page() {
     let dirty = [write(2, 0, 70), write(2, 63, 71)];
@@ -297,7 +297,7 @@ fn a_begin_read_over_a_dirty_page() {
         (take(5, 0), "", Some(70)),
         (take(5, 63), "", Some(71)),
         (take(5, 1), "", Some(1001)),
-        // Empty and not stale: no purge is due.
+        // Not stale: no purge is due.
         (read(2, 63), "", Some(71)),
         (read(0, 0), "", Some(70)),
         (end(5), "", None),
@@ -305,7 +305,8 @@ fn a_begin_read_over_a_dirty_page() {
     check(&mut after(&dirty), &rows);
 }
 
-/// Where the whole one-step transfer purges, a begin flushes: the words that do not come are kept.
+/// Where the whole one-step transfer purges, a begin flushes: the words that do not come are kept. The colour is stale
+/// then, as its lines may lack those that come.
 #[test]
 fn a_begin_write_over_a_dirty_page() {
     let dirty = [write(2, 0, 70), write(2, 1, 71), write(2, 63, 72)];
@@ -313,7 +314,7 @@ fn a_begin_write_over_a_dirty_page() {
         (begin_write(5), "F5.2", None),
         (bring(5, 1, 80), "", None),
         (end(5), "", None),
-        (read(2, 0), "", Some(70)),
+        (read(2, 0), "P5.2", Some(70)),
         (read(2, 1), "", Some(80)),
         (read(2, 63), "", Some(72)),
         (read(2, 2), "", Some(1002)),
@@ -325,7 +326,7 @@ fn a_begin_write_over_a_dirty_page() {
     for offset in 0..64 {
         check(&mut pair, &[(bring(5, offset, 80), "", None)]);
     }
-    let rows = [(end(5), "", None), (read(2, 63), "", Some(80))];
+    let rows = [(end(5), "", None), (read(2, 63), "P5.2", Some(80))];
     check(&mut pair, &rows);
 }
 
@@ -383,14 +384,15 @@ fn stale_colours_stay_stale_at_a_begin() {
         (begin_write(5), "F5.0", None),
         (bring(5, 1, 80), "", None),
         (end(5), "", None),
-        (read(0, 0), "", Some(70)),
+        (read(0, 0), "P5.0", Some(70)),
         (read(1, 1), "P5.1", Some(80)),
         (read(1, 0), "", Some(70)),
     ];
     check(&mut after(&before), &rows);
 }
 
-/// Neither the end nor a word orders anything or changes a state; a second begin has nothing to do.
+/// Neither the end nor a word orders anything or changes a state; a second begin has nothing to do. Colour 0, held by
+/// the first, is stale since the begun writes.
 #[test]
 fn begins_one_after_the_other() {
     let rows = [
@@ -405,7 +407,7 @@ fn begins_one_after_the_other() {
         (write(1, 1, 71), "", None),
         (begin_write(5), "F5.1", None),
         (end(5), "", None),
-        (read(0, 1), "", Some(71)),
+        (read(0, 1), "P5.0", Some(71)),
     ];
     check(&mut after(&[write(0, 0, 70)]), &rows);
 }
@@ -507,7 +509,8 @@ fn only_reads_while_the_device_reads() {
     }
 }
 
-/// Reads purge stale colours and hold new ones while the device reads, and the end leaves them so.
+/// Reads purge stale colours and hold new ones while the device reads, and the end leaves them so. Colours 0 and 1 are
+/// stale since the write, colour 2 since the part.
 #[test]
 fn reads_between_the_words() {
     let before = [read(0, 0), read(1, 0), write(2, 9, 70), part(5, 16, 1, 80)];
@@ -515,7 +518,7 @@ fn reads_between_the_words() {
         (begin_read(5), "", None),
         (read(0, 9), "P5.0", Some(70)),
         (take(5, 9), "", Some(70)),
-        (read(2, 16), "", Some(80)),
+        (read(2, 16), "P5.2", Some(80)),
         (take(5, 16), "", Some(80)),
         (read(1, 9), "P5.1", Some(70)),
         (read(3, 63), "", Some(1063)),

@@ -257,13 +257,13 @@ fn the_start() {
     assert_eq!(Record::default().to_masks(), start);
 }
 
-/// The dirty colour is flushed and empty, own or other, and held and stale ones stay. The own colour is purged in the
+/// The dirty colour is flushed and held, own or other, and held and stale ones stay. The own colour is purged in the
 /// instruction cache if it is stale there, and held then; others stay there too. Mark 2 alone refuses.
 #[test]
 fn fetches_of_every_record() {
     let frame = Frame::new(5).unwrap();
     for (before, record) in all_records() {
-        let [held, stale, dirty, busy, dirty_colour, fetched, fetched_stale] = before;
+        let [held, stale, _, busy, dirty_colour, fetched, fetched_stale] = before;
         for colour in Colour::all() {
             let mut after = record;
             let operations = after.access(frame, Access::Fetch, colour);
@@ -273,9 +273,8 @@ fn fetches_of_every_record() {
                 continue;
             }
             let own = 1 << colour.index();
-            let kept = if dirty == 1 { 0 } else { held };
             let masks = [fetched | own, fetched_stale & !own];
-            let right = with([kept, stale, 0, busy, NONE], masks);
+            let right = with([held, stale, 0, busy, NONE], masks);
             assert_eq!(after.to_masks(), right, "{before:?}");
 
             let flush = Colour::all().nth(dirty_colour.into());
@@ -374,23 +373,20 @@ fn a_fetch_after_a_write_flushes() {
     }
 }
 
-/// Empty, and neither held, dirty nor stale: a write through another colour flushes nothing and makes nothing stale,
-/// so that the next read through it purges nothing.
+/// Held, and neither dirty, stale nor empty: a read through it purges nothing; and a write through another colour
+/// flushes nothing and makes it stale, so that the next read through it purges.
 #[test]
-fn the_flushed_colour_is_empty() {
-    for written in [0, 1] {
+fn the_flushed_colour_is_held() {
+    for (written, flush, both) in [(0, "F5.0", "F5.2 P5.0"), (1, "F5.1", "F5.2 P5.1")] {
+        let mut pair = after(&[write(written, 0, 70)]);
+        check(&mut pair, &[(fetch(8, 0), flush, Some(70))]);
+        check(&mut pair.clone(), &[(read(written, 0), "", Some(70))]);
         let rows = [
-            (write(written, 0, 70), "", None),
-            (
-                fetch(8, 0),
-                if written == 0 { "F5.0" } else { "F5.1" },
-                Some(70),
-            ),
             (write(2, 1, 71), "", None),
-            (read(written, 0), "F5.2", Some(70)),
+            (read(written, 0), both, Some(70)),
             (read(written, 1), "", Some(71)),
         ];
-        check(&mut after(&[]), &rows);
+        check(&mut pair, &rows);
     }
 }
 
@@ -1101,19 +1097,20 @@ fn protections() {
         (fetch(9, 0), [1, 1, 1, 5, 5]),
         // Dirty: write at rights 2 alone. What was fetched is stale.
         (write(0, 0, 70), [2, 0, 0, 1, 0]),
-        // The flushed colour is empty.
-        (fetch(9, 0), [0, 0, 0, 0, 4]),
-        (fetch(8, 0), [0, 0, 0, 4, 4]),
+        // The flushed colour is held.
+        (fetch(9, 0), [1, 0, 0, 1, 4]),
+        (fetch(8, 0), [1, 0, 0, 5, 4]),
         (write(1, 0, 70), [0, 2, 0, 0, 1]),
-        (read(0, 0), [1, 0, 0, 1, 0]),
-        (fetch(8, 0), [1, 0, 0, 5, 0]),
+        // Both colours are held, the one by its flush.
+        (read(0, 0), [1, 1, 0, 1, 1]),
+        (fetch(8, 0), [1, 1, 0, 5, 1]),
         // Evictions change none.
-        (evict(64), [1, 0, 0, 5, 0]),
-        (evict(0), [1, 0, 0, 5, 0]),
-        (device_read(5), [1, 0, 0, 5, 0]),
-        (begin_read(5), [1, 0, 0, 5, 0]),
-        (fetch(9, 0), [1, 0, 0, 5, 4]),
-        (end(5), [1, 0, 0, 5, 4]),
+        (evict(64), [1, 1, 0, 5, 1]),
+        (evict(0), [1, 1, 0, 5, 1]),
+        (device_read(5), [1, 1, 0, 5, 1]),
+        (begin_read(5), [1, 1, 0, 5, 1]),
+        (fetch(9, 0), [1, 1, 0, 5, 5]),
+        (end(5), [1, 1, 0, 5, 5]),
         (part(0, 1, 80), [0, 0, 0, 0, 0]),
         (fetch(8, 0), [0, 0, 0, 4, 0]),
         (device_write(5, 1000), [0, 0, 0, 0, 0]),

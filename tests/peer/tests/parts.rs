@@ -79,26 +79,28 @@ fn refusal(pair: &mut Pair, call: Call) -> u8 {
     refusal.number()
 }
 
-/// Word k of the part is its first and k. The dirty colour is empty after its flush: no read purges.
+/// Word k of the part is its first and k. The flush leaves the dirty colour's lines in, which are older than memory
+/// then: it is stale, and the first read purges.
 #[test]
 fn sixty_three_words_flush_and_the_other_survives() {
     let dirty = [write(2, 0, 70), write(2, 63, 71)];
     let rows = [
         (part(0, 63, 100), "F5.2", None),
-        (read(2, 0), "", Some(100)),
+        (read(2, 0), "P5.2", Some(100)),
         (read(2, 62), "", Some(162)),
         (read(2, 63), "", Some(71)),
     ];
     check(&mut after(&dirty), &rows);
     let rows = [
         (part(1, 63, 100), "F5.2", None),
-        (read(2, 0), "", Some(70)),
+        (read(2, 0), "P5.2", Some(70)),
         (read(2, 1), "", Some(100)),
         (read(2, 63), "", Some(162)),
     ];
     check(&mut after(&dirty), &rows);
 }
 
+/// The purge leaves no line in: the colour is empty.
 #[test]
 fn sixty_four_words_purge() {
     let rows = [
@@ -115,7 +117,7 @@ fn a_part_inside_a_dirty_line() {
     let dirty = [write(1, 8, 70), write(1, 9, 71), write(1, 11, 72)];
     let rows = [
         (part(9, 2, 100), "F5.1", None),
-        (read(1, 8), "", Some(70)),
+        (read(1, 8), "P5.1", Some(70)),
         (read(1, 9), "", Some(100)),
         (read(1, 10), "", Some(101)),
         (read(1, 11), "", Some(72)),
@@ -168,24 +170,25 @@ fn stale_colours_stay_stale() {
     // Colour 1 is stale since the write, colour 0 dirty.
     let rows = [
         (part(62, 2, 100), "F5.0", None),
-        // Nothing is dirty or held now.
+        // Both are stale now.
         (part(62, 2, 200), "", None),
-        (read(0, 0), "", Some(70)),
+        (read(0, 0), "P5.0", Some(70)),
         (read(1, 63), "P5.1", Some(201)),
         (read(1, 0), "", Some(70)),
     ];
     check(&mut after(&[read(1, 0), write(0, 0, 70)]), &rows);
 }
 
-/// Write after write through three colours: the last is the dirty one.
+/// Write after write through three colours: the last is the dirty one. The others were flushed for a write and are
+/// stale.
 #[test]
 fn after_several_writers() {
     let dirty = [write(0, 0, 70), write(1, 1, 71), write(2, 2, 72)];
     let rows = [
         (part(3, 12, 100), "F5.2", None),
-        (read(0, 0), "", Some(70)),
-        (read(1, 1), "", Some(71)),
-        (read(2, 2), "", Some(72)),
+        (read(0, 0), "P5.0", Some(70)),
+        (read(1, 1), "P5.1", Some(71)),
+        (read(2, 2), "P5.2", Some(72)),
         (read(0, 3), "", Some(100)),
         (read(1, 14), "", Some(111)),
         (read(2, 15), "", Some(0)),
@@ -193,11 +196,14 @@ fn after_several_writers() {
     check(&mut after(&dirty), &rows);
 }
 
-/// The record is dirty still, though no line is.
+/// The record is dirty still, though no line is; and stale then, though none is in.
 #[test]
 fn after_an_eviction() {
     let dirty = [write(2, 0, 70), Call::Evict { line: 16 }];
-    let rows = [(part(1, 1, 100), "F5.2", None), (read(2, 0), "", Some(70))];
+    let rows = [
+        (part(1, 1, 100), "F5.2", None),
+        (read(2, 0), "P5.2", Some(70)),
+    ];
     check(&mut after(&dirty), &rows);
 }
 

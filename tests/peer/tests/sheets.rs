@@ -130,8 +130,8 @@ fn refused_steps() {
     );
 }
 
-/// Frame 5 at pages 0 and 1. 17 and 18 are written at its two ends, and 62 words sent between them; one
-/// word is sent while both colours are held; a word is written, and all 64 are sent over it.
+/// Frame 5 at pages 0 and 1. 17 and 18 are written at its two ends, and 62 words sent between them, which leaves both
+/// colours stale; one word is sent while both are held; a word is written, and all 64 are sent over it.
 #[test]
 fn parts() {
     let sheet = "02 00  00 00 00 05 02  00 01 00 05 02  0b 00
@@ -147,9 +147,9 @@ fn parts() {
         07 05 00 00 40 c8 00 00 00
         03 05 00 00 00 00 00 00 00";
     let right = "m0 0\nm1 0\n0 0 - - -\n1 0 F5.0 - -\n\
-        2 0 F5.1 - -\n3 0 - - 17\n4 0 - - 161\n5 0 - - 18\n\
+        2 0 F5.1 - -\n3 0 P5.0 - 17\n4 0 P5.1 - 161\n5 0 - - 18\n\
         6 0 - - -\n7 0 P5.0 - 4294967295\n\
-        8 0 P5.1 - -\n9 0 P5.1 - -\n10 0 - - 200\nend 2 3\n";
+        8 0 P5.1 - -\n9 0 P5.1 - -\n10 0 - - 200\nend 2 5\n";
     assert_eq!(text(&bytes(sheet)), right);
 }
 
@@ -235,8 +235,9 @@ fn refused_steps_of_transfers() {
 }
 
 /// Frame 5 at page 0 to be written and at pages 8 and 9, of colours 0 and 1, to be fetched; its words 40 to 103. What
-/// is written through page 0, sent in a part and brought word by word is fetched. The last line counts two flushes,
-/// three purges of the instruction cache and one of the data cache.
+/// is written through page 0, sent in a part and brought word by word is fetched. Page 0's colour is held by the first
+/// flush and stale by the part (step 5), stale by the second flush (11), and stale by the last part (26). The last line
+/// counts two flushes, three purges of the instruction cache and three of the data cache.
 #[test]
 fn fetches() {
     let sheet = "03 00  00 00 00 05 02  00 08 00 05 03  00 09 00 05 03  1c 00
@@ -269,10 +270,10 @@ fn fetches() {
         07 05 00 00 01 14 00 00 00
         01 00 00 00 00 00 00 00 00";
     let right = "m0 0\nm1 0\nm2 0\n0 0 - - -\n1 0 - - 40\n2 0 - - -\n\
-        3 0 F5.0 I5.0 17\n4 0 - - 103\n5 0 - - -\n6 0 I5.1 - 4294967295\n7 0 - - -\n\
+        3 0 F5.0 I5.0 17\n4 0 - - 103\n5 0 - - -\n6 0 I5.1 - 4294967295\n7 0 P5.0 - -\n\
         8 17 - - -\n9 10 - - -\n10 8 - - -\n11 0 F5.0 - -\n12 15 - - -\n13 0 - - -\n14 0 - - -\n\
         15 0 - - -\n16 0 I5.0 - 19\n17 0 - - -\n18 0 - - 18\n19 0 - - -\n20 0 - - -\n21 6 - - -\n\
-        22 6 - - -\n23 3 - - -\n24 0 - - 17\n25 0 - - 19\n26 0 - - -\n27 0 P5.0 - 20\nend 2 4\n";
+        22 6 - - -\n23 3 - - -\n24 0 - - 17\n25 0 P5.0 - 19\n26 0 - - -\n27 0 P5.0 - 20\nend 2 6\n";
     assert_eq!(text(&bytes(sheet)), right);
 }
 
