@@ -7,7 +7,7 @@ use crate::generate::{
     FETCH, MAPPINGS, READ, STEPS, TAKE, UNMAP, WRITE,
 };
 use crate::state::Mark::{DeviceReads, DeviceWrites, Free};
-use crate::state::{About, Change, State};
+use crate::state::{colour, About, Change, Flushed, State};
 use std::collections::BTreeMap;
 use std::fmt;
 
@@ -32,16 +32,21 @@ const fn kind(name: &'static str, orders: &'static [usize], refusals: &'static [
 const MAP: &str = "map";
 
 /// The mappings, then the steps by their number: parts by how they lie to their page, steps of a busy frame apart from
-/// the others, most by what the device does there, and fetches by what changed their frame's words last: an own write
-/// is one through the fetch's own colour that has yet to be flushed. No sheet meets refusal 1 or 2, since the program's
-/// own buffers have their lengths and keep the rules, 9, since no mapping follows the 256th, or 12 or 14, since no
-/// step is a list of mappings or a look at the position.
-const KINDS: [Kind; 48] = [
+/// the others, most by what the device does there, reads and writes by what their colour was flushed for, if it is as
+/// the flush left it, and fetches by what changed their frame's words last: an own write is one through the fetch's own
+/// colour that has yet to be flushed. No sheet meets refusal 1 or 2, since the program's own buffers have their lengths
+/// and keep the rules, 9, since no mapping follows the 256th, or 12 or 14, since no step is a list of mappings or a look
+/// at the position.
+const KINDS: [Kind; 52] = [
     kind(MAP, &[0], &[3, 4, 5, 7]),
     kind("read", &[0, 1, 2, 3], &[3, 6, 8]),
+    kind("read, flushed to read", &[0], &[]),
+    kind("read, flushed to change", &[2, 3], &[]),
     kind("read, device reads", &[0, 2], &[6]),
     kind("read, device writes", &[], &[6, 15]),
     kind("write", &[0, 1, 2, 3], &[3, 6, 8, 10]),
+    kind("write, flushed to read", &[0], &[]),
+    kind("write, flushed to change", &[2, 3], &[]),
     kind("write, rights 3", &[], &[10]),
     kind("write, device reads", &[], &[6, 10, 15]),
     kind("write, device writes", &[], &[6, 10, 15]),
@@ -90,11 +95,19 @@ const KINDS: [Kind; 48] = [
 /// The name of a step's kind, by its frame and its line.
 fn name(step: &[u8], about: About, line: &str) -> &'static str {
     match (step[0], about.mark) {
-        (READ, Free) => "read",
+        (READ, Free) => match about.flushed {
+            None => "read",
+            Some(Flushed::ToRead) => "read, flushed to read",
+            Some(Flushed::ToChange) => "read, flushed to change",
+        },
         (READ, DeviceReads) => "read, device reads",
         (READ, DeviceWrites) => "read, device writes",
         (WRITE, Free) if about.rights == Some(3) => "write, rights 3",
-        (WRITE, Free) => "write",
+        (WRITE, Free) => match about.flushed {
+            None => "write",
+            Some(Flushed::ToRead) => "write, flushed to read",
+            Some(Flushed::ToChange) => "write, flushed to change",
+        },
         (WRITE, DeviceReads) => "write, device reads",
         (WRITE, DeviceWrites) => "write, device writes",
         (DEVICE_READ, Free) => "device read",
@@ -126,8 +139,10 @@ fn name(step: &[u8], about: About, line: &str) -> &'static str {
             (Some(1), _) => "fetch, rights 1",
             (Some(2), _) => "fetch, rights 2",
             (_, Change::Never) => "fetch",
-            (_, Change::Write) if flushes_own(step, line) => "fetch after own write",
-            (_, Change::Write) => "fetch after write",
+            (_, Change::Write) => match flush(line) {
+                Some([_, flushed]) if flushed == colour(step) => "fetch after own write",
+                _ => "fetch after write",
+            },
             (_, Change::DeviceWrite) => "fetch after device write",
             (_, Change::Part) => "fetch after part",
             (_, Change::BeginWrite) => "fetch after begin write",
@@ -138,11 +153,11 @@ fn name(step: &[u8], about: About, line: &str) -> &'static str {
     }
 }
 
-/// Whether the line of a step through a page has a flush of that page's own colour.
-fn flushes_own(step: &[u8], line: &str) -> bool {
-    let colour = step[2] % 8;
-    line.split(' ')
-        .any(|word| word.starts_with('F') && word.ends_with(&format!(".{colour}")))
+/// The frame and the colour that a step flushes, by its line.
+fn flush(line: &str) -> Option<[u8; 2]> {
+    let flush = line.split(' ').find_map(|word| word.strip_prefix('F'))?;
+    let (frame, colour) = flush.split_once('.')?;
+    Some([frame.parse().ok()?, colour.parse().ok()?])
 }
 
 /// The name of a part by how it lies to its page.
@@ -221,7 +236,7 @@ impl Tally {
         self.full_lists += u64::from(listed == MAPPINGS);
         for (step, line) in steps.zip(lines) {
             if self.count(name(step, state.of(step), line), line) {
-                state.follow(step);
+                state.follow(step, flush(line));
             }
         }
     }
@@ -362,24 +377,29 @@ mod tests {
             Change::Part,
             Change::BeginWrite,
         ];
+        let flushed = [None, Some(Flushed::ToRead), Some(Flushed::ToChange)];
+        let mut abouts = Vec::new();
+        for mark in [Free, DeviceReads, DeviceWrites] {
+            for rights in [None, Some(1), Some(2), Some(3)] {
+                for change in changes {
+                    abouts.extend(flushed.map(|flushed| About {
+                        mark,
+                        change,
+                        rights,
+                        flushed,
+                    }));
+                }
+            }
+        }
         let mut named = BTreeSet::from([MAP]);
         for kind in READ..=FETCH {
             for s in [0, 64, 128] {
-                for mark in [Free, DeviceReads, DeviceWrites] {
-                    for rights in [None, Some(1), Some(2), Some(3)] {
-                        for change in changes {
-                            let about = About {
-                                mark,
-                                change,
-                                rights,
-                            };
-                            let step = [kind, s, 0, 0, 0, 0, 0, 0, 0];
-                            for line in ["0 0 - - -", "0 0 F0.0 - 7", "0 0 F0.1 - 7"] {
-                                let name = name(&step, about, line);
-                                assert_eq!(KINDS[place(name)].name, name);
-                                named.insert(name);
-                            }
-                        }
+                let step = [kind, s, 0, 0, 0, 0, 0, 0, 0];
+                for &about in &abouts {
+                    for line in ["0 0 - - -", "0 0 F0.0 - 7", "0 0 F0.1 - 7"] {
+                        let name = name(&step, about, line);
+                        assert_eq!(KINDS[place(name)].name, name);
+                        named.insert(name);
                     }
                 }
             }
@@ -465,6 +485,61 @@ mod tests {
         for (name, number) in refused {
             let right = BTreeMap::from([(number, 1)]);
             assert_eq!(tally.met[place(name)].refused, right, "{name}");
+        }
+    }
+
+    #[test]
+    fn flushes_by_their_lines() {
+        let rows = [
+            ("m0 0", None),
+            ("7 0 - - 12", None),
+            ("7 0 P5.0 - -", None),
+            ("7 0 I5.0 - 12", None),
+            ("7 0 F5.0 - -", Some([5, 0])),
+            ("7 0 F63.7 P63.1 12", Some([63, 7])),
+            ("7 0 F5.0 I5.1 12", Some([5, 0])),
+        ];
+        for (line, right) in rows {
+            assert_eq!(flush(line), right, "{line}");
+        }
+    }
+
+    /// Frame 5 at pages 0, 1 and 2. What a write leaves dirty is flushed by a read, a device read and a write, and its
+    /// colour read and written after each.
+    #[test]
+    fn accesses_by_what_their_colour_was_flushed_for() {
+        let mut sheet = vec![3, 0];
+        for page in 0..3 {
+            sheet.extend([0, page, 0, 5, 2]);
+        }
+        let access = |kind, page| [kind, 0, page, 0, 0, 0, 0, 0, 0];
+        let steps = [
+            access(WRITE, 0),
+            access(READ, 1),
+            access(READ, 0),
+            access(WRITE, 0),
+            [DEVICE_READ, 5, 0, 0, 0, 0, 0, 0, 0],
+            access(WRITE, 0),
+            access(WRITE, 2),
+            access(READ, 0),
+            access(WRITE, 2),
+            access(WRITE, 0),
+            access(WRITE, 2),
+        ];
+        sheet.extend([steps.len() as u8, 0]);
+        sheet.extend(steps.concat());
+        let mut tally = Tally::default();
+        tally.add(&sheet, None, &peer::run(&sheet));
+        let accepted = [
+            ("read", [0, 1, 0, 0, 0, 0]),
+            ("read, flushed to read", [1, 0, 0, 0, 0, 0]),
+            ("read, flushed to change", [0, 0, 0, 1, 0, 0]),
+            ("write", [2, 1, 0, 1, 0, 0]),
+            ("write, flushed to read", [2, 0, 0, 0, 0, 0]),
+            ("write, flushed to change", [0, 0, 0, 1, 0, 0]),
+        ];
+        for (name, right) in accepted {
+            assert_eq!(tally.met[place(name)].accepted, right, "{name}");
         }
     }
 

@@ -5,7 +5,6 @@
 use crate::every;
 use peer::board::{Cache, Colour, Frame, Line, Offset, FRAMES, LINES, LINE_WORDS, PAGE_WORDS};
 use peer::call::Operation;
-use std::mem;
 use std::ops::Range;
 
 /// The words of memory, and the tags and words of both caches.
@@ -56,8 +55,8 @@ impl Hardware<'_> {
         self.tags[number(Cache::Data, line)] = DIRTY + frame.index() as u8;
     }
 
-    /// Empties the frame's lines of one cache in a colour: a flush writes dirty ones back, a purge does
-    /// not.
+    /// What is ordered of the frame's lines in a colour: a flush writes the dirty ones back and leaves all
+    /// in, clean; a purge empties those of its cache and writes nothing.
     pub fn perform(&mut self, operation: Operation) {
         let (cache, frame, colour) = match operation {
             Operation::Flush(frame, colour) | Operation::Purge(frame, colour) => {
@@ -68,7 +67,7 @@ impl Hardware<'_> {
         for line in colour.lines() {
             if self.names(cache, line, frame) {
                 match operation {
-                    Operation::Flush(..) => self.evict(cache, line),
+                    Operation::Flush(..) => self.write_back(cache, line),
                     Operation::Purge(..) | Operation::PurgeInstructions(..) => {
                         self.tags[number(cache, line)] = EMPTY;
                     }
@@ -79,12 +78,8 @@ impl Hardware<'_> {
 
     /// Writes a line back if it is dirty, and empties it (document 01's "turning out").
     pub fn evict(&mut self, cache: Cache, line: Line) {
-        let number = number(cache, line);
-        let tag = mem::replace(&mut self.tags[number], EMPTY);
-        if let Some(frame) = tag.checked_sub(DIRTY) {
-            let page = &mut self.memory[page_of(frame.into())];
-            page[line.offsets()].copy_from_slice(&self.words[words_of(number)]);
-        }
+        self.write_back(cache, line);
+        self.tags[number(cache, line)] = EMPTY;
     }
 
     /// Memory past the cache: the device's view.
@@ -104,6 +99,16 @@ impl Hardware<'_> {
             self.tags[number] = CLEAN + frame.index() as u8;
         }
         &mut self.words[words_of(number)][offset.index() % LINE_WORDS]
+    }
+
+    /// Writes a line back if it is dirty, and leaves it clean.
+    fn write_back(&mut self, cache: Cache, line: Line) {
+        let number = number(cache, line);
+        if let Some(frame) = self.tags[number].checked_sub(DIRTY) {
+            let page = &mut self.memory[page_of(frame.into())];
+            page[line.offsets()].copy_from_slice(&self.words[words_of(number)]);
+            self.tags[number] = CLEAN + frame;
+        }
     }
 
     fn names(&self, cache: Cache, line: Line, frame: Frame) -> bool {

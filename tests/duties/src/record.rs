@@ -67,40 +67,34 @@ pub fn access(
     }
     let own = 1 << colour.index();
     let dirty_colour = colour_of(dirty_colour);
-    // A dirty one of the others is flushed and empty; if none is dirty, held ones are kept for now.
-    let (flush, kept) = match dirty_colour {
-        None => (None, held & !own),
-        Some(dirty) => (
-            (dirty != colour).then_some(Operation::Flush(frame, dirty)),
-            0,
-        ),
-    };
+    // A dirty one of the others is flushed: it stays held or goes stale as those that are held.
+    let flushed = dirty_colour.filter(|&dirty| dirty != colour);
+    let flush = flushed.map(|dirty| Operation::Flush(frame, dirty));
     let purge = (stale & own != 0).then_some(Operation::Purge(frame, colour));
     let next = match access {
         Access::Write => {
-            let (stale, dirty_colour) = (stale & !own | kept, colour.index() as u32);
+            let (stale, dirty_colour) = ((stale | held) & !own, colour.index() as u32);
             [own, stale, 1, busy, dirty_colour, 0, outdated | fetched]
         }
         _ if dirty_colour == Some(colour) => record,
         _ => {
-            let (held, stale) = (kept | own, stale & !own);
+            let (held, stale) = (held | own, stale & !own);
             [held, stale, 0, busy, NO_DIRTY_COLOUR, fetched, outdated]
         }
     };
     Ok((next, in_order(flush, purge)))
 }
 
-/// The same for a fetch, of a frame that takes it: the dirty colour is flushed and empty, the fetch's own
-/// too.
+/// The same for a fetch, of a frame that takes it: the dirty colour is flushed and stays held, the fetch's
+/// own too.
 fn fetch(
-    [held, stale, dirty, busy, dirty_colour, fetched, outdated]: Record,
+    [held, stale, _, busy, dirty_colour, fetched, outdated]: Record,
     frame: Frame,
     colour: Colour,
 ) -> (Record, Operations) {
     let own = 1 << colour.index();
     let flush = colour_of(dirty_colour).map(|dirty| Operation::Flush(frame, dirty));
     let purge = (outdated & own != 0).then_some(Operation::PurgeInstructions(frame, colour));
-    let held = if dirty == 0 { held } else { 0 };
     let (fetched, outdated) = (fetched | own, outdated & !own);
     let next = [held, stale, 0, busy, NO_DIRTY_COLOUR, fetched, outdated];
     (next, in_order(flush, purge))
@@ -130,18 +124,18 @@ pub fn transfer(
         Transfer::Begin(Direction::Read) => (true, Operation::Flush, DEVICE_READS),
         Transfer::Begin(Direction::Write) => (false, Operation::Flush, DEVICE_WRITES),
     };
-    let dirty_colour = colour_of(dirty_colour);
-    let (held, stale) = match (dirty_colour, reads) {
-        (None, true) => (held, stale),
-        (None, false) => (0, stale | held),
-        (Some(_), _) => (0, stale),
+    let due = colour_of(dirty_colour).map(|colour| due(frame, colour));
+    // A purge leaves nothing held; a flush leaves the colour to go as those that are held.
+    let held = match due {
+        Some(Operation::Purge(..)) => 0,
+        _ => held,
     };
-    let (fetched, outdated) = match reads {
-        true => (fetched, outdated),
-        false => (0, outdated | fetched),
+    let (held, stale, fetched, outdated) = match reads {
+        true => (held, stale, fetched, outdated),
+        false => (0, stale | held, 0, outdated | fetched),
     };
     let next = [held, stale, 0, busy, NO_DIRTY_COLOUR, fetched, outdated];
-    Ok((next, [dirty_colour.map(|colour| due(frame, colour)), None]))
+    Ok((next, [due, None]))
 }
 
 /// A word of a transfer that was begun in this direction. The record stays.

@@ -473,27 +473,30 @@ fn the_dirty_colour_is_written() {
     let rows = [
         (write(0, 1), [2, 0, 1, 0, 1, 0, 0]),
         (read(0, 1), [2, 0, 1, 0, 1, 0, 0]),
-        (write(0, 0), [1, 0, 1, 0, 0, 0, 0]),
-        (write(0, 8), [1, 0, 1, 0, 0, 0, 0]),
+        // Flushed for a write, colour 1 is stale.
+        (write(0, 0), [1, 2, 1, 0, 0, 0, 0]),
+        (write(0, 8), [1, 2, 1, 0, 0, 0, 0]),
         // Turned out or unmapped, the colour stays dirty.
-        (Call::Evict { line: 0 }, [1, 0, 1, 0, 0, 0, 0]),
-        (Call::Unmap { space: 0, page: 8 }, [1, 0, 1, 0, 0, 0, 0]),
-        (read(0, 1), [2, 0, 0, 0, 8, 0, 0]),
+        (Call::Evict { line: 0 }, [1, 2, 1, 0, 0, 0, 0]),
+        (Call::Unmap { space: 0, page: 8 }, [1, 2, 1, 0, 0, 0, 0]),
+        // Flushed for a read, colour 0 is held.
+        (read(0, 1), [3, 0, 0, 0, 8, 0, 0]),
         (read(0, 0), [3, 0, 0, 0, 8, 0, 0]),
         (write(0, 1), [2, 1, 1, 0, 1, 0, 0]),
-        (Call::DeviceRead { frame: 5 }, [0, 1, 0, 0, 8, 0, 0]),
+        (Call::DeviceRead { frame: 5 }, [2, 1, 0, 0, 8, 0, 0]),
         (write(0, 1), [2, 1, 1, 0, 1, 0, 0]),
+        // Purged, it is empty.
         (whole, [0, 1, 0, 0, 8, 0, 0]),
         (write(0, 0), [1, 0, 1, 0, 0, 0, 0]),
-        (part(20, 12), [0, 0, 0, 0, 8, 0, 0]),
-        (write(0, 1), [2, 0, 1, 0, 1, 0, 0]),
-        (begin_read(5), [0, 0, 0, 1, 8, 0, 0]),
-        (read(0, 0), [1, 0, 0, 1, 8, 0, 0]),
-        (end(5), [1, 0, 0, 0, 8, 0, 0]),
+        (part(20, 12), [0, 1, 0, 0, 8, 0, 0]),
         (write(0, 1), [2, 1, 1, 0, 1, 0, 0]),
-        (begin_write(5), [0, 1, 0, 2, 8, 0, 0]),
-        (bring(5, 0), [0, 1, 0, 2, 8, 0, 0]),
-        (end(5), [0, 1, 0, 0, 8, 0, 0]),
+        (begin_read(5), [2, 1, 0, 1, 8, 0, 0]),
+        (read(0, 0), [3, 0, 0, 1, 8, 0, 0]),
+        (end(5), [3, 0, 0, 0, 8, 0, 0]),
+        (write(0, 1), [2, 1, 1, 0, 1, 0, 0]),
+        (begin_write(5), [0, 3, 0, 2, 8, 0, 0]),
+        (bring(5, 0), [0, 3, 0, 2, 8, 0, 0]),
+        (end(5), [0, 3, 0, 0, 8, 0, 0]),
     ];
     for (call, record) in rows {
         accept(&mut buffers, call);
@@ -561,27 +564,27 @@ fn the_masks_for_instructions_are_written() {
         (read(0, 8), [1, 0, 0, 0, 8, 3, 0]),
         // A write makes both stale; the next flushes and they stay so.
         (write(0, 1), [2, 1, 1, 0, 1, 0, 3]),
-        (write(0, 0), [1, 0, 1, 0, 0, 0, 3]),
-        // The fetch's own colour is dirty.
-        (fetch(0, 8), [0, 0, 0, 0, 8, 1, 2]),
-        (Call::Evict { line: 64 }, [0, 0, 0, 0, 8, 1, 2]),
-        (Call::Unmap { space: 0, page: 8 }, [0, 0, 0, 0, 8, 1, 2]),
-        (fetch(0, 9), [0, 0, 0, 0, 8, 3, 0]),
-        (Call::DeviceRead { frame: 5 }, [0, 0, 0, 0, 8, 3, 0]),
-        (read(0, 1), [2, 0, 0, 0, 8, 3, 0]),
-        (part(20, 12), [0, 2, 0, 0, 8, 0, 3]),
-        (fetch(0, 9), [0, 2, 0, 0, 8, 2, 1]),
-        (whole, [0, 2, 0, 0, 8, 0, 3]),
-        (fetch(0, 9), [0, 2, 0, 0, 8, 2, 1]),
-        (begin_read(5), [0, 2, 0, 1, 8, 2, 1]),
-        (fetch(0, 9), [0, 2, 0, 1, 8, 2, 1]),
-        (end(5), [0, 2, 0, 0, 8, 2, 1]),
-        (begin_write(5), [0, 2, 0, 2, 8, 0, 3]),
-        (bring(5, 0), [0, 2, 0, 2, 8, 0, 3]),
-        (end(5), [0, 2, 0, 0, 8, 0, 3]),
-        // The fetch's other colour is dirty.
         (write(0, 0), [1, 2, 1, 0, 0, 0, 3]),
-        (fetch(0, 9), [0, 2, 0, 0, 8, 2, 1]),
+        // The fetch's own colour is dirty, and held then.
+        (fetch(0, 8), [1, 2, 0, 0, 8, 1, 2]),
+        (Call::Evict { line: 64 }, [1, 2, 0, 0, 8, 1, 2]),
+        (Call::Unmap { space: 0, page: 8 }, [1, 2, 0, 0, 8, 1, 2]),
+        (fetch(0, 9), [1, 2, 0, 0, 8, 3, 0]),
+        (Call::DeviceRead { frame: 5 }, [1, 2, 0, 0, 8, 3, 0]),
+        (read(0, 1), [3, 0, 0, 0, 8, 3, 0]),
+        (part(20, 12), [0, 3, 0, 0, 8, 0, 3]),
+        (fetch(0, 9), [0, 3, 0, 0, 8, 2, 1]),
+        (whole, [0, 3, 0, 0, 8, 0, 3]),
+        (fetch(0, 9), [0, 3, 0, 0, 8, 2, 1]),
+        (begin_read(5), [0, 3, 0, 1, 8, 2, 1]),
+        (fetch(0, 9), [0, 3, 0, 1, 8, 2, 1]),
+        (end(5), [0, 3, 0, 0, 8, 2, 1]),
+        (begin_write(5), [0, 3, 0, 2, 8, 0, 3]),
+        (bring(5, 0), [0, 3, 0, 2, 8, 0, 3]),
+        (end(5), [0, 3, 0, 0, 8, 0, 3]),
+        // The fetch's other colour is dirty, and held then.
+        (write(0, 0), [1, 2, 1, 0, 0, 0, 3]),
+        (fetch(0, 9), [1, 2, 0, 0, 8, 2, 1]),
     ];
     for (call, record) in rows {
         accept(&mut buffers, call);
@@ -624,22 +627,23 @@ fn the_lines_of_a_fetch() {
     assert_eq!(buffers.memory[64 * 5], 100);
     let accepted = buffers.call(at(0)).unwrap();
     assert_eq!(accepted.found, Found::Word(7));
-    // Flushed, purged, and filled again: line 79 is empty, and its words stay.
-    (tags[8], tags[79], tags[72]) = (0, 0, 6);
+    // Flushed, purged, and filled again: line 8 is clean, line 79 is empty, and their words stay.
+    (tags[8], tags[79], tags[72]) = (6, 0, 6);
     words[8 * 72..8 * 73].copy_from_slice(&[7, 101, 102, 103, 104, 105, 106, 107]);
     assert_eq!((&buffers.tags, &buffers.words), (&tags, &words));
     assert_eq!(buffers.memory[64 * 5], 7);
 
-    // Evicted, a line of the instruction cache is written nowhere.
-    buffers.words[8 * 72] = 99;
-    words[8 * 72] = 99;
+    // Evicted, a flushed line is written nowhere, and a line of the instruction cache is not.
     let memory = buffers.memory.clone();
-    accept(&mut buffers, Call::Evict { line: 8 });
     accept(&mut buffers, Call::Evict { line: 73 });
-    assert_eq!((&buffers.tags, &buffers.words), (&tags, &words));
-    accept(&mut buffers, Call::Evict { line: 72 });
-    tags[72] = 0;
-    assert_eq!((&buffers.tags, &buffers.words), (&tags, &words));
+    for line in [8, 72] {
+        buffers.words[8 * line] = 99;
+        words[8 * line] = 99;
+        assert_eq!((&buffers.tags, &buffers.words), (&tags, &words));
+        accept(&mut buffers, Call::Evict { line: line as u8 });
+        tags[line] = 0;
+        assert_eq!((&buffers.tags, &buffers.words), (&tags, &words));
+    }
     assert_eq!(buffers.memory, memory);
 }
 
@@ -748,7 +752,8 @@ fn protections() {
         (map(2, 2), vec![(1, 1), (2, 0), (9, 1)]),
         (map(10, 2), vec![(1, 1), (2, 0), (9, 1), (10, 0)]),
         (write(0, 1), vec![(1, 2), (2, 0), (9, 1), (10, 0)]),
-        (read(0, 2), vec![(1, 0), (2, 1), (9, 0), (10, 1)]),
+        // The colour that the read flushes stays held.
+        (read(0, 2), vec![(1, 1), (2, 1), (9, 1), (10, 1)]),
         (read(0, 9), vec![(1, 1), (2, 1), (9, 1), (10, 1)]),
         (write(0, 10), vec![(1, 0), (2, 2), (9, 0), (10, 2)]),
         (
@@ -761,11 +766,11 @@ fn protections() {
             vec![(1, 0), (9, 0), (10, 2)],
         ),
         (Call::Unmap { space: 0, page: 1 }, vec![(9, 0), (10, 2)]),
-        (Call::DeviceRead { frame: 5 }, vec![(9, 0), (10, 0)]),
-        (read(0, 9), vec![(9, 1), (10, 0)]),
+        (Call::DeviceRead { frame: 5 }, vec![(9, 0), (10, 1)]),
+        (read(0, 9), vec![(9, 1), (10, 1)]),
         (Call::Unmap { space: 0, page: 10 }, vec![(9, 1)]),
         (Call::DeviceWrite { frame: 5, first: 0 }, vec![(9, 0)]),
-        // A part makes a held colour stale and a dirty one empty.
+        // A part makes a held colour stale, and a dirty one.
         (read(0, 9), vec![(9, 1)]),
         (part(0, 1), vec![(9, 0)]),
         (map(2, 2), vec![(2, 0), (9, 0)]),
@@ -774,10 +779,10 @@ fn protections() {
         (read(0, 2), vec![(2, 1), (9, 0)]),
         // While the device reads, held colours may be read, those mapped since then too, and none be written.
         (write(0, 2), vec![(2, 2), (9, 0)]),
-        (begin_read(5), vec![(2, 0), (9, 0)]),
-        (read(0, 9), vec![(2, 0), (9, 1)]),
-        (take(5, 0), vec![(2, 0), (9, 1)]),
-        (map(1, 2), vec![(1, 1), (2, 0), (9, 1)]),
+        (begin_read(5), vec![(2, 1), (9, 0)]),
+        (read(0, 9), vec![(2, 1), (9, 1)]),
+        (take(5, 0), vec![(2, 1), (9, 1)]),
+        (map(1, 2), vec![(1, 1), (2, 1), (9, 1)]),
         (read(0, 2), vec![(1, 1), (2, 1), (9, 1)]),
         (Call::Unmap { space: 0, page: 1 }, vec![(2, 1), (9, 1)]),
         (Call::Evict { line: 8 }, vec![(2, 1), (9, 1)]),
@@ -818,7 +823,8 @@ fn protections_of_fetches() {
         (read(0, 1), [1, 1, 5, 5]),
         // Dirty: rights 3 are not to write.
         (write(0, 1), [2, 0, 1, 0]),
-        (fetch(0, 10), [0, 0, 0, 4]),
+        // Flushed, the colour stays held.
+        (fetch(0, 10), [1, 0, 1, 4]),
         (read(0, 9), [1, 0, 1, 4]),
         (fetch(0, 9), [1, 0, 5, 4]),
         (Call::Evict { line: 72 }, [1, 0, 5, 4]),

@@ -94,7 +94,7 @@ fn parts() {
         0d 00
         02 00 00 00 00 07 00 00 00    # 0 writes 7 to offset 0
         07 05 01 00 3f 64 00 00 00    # 1 sends 100 to 162 to the other offsets: a flush
-        01 00 00 00 00 00 00 00 00    # 2 finds 7
+        01 00 00 00 00 00 00 00 00    # 2 finds 7, stale since the flush: a purge
         01 00 01 00 3f 00 00 00 00    # 3 finds 162
         07 05 3f 00 01 c8 00 00 00    # 4 sends 200 to offset 63: both colours are stale
         02 00 00 00 01 08 00 00 00    # 5 writes 8 to offset 1: a purge
@@ -107,8 +107,8 @@ fn parts() {
         07 40 ff ff 00 00 00 00 00    # 12 frame 64: 4
     ";
     let right = "m0 0\nm1 0\n\
-        0 0 - - -\n1 0 F5.0 - -\n2 0 - - 7\n3 0 - - 162\n4 0 - - -\n5 0 P5.0 - -\n6 0 F5.0 - -\n\
-        7 0 P5.1 - 8\n8 0 - - 111\n9 0 - - -\n10 0 P5.1 - -\n11 13 - - -\n12 4 - - -\nend 2 3\n";
+        0 0 - - -\n1 0 F5.0 - -\n2 0 P5.0 - 7\n3 0 - - 162\n4 0 - - -\n5 0 P5.0 - -\n6 0 F5.0 - -\n\
+        7 0 P5.1 - 8\n8 0 - - 111\n9 0 - - -\n10 0 P5.1 - -\n11 13 - - -\n12 4 - - -\nend 2 4\n";
     assert_eq!(check(&bytes(sheet)), right);
 }
 
@@ -127,7 +127,7 @@ fn transfers_that_take_a_while() {
         02 00 00 00 00 08 00 00 00    # 4 the device reads: 15
         0a 05 00 00 00 08 00 00 00    # 5 the wrong direction: 16
         0c 05 00 00 00 00 00 00 00    # 6 ends
-        09 05 00 00 00 00 00 00 00    # 7 begins to write: colour 1 is stale
+        09 05 00 00 00 00 00 00 00    # 7 begins to write: both colours, held by 1 and 2, are stale
         0a 05 00 00 01 09 00 00 00    # 8 brings 9 to offset 1
         01 00 00 00 00 00 00 00 00    # 9 the device writes: 15
         02 00 01 00 00 08 00 00 00    # 10 only to read: 10
