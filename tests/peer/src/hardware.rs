@@ -73,11 +73,19 @@ impl<T> Slot<T> {
     }
 }
 
+/// How many lines of each cache were filled from memory, one at each miss. Nothing that the board does goes by them.
+#[derive(Clone, Copy, Debug, Default, PartialEq, Eq)]
+pub struct Fills {
+    pub data: usize,
+    pub instructions: usize,
+}
+
 #[derive(Clone, Debug, PartialEq, Eq)]
 pub struct Hardware {
     memory: [PageWords; FRAMES],
     data: [Slot<Tag>; LINES],
     instructions: [Slot<InstructionTag>; LINES],
+    fills: Fills,
 }
 
 /// Memory all 0 and every line empty.
@@ -87,6 +95,7 @@ impl Default for Hardware {
             memory: [[0; PAGE_WORDS]; FRAMES],
             data: [Slot::empty(Tag::Empty); LINES],
             instructions: [Slot::empty(InstructionTag::Empty); LINES],
+            fills: Fills::default(),
         }
     }
 }
@@ -112,6 +121,7 @@ impl Hardware {
             let words = &self.memory[frame.index()][line.offsets()];
             slot.words.copy_from_slice(words);
             slot.tag = InstructionTag::Clean(frame);
+            self.fills.instructions += 1;
         }
         slot.words[offset.index() % LINE_WORDS]
     }
@@ -164,6 +174,10 @@ impl Hardware {
         self.instructions[line.index()].tag
     }
 
+    pub fn fills(&self) -> Fills {
+        self.fills
+    }
+
     /// Writes a line of the data cache back if it is dirty, and leaves it clean.
     fn write_back(&mut self, line: Line) {
         let Slot { tag, words } = &mut self.data[line.index()];
@@ -182,6 +196,7 @@ impl Hardware {
             let slot = &mut self.data[line.index()];
             slot.words.copy_from_slice(words);
             slot.tag = Tag::Clean(frame);
+            self.fills.data += 1;
         }
         &mut self.data[line.index()]
     }

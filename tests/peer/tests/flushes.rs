@@ -4,7 +4,7 @@
 
 use peer::board::{Cache, Colour, Frame, Line, Offset};
 use peer::call::{Accepted, Call, Found, Mapping, Operation};
-use peer::hardware::{Hardware, Tag};
+use peer::hardware::{Fills, Hardware, Tag};
 use peer::machine::Machine;
 use peer::record::{Access, Direction, Record, Transfer};
 use peer::Pair;
@@ -58,6 +58,39 @@ fn a_flush_leaves_the_words() {
     for (at, word) in [(0, 70), (1, 0), (63, 71), (62, 0), (8, 0), (16, 7)] {
         let found = hardware.load(frame(5), colour(2), offset(at));
         assert_eq!(found, word, "offset {at}");
+    }
+}
+
+/// A miss fills a line of the access's cache, and a hit none; a flush leaves hits where a purge and an eviction leave
+/// misses.
+#[test]
+fn fills() {
+    let (frame, colour, first) = (frame(5), colour(2), offset(0));
+    // The two writes and the read before the flush were misses.
+    let mut hardware = flushed();
+    let mut data = 3;
+    let mut check = |hardware: &mut Hardware, fills| {
+        for _ in 0..2 {
+            hardware.load(frame, colour, first);
+            hardware.store(frame, colour, offset(7), 72);
+            hardware.load(frame, colour, offset(63));
+        }
+        data += fills;
+        let instructions = 0;
+        assert_eq!(hardware.fills(), Fills { data, instructions });
+    };
+    check(&mut hardware, 0);
+    hardware.evict(Cache::Data, Line::of(colour, first));
+    check(&mut hardware, 1);
+    hardware.perform(Operation::Flush(frame, colour));
+    check(&mut hardware, 0);
+    hardware.perform(Operation::Purge(frame, colour));
+    check(&mut hardware, 2);
+
+    for _ in 0..2 {
+        hardware.fetch(frame, colour, first);
+        let instructions = 1;
+        assert_eq!(hardware.fills(), Fills { data, instructions });
     }
 }
 
