@@ -13,7 +13,7 @@ use Rattle.manager.specs.Batch.{itemAt}
 use Rattle.manager.specs.Refusals.{firstRefusal}
 use Rattle.manager.specs.Tables.{tabulate}
 use Rattle.manager.proofs.Laws.{getD-tabulate}
-use Rattle.machine.specs.Call.{mapOf, afterItems, itemAnswer, callCauses, perform}
+use Rattle.machine.specs.Call.{mapOf, afterItems, itemAnswer, perform}
 use Rattle.machine.specs.Refusals.{causes}
 use Rattle.machine.specs.State.{State, Single, map, unmap, read, write, deviceRead, deviceWrite, deviceWritePart, evict, beginRead, beginWrite, bringWord, takeWord, endTransfer, fetch, Call, single, mapAll, Result}
 use Rattle.machine.specs.Step.{accept, step}
