@@ -633,16 +633,18 @@ fn the_lines_of_a_fetch() {
     assert_eq!((&buffers.tags, &buffers.words), (&tags, &words));
     assert_eq!(buffers.memory[64 * 5], 7);
 
-    // Evicted, a flushed line is written nowhere, and a line of the instruction cache is not.
+    // Evicted, a flushed line is written nowhere, nor is a line of the instruction cache. Each is empty then, and stays
+    // as it is when it is evicted again.
     let memory = buffers.memory.clone();
-    accept(&mut buffers, Call::Evict { line: 73 });
     for line in [8, 72] {
         buffers.words[8 * line] = 99;
         words[8 * line] = 99;
         assert_eq!((&buffers.tags, &buffers.words), (&tags, &words));
-        accept(&mut buffers, Call::Evict { line: line as u8 });
         tags[line] = 0;
-        assert_eq!((&buffers.tags, &buffers.words), (&tags, &words));
+        for _ in 0..2 {
+            accept(&mut buffers, Call::Evict { line: line as u8 });
+            assert_eq!((&buffers.tags, &buffers.words), (&tags, &words));
+        }
     }
     assert_eq!(buffers.memory, memory);
 }

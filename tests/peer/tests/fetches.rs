@@ -418,7 +418,7 @@ fn stale_data_colours_stay_stale() {
     check(&mut after(&before), &rows);
 }
 
-/// A fetch leaves nothing in the data cache: no colour is held by it, so that none goes stale.
+/// A fetch brings nothing into the data cache: an empty colour is not held after it, so that none goes stale.
 #[test]
 fn empty_data_colours_stay_empty() {
     let rows = [
