@@ -5,7 +5,7 @@ pub mod Weaker
 pub mod Table
 pub mod Pages
 pub mod Operate
-pub mod Cleared
+pub mod StatesLeft
 pub mod Operations
 pub mod Access
 pub mod Write

@@ -19,7 +19,7 @@ use Rattle.cache.specs.Tag.{dirtyTag, names}
 use Rattle.cache.specs.Cache as hardware
 use Rattle.cache.specs.Cache.{FlushKind}
 use Rattle.cache.specs.Current.{Current}
-use Rattle.cache.proofs.Laws.Operations.{flush-words, flush-names-from, flush-dirty-from, flush-clean, purge-words, purge-tag-from, purge-names}
+use Rattle.cache.proofs.Laws.Operations.{flush-words, flush-names, flush-dirty-from, flush-clean, purge-words, purge-tag-from, purge-names}
 use Rattle.cache.proofs.Current.Line.{flush-current}
 use Rattle.cache.proofs.Current.Purge.{purge-current}
 use Rattle.machine.specs.Step.{operateBy}
@@ -27,11 +27,11 @@ use Rattle.consistency.proofs.Agrees.{Tagged, Agrees, Untouched, emptie
 use Rattle.consistency.proofs.Weaker.{emptyAt, empty-tagged, empty-agrees, cleanAt, clean-tagged, clean-agrees}
 
 -- the states after it, where there are n colours
-abbrev pub cleared : ℕ → Op → (ℕ → ColourState) → ℕ → ColourState
-cleared n None states = states
-cleared n (Flush c) states = cleanAt c states
-cleared n (Purge c) states = emptyAt c states
-cleared n (PurgeInstructions c) states = emptyAt (n + c) states
+abbrev pub statesLeft : ℕ → Op → (ℕ → ColourState) → ℕ → ColourState
+statesLeft n None states = states
+statesLeft n (Flush c) states = cleanAt c states
+statesLeft n (Purge c) states = emptyAt c states
+statesLeft n (PurgeInstructions c) states = emptyAt (n + c) states
 
 -- the operation is no purge of a dirty page
 abbrev pub SparesDirty : ℕ → Op → (ℕ → ColourState) → Type 0
@@ -47,7 +47,7 @@ module _ (b : Board) (reg : Regular b) (how : FlushKind) (f : ℕ) (hf : f < b .
     flush-untouched : (g : ℕ) → g < b .frames → Untouched b g s (hardware.flushBy b how f c s)
     flush-untouched g hg =
         record {
-          names-from = λ d o hd ho n. flush-names-from b reg how f c hf h s wf (lineOf b d o) g (lineOf-lt b reg d o hd ho) hg n;
+          names-from = λ d o hd ho n. flush-names b reg how f c hf h s wf (lineOf b d o) g (lineOf-lt b reg d o hd ho) hg n;
           dirty-from = λ d o hd ho t. flush-dirty-from b reg how f c hf h s wf (lineOf b d o) g (lineOf-lt b reg d o hd ho) t;
           word-from = λ d o hd ho n. ap (λ (l : List ℕ). getD l (cacheAt b d o) 0) (flush-words b reg how f c hf h s wf);
         }
@@ -107,7 +107,7 @@ module _ (b : Board) (reg : Regular b) (how : FlushKind) (f : ℕ) (hf : f < b .
       untouched-agrees b g states s (operateBy b how (operationOn f op) s) (untouched op h g hg) words (other-current op h g words ne (a .current)) a
 
   pub operate-tagged : (op : Op) → OpBelow (b .colours) op → (states : ℕ → ColourState) → Tagged b f states s
-      → Tagged b f (cleared (b .colours) op states) (operateBy b how (operationOn f op) s)
+      → Tagged b f (statesLeft (b .colours) op states) (operateBy b how (operationOn f op) s)
   unfolding operateBy
   operate-tagged None h states t = t
   operate-tagged (Flush c) h states t = flush-tagged c (data-page b reg c h) states t
@@ -115,7 +115,7 @@ module _ (b : Board) (reg : Regular b) (how : FlushKind) (f : ℕ) (hf : f < b .
   operate-tagged (PurgeInstructions c) h states t = purge-tagged (instructionPage b c) (instruction-page b reg c h) states t
 
   pub operate-agrees : (op : Op) → OpBelow (b .colours) op → (states : ℕ → ColourState) (words : ℕ → ℕ) → SparesDirty (b .colours) op states → Agrees b f states words s
-      → Agrees b f (cleared (b .colours) op states) words (operateBy b how (operationOn f op) s)
+      → Agrees b f (statesLeft (b .colours) op states) words (operateBy b how (operationOn f op) s)
   unfolding operateBy
   operate-agrees None h states words spares a = a
   operate-agrees (Flush c) h states words spares a = flush-agrees c (data-page b reg c h) states words a

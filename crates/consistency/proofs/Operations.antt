@@ -16,8 +16,8 @@ use Rattle.cache.specs.Store.{Store, WellFormedStore}
 use Rattle.machine.specs.Step.{operateBy, carryOutBy}
 use Rattle.machine.proofs.StoreLaws.{operate-kept}
 use Rattle.consistency.proofs.Agrees.{Tagged, Agrees}
-use Rattle.consistency.proofs.Cleared.{first, second, bothCleared, after-weaker, spares-first, spares-second}
-use Rattle.consistency.proofs.Operate.{cleared, operate-other, operate-tagged, operate-agrees}
+use Rattle.consistency.proofs.StatesLeft.{first, second, bothLeft, after-weaker, spares-first, spares-second}
+use Rattle.consistency.proofs.Operate.{statesLeft, operate-other, operate-tagged, operate-agrees}
 use Rattle.consistency.proofs.Pages.{pageStates, pagesAfter}
 use Rattle.consistency.proofs.Table.{Spares}
 use Rattle.consistency.proofs.Weaker.{weaken, weaken-tagged}
@@ -55,15 +55,15 @@ module _ (b : Board) (reg : Regular b) (how : FlushKind) (f : ℕ) (hf : f < b .
   pub ordered-tagged : Tagged b f (pageStates (b .colours) r) s → Tagged b f (pagesAfter (b .colours) step r) (ordered b how f step r s)
   unfolding carryOutBy between
   ordered-tagged t =
-      weaken-tagged b f (bothCleared (b .colours) step r) (pagesAfter (b .colours) step r) (after-weaker (b .colours) step r rules) (ordered b how f step r s)
-      (operate-tagged b reg how f hf between between-kept (second (b .colours) step r) second-below (cleared (b .colours) (first (b .colours) step r) (pageStates (b .colours) r))
+      weaken-tagged b f (bothLeft (b .colours) step r) (pagesAfter (b .colours) step r) (after-weaker (b .colours) step r rules) (ordered b how f step r s)
+      (operate-tagged b reg how f hf between between-kept (second (b .colours) step r) second-below (statesLeft (b .colours) (first (b .colours) step r) (pageStates (b .colours) r))
       (operate-tagged b reg how f hf s wf (first (b .colours) step r) first-below (pageStates (b .colours) r) t))
 
   pub ordered-agrees : (words : ℕ → ℕ) → Spares step → Agrees b f (pageStates (b .colours) r) words s → Agrees b f (pagesAfter (b .colours) step r) words (ordered b how f step r s)
   unfolding carryOutBy between
   ordered-agrees words spares a =
-      weaken b f (bothCleared (b .colours) step r) (pagesAfter (b .colours) step r) (after-weaker (b .colours) step r rules) (ordered b how f step r s) words
-      (operate-agrees b reg how f hf between between-kept (second (b .colours) step r) second-below (cleared (b .colours) (first (b .colours) step r) (pageStates (b .colours) r)) words
+      weaken b f (bothLeft (b .colours) step r) (pagesAfter (b .colours) step r) (after-weaker (b .colours) step r rules) (ordered b how f step r s) words
+      (operate-agrees b reg how f hf between between-kept (second (b .colours) step r) second-below (statesLeft (b .colours) (first (b .colours) step r) (pageStates (b .colours) r)) words
       (spares-second (b .colours) step r rules spares (second (b .colours) step r) refl)
       (operate-agrees b reg how f hf s wf (first (b .colours) step r) first-below (pageStates (b .colours) r) words
       (spares-first (b .colours) step r rules spares (first (b .colours) step r) refl) a))

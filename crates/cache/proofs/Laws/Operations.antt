@@ -105,8 +105,8 @@ module _ (b : Board) (reg : Regular b) (how : FlushKind) (f c : ℕ) (hf : f < b
   flush-tag-either = sweep-tag-either b reg f (flushLine b how f) does c hc s wf
 
   -- a line that names a frame afterwards named it before, and one that is dirty was
-  pub flush-names-from : (n g : ℕ) → n < lines b → g < b .frames → names (tagAt (flushBy b how f c s) n) g ≡ true → names (tagAt s n) g ≡ true
-  flush-names-from n g h hg named =
+  pub flush-names : (n g : ℕ) → n < lines b → g < b .frames → names (tagAt (flushBy b how f c s) n) g ≡ true → names (tagAt s n) g ≡ true
+  flush-names n g h hg named =
       ⊎-elim (λ e. sym (ap (λ (t : ℕ). names t g) e) ∙ named)
       (λ e. ap (names (tagAt s n)) (flushed-names b reg how f hf g hg (sym (ap (λ (t : ℕ). names t g) (e .1)) ∙ named)) ∙ e .0)
       (flush-tag-either n h)
