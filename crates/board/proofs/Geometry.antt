@@ -2,7 +2,7 @@
 use mathlib.Core.Path.{_≡_, refl, sym, ap, ap₂, _∙_, subst, subst⁻¹}
 use Prim.Native.Nat.{ℕ, _+_, _-_, _*_, _/_, _%_, _≤_, _<_}
 use native.Mathlib.Omega.{arith}
-use native.Mathlib.Nat.{mod-lt, mul-assoc, mul-le-mul, mul-le-mul-left, mul-le-mul-right, add-mul, add-assoc, div-add-mod', div-lt-iff-lt-mul, suc-mul}
+use native.Mathlib.Nat.{mod-lt, mod-eq-of-lt, add-mod-left, mul-assoc, mul-le-mul, mul-le-mul-left, mul-le-mul-right, add-mul, add-assoc, div-add-mod', div-lt-iff-lt-mul, suc-mul}
 use lib.Arith.{digits-lt, digits-div, digits-mod}
 use Rattle.board.specs.Board.{Board, Regular, board01, cachePages, pageLines, dataLines, lines, cacheWords, memoryWords, colourOf, instructionPage, lineOf, colourLine, lineAt, cacheAt, lineColour, lineOffset, frameAt, memoryAt}
 
@@ -39,6 +39,15 @@ module _ (b : Board) (reg : Regular b) where
 
   pub instruction-page : (c : ℕ) → c < b .colours → instructionPage b c < cachePages b
   instruction-page c h = omega arith
+
+  -- and it is the colour of the virtual pages of these numbers
+  pub colourOf-data : (c : ℕ) → c < b .colours → colourOf b c ≡ c
+  unfolding colourOf
+  colourOf-data c h = mod-eq-of-lt h
+
+  pub colourOf-instruction : (c : ℕ) → c < b .colours → colourOf b (instructionPage b c) ≡ c
+  unfolding colourOf
+  colourOf-instruction c h = add-mod-left (b .colours) c ∙ mod-eq-of-lt h
 
   -- ---- a line and the offsets in it
 

@@ -7,5 +7,6 @@ pub mod Fill
 pub mod Sweep
 pub mod Operations
 pub mod Access
+pub mod Loads
 pub mod Instructions
 pub mod Device

@@ -4,13 +4,17 @@ use mathlib.Core.Bool.{true}
 use mathlib.Core.Option.{Option, none, some}
 use Prim.Native.Nat.{ℕ, _*_, _<_}
 use lib.ListN.{length}
+use Rattle.bits.proofs.Mask.{all-of}
 use Rattle.board.specs.declared.Board.{Board}
 use Rattle.page_model.specs.Record.{keepsRules}
 use Rattle.mapping.specs.declared.Mapping.{Mapping}
 use Rattle.mapping.specs.Entry.{capacity}
 use Rattle.mapping.specs.Facts.{Rules}
 use Rattle.mapping.specs.Lookup.{mappingOf}
-use Rattle.manager.specs.Tables.{Tables, recordWords, recordAt}
+use Rattle.mapping.proofs.Laws.{rules-keepsRules}
+use Rattle.manager.specs.Tables.{Tables, recordWords, recordAt, recordsKeepRules}
+use Rattle.manager.specs.Theorems.{WellFormedTables}
+use Rattle.manager.proofs.CauseLaws.{lengths-right, rules-kept}
 use Rattle.cache.specs.Store.{WellFormedStore}
 use Rattle.machine.specs.State.{State, Single, single}
 use Rattle.cache.specs.Cache.{FlushKind}
@@ -27,6 +31,12 @@ pub record Sound (b : Board) (t : Tables) : Type 0 where
   pub protections-length : length (t .protections) ≡ capacity
   pub list-rules : Rules b (t .list)
   pub record-rules : (f : ℕ) → f < b .frames → keepsRules (b .colours) (recordAt (t .records) f) ≡ true
+
+-- so their tests hold
+pub sound-kept : (b : Board) (t : Tables) → Sound b t → WellFormedTables b t
+unfolding recordsKeepRules
+sound-kept b t s =
+    (lengths-right b t (s .items-length) (s .records-length) (s .protections-length), rules-kept b t (rules-keepsRules b (t .list) (s .list-rules)) (all-of _ _ (s .record-rules)))
 
 -- the frame of a mapping, if there is one
 abbrev pub frameIn : Option Mapping → Option ℕ

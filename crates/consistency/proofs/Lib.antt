@@ -7,6 +7,7 @@ pub mod Pages
 pub mod Operate
 pub mod StatesLeft
 pub mod Operations
+pub mod Lines
 pub mod Access
 pub mod Write
 pub mod Commit

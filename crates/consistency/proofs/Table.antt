@@ -1,39 +1,26 @@
 -- What the tables' cells say of the states before and after a step: each law is computed at every cell of the step's row.
 use mathlib.Core.Path.{_≡_, refl, sym, ap, subst, subst⁻¹}
-use mathlib.Core.Bool.{Bool, true, false, not, _&&_, _||_, false≢true}
+use mathlib.Core.Bool.{Bool, true, false, not, _||_, false≢true}
 use mathlib.Core.Logic.{_≢_}
 use Prim.Native.Nat.{ℕ}
 use native.Mathlib.Decide.{ℕ-discrete}
 use lib.Dec.{eqb}
 use borrow.Author.Tests.{eq-eqb, ne-eqb}
-use Rattle.bits.proofs.Tautology.{and-left, and-right}
 use Rattle.page_model.specs.declared.FrameRecord.{FrameRecord}
 use Rattle.page_model.specs.Record.{stateOf, isHeld, isDirty}
 use Rattle.page_model.specs.Step.{isPurge, cellOf}
-use Rattle.page_model.specs.Table.{ColourState, empty, present, dirty, stale, Operation, none, flush, purge, Cell, own, other, roleIf, Step, read, write, deviceRead, deviceWrite, deviceWritePart, beginRead, beginWrite, fetch, ownOf}
-use Rattle.page_model.proofs.Cells.{rowOf, row-cell, each-state}
+use Rattle.page_model.specs.Table.{ColourState, empty, dirty, Operation, none, flush, purge, Cell, Step, read, write, deviceRead, deviceWrite, deviceWritePart, beginRead, beginWrite, fetch, ownOf}
+use Rattle.page_model.proofs.Cells.{rowOf, row-cell, Law, everyCell, row-law}
 use Rattle.consistency.proofs.Weaker.{cleanState, weaker, is-dirty}
 
--- ---- a law of a row
+-- ---- a law of a step's row
 
--- of whether a colour is the step's own, its state and its cell
-abbrev Law : Type 0
-Law = Bool → ColourState → Cell → Bool
+abbrev Every : Law → Step → Type 0
+Every p step = everyCell true p (rowOf step) ≡ true
 
-abbrev everyState : (ColourState → Bool) → Bool
-everyState p = p empty && p present && p dirty && p stale
-
-abbrev everyCell : Law → Step → Bool
-everyCell p step = everyState (λ s. p true s (rowOf step own s)) && everyState (λ s. p false s (rowOf step other s))
-
-cell-law : (p : Law) (step : Step) → everyCell p step ≡ true → (r : FrameRecord) (k : ℕ) → p (eqb (ownOf step) k) (stateOf r k) (cellOf step r k) ≡ true
-cell-law p step e r k = subst⁻¹ (λ (x : Cell). p (eqb (ownOf step) k) (stateOf r k) x ≡ true) (row-cell step r k) (go (eqb (ownOf step) k))
-  where
-    go : (t : Bool) → p t (stateOf r k) (rowOf step (roleIf t) (stateOf r k)) ≡ true
-    go true =
-        each-state (λ s. p true s (rowOf step own s)) (and-left (everyState (λ s. p true s (rowOf step own s))) (everyState (λ s. p false s (rowOf step other s))) e) (stateOf r k)
-    go false =
-        each-state (λ s. p false s (rowOf step other s)) (and-right (everyState (λ s. p true s (rowOf step own s))) (everyState (λ s. p false s (rowOf step other s))) e) (stateOf r k)
+cell-law : (p : Law) (step : Step) → Every p step → (r : FrameRecord) (k : ℕ) → p (eqb (ownOf step) k) (stateOf r k) (cellOf step r k) ≡ true
+cell-law p step e r k =
+    subst⁻¹ (λ (x : Cell). p (eqb (ownOf step) k) (stateOf r k) x ≡ true) (row-cell step r k) (row-law true p (rowOf step) e (eqb (ownOf step) k) (λ _. refl) (stateOf r k))
 
 -- ---- operations
 
@@ -47,7 +34,7 @@ leftBy purge s = empty
 abbrev nextWeaker : Law
 nextWeaker o s cell = weaker (leftBy (cell .operation) s) (cell .next)
 
-every-next : (step : Step) → everyCell nextWeaker step ≡ true
+every-next : (step : Step) → Every nextWeaker step
 every-next (read c) = refl
 every-next (write c) = refl
 every-next deviceRead = refl
@@ -67,7 +54,7 @@ purgesClean o s cell = not (isPurge (cell .operation)) || not (isDirty s)
 
 -- by a step; `refl` shows it of each but a device's write of a page
 abbrev pub Spares : Step → Type 0
-Spares step = everyCell purgesClean step ≡ true
+Spares step = Every purgesClean step
 
 clean-from : (op : Operation) {s : ColourState} → isPurge op ≡ true → (not (isPurge op) || not (isDirty s)) ≡ true → s ≢ dirty
 clean-from op p h e = let z : false ≡ true = rw (p, e) at h in false≢true z
@@ -119,7 +106,7 @@ abbrev leavesNone : Law
 leavesNone o s cell = not (isHeld (cell .next))
 
 abbrev pub HoldsNone : Step → Type 0
-HoldsNone step = everyCell leavesNone step ≡ true
+HoldsNone step = Every leavesNone step
 
 pub holds-none : (step : Step) → HoldsNone step → (r : FrameRecord) (k : ℕ) → isHeld (cellOf step r k .next) ≡ true → ⊥
 holds-none step e r k = not-held (cellOf step r k .next) false refl (cell-law leavesNone step e r k)

@@ -1,7 +1,7 @@
 -- What a plan tells of a call: where it is a refusal, the call's answer; where it is a change, what the call is ready for and what it leaves.
 -- Each law is over any call of its shape.
-use mathlib.Core.Path.{_≡_, refl, sym, ap, subst, _∙_}
-use mathlib.Core.Bool.{Bool, true, false, cond, _&&_, _||_, true≢false}
+use mathlib.Core.Path.{_≡_, refl, sym, ap, ap₂, subst, _∙_}
+use mathlib.Core.Bool.{Bool, true, false, not, cond, _&&_, _||_, true≢false}
 use mathlib.Core.List.{List, []}
 use mathlib.Core.Option.{Option, none}
 use Prim.Native.Nat.{ℕ, zero, suc, _+_, _≤_, _<_}
@@ -25,17 +25,18 @@ use Rattle.manager.specs.Answers.{Outcome, refused, accepted}
 use Rattle.manager.specs.Calls.{noOps, planned, placed, changeOf, writeStep, commitChange}
 use Rattle.manager.specs.Refusals.{firstRefusal, placeIn, refusalPlace, inOrder, outOfPage}
 use Rattle.manager.specs.Tables.{Tables, tables, lengthsRight, rulesKept, recordAt}
-use Rattle.manager.proofs.CauseLaws.{appliesIn, cleared-in, mapped-range}
+use Rattle.manager.specs.Theorems.{WellFormedTables}
+use Rattle.manager.proofs.CauseLaws.{NoneApplies, none-refused, appliesIn, cleared-in, mapped-range}
 use Rattle.manager.proofs.FirstRefusal.{in-order-numbered}
 use Rattle.cache.specs.Store.{Store, WellFormedStore}
 use Rattle.cache.specs.Tag.{tagsKeepRules}
 use Rattle.machine.specs.Scaffold.Ready.{OperationsReady, AccessReady, TransferReady, PartReady}
-use Rattle.machine.specs.Refusals.{storeLengths, bufferRight, causes}
+use Rattle.machine.specs.Refusals.{storeLengths, bufferRight, ownCauses, causes}
 use Rattle.machine.specs.State.{State, state, Single, map, unmap, read, write, deviceRead, deviceWrite, deviceWritePart, evict, beginRead, beginWrite, bringWord, takeWord, endTransfer, fetch, Result, lentBuffer}
 use Rattle.machine.specs.Parts.{Effect, steps, ends, nothing, effectOf, outcomeOf, Access, accessed, accessOf}
 use Rattle.machine.specs.Step.{operateBy, carryOutBy, carryOut, answer, result, tablesLeft, accept, step}
 use Rattle.machine.specs.Scaffold.Plans.{planStep, planPlace, refusalOf, placeRefusal}
-use Rattle.machine.proofs.StoreLaws.{well-formed}
+use Rattle.machine.proofs.StoreLaws.{lengths-right, well-formed}
 
 -- ---- a plan that was made
 
@@ -98,6 +99,15 @@ module _ (b : Board) (st : State) (call : Single) where
   -- no refusal: no cause applies, whatever its number
   pub cleared : (n : ℕ) → firstRefusal (causes b st call) ≡ 0 → appliesIn n (causes b st call) ≡ false
   cleared n e = cleared-in (causes b st call) n (in-order-numbered 0 (causes b st call) causes-in-order) e
+
+  -- and where tables, store and buffer are in order, and no cause of the call's own applies, there is no refusal
+  pub own-clear : WellFormedTables b (st .tables) → WellFormedStore b (st .store) → bufferRight b call ≡ true → NoneApplies (ownCauses b st call) → firstRefusal (causes b st call) ≡ 0
+  unfolding causes
+  own-clear kept-tables kept buffer rest =
+      none-refused (causes b st call) (
+        ap not (ap₂ _&&_ (ap₂ _&&_ (kept-tables .0) (lengths-right b (st .store) (kept .memory-length) (kept .words-length) (kept .tags-length))) buffer),
+        (ap not (ap₂ _&&_ (kept-tables .1) (kept .tags-rules)), rest),
+      )
 
   pub lengths-clear : firstRefusal (causes b st call) ≡ 0 → (lengthsRight b (st .tables) && storeLengths b (st .store) && bufferRight b call) ≡ true
   unfolding causes

@@ -72,6 +72,12 @@ none-applies (c ∷ cs) n e = go (c .applies) refl (none-applies cs (and-right (
     go true z rest = absurd (let p = ltb-true 0 (c .number) (and-left _ (numbered cs) n) in let q : c .number ≡ 0 = ap (λ (t : Bool). cond t (c .number) (firstRefusal cs)) (sym z) ∙ e in omega arith)
     go false z rest = (z, rest (ap (λ (t : Bool). cond t (c .number) (firstRefusal cs)) (sym z) ∙ e))
 
+-- and where none applies there is no refusal
+pub none-refused : (cs : List Cause) → NoneApplies cs → firstRefusal cs ≡ 0
+unfolding firstRefusal
+none-refused [] h = refl
+none-refused (c ∷ cs) h = ap (λ (t : Bool). cond t (c .number) (firstRefusal cs)) (h .0) ∙ none-refused cs (h .1)
+
 -- so none of a number does: whether the first cause of this number applies, and that it does not where none does
 abbrev pub appliesIn : ℕ → List Cause → Bool
 appliesIn n [] = false

@@ -5,7 +5,7 @@ pub use Rattle.mapping.proofs.Rules.{keepsRules-true, rules-keepsRules,
 pub use Rattle.mapping.proofs.Place.{found-place}
 pub use Rattle.mapping.proofs.Looks.{look-kept, look-broken}
 pub use Rattle.mapping.proofs.Lookups.{lookup-at, at-lookup, lookup-nothing, nothing-lookup, lookup-cases, listed-found}
-pub use Rattle.mapping.proofs.Lookups.{mappingOf-at, mappingOf-nothing, mappingOf-listed, mappingOf-unlisted}
+pub use Rattle.mapping.proofs.Lookups.{mappingOf-at, mappingOf-nothing, found-listed, none-found, mappingOf-listed, mappingOf-unlisted}
 pub use Rattle.mapping.proofs.Change.{empty-count, empty-length, empty-at}
 pub use Rattle.mapping.proofs.Change.{remove-unlisted, remove-over, remove-listed, remove-count, remove-length, remove-at-earlier, remove-at-later}
 pub use Rattle.mapping.proofs.Start.{empty-rules, mappingOf-empty}

@@ -1,15 +1,18 @@
 -- The laws of lookup: what it says of the list, and what it finds in a list that keeps its rules.
-use mathlib.Core.Path.{_≡_, sym, ap, _∙_}
+use mathlib.Core.Path.{_≡_, refl, sym, ap, _∙_}
+use mathlib.Core.Bool.{true}
 use mathlib.Core.Logic.{_⊎_, inl, inr, ⊎-elim}
-use mathlib.Core.Option.{none, some}
+use mathlib.Core.Option.{none, some, Option·some-injective, Option·none-ne-some}
 use Prim.Native.Nat.{ℕ, min, _<_}
 use native.Mathlib.Omega.{arith}
 use lib.ListN.{length}
 use Rattle.board.specs.declared.Board.{Board}
+use Rattle.mapping.specs.declared.Mapping.{Mapping}
 use Rattle.mapping.specs.declared.MappingList.{MappingList}
+use Rattle.mapping.specs.declared.Found.{Found}
 use Rattle.mapping.specs.declared.Found.the-variants.{At, Nothing}
 use Rattle.mapping.specs.Entry.{isAt, mappingAt}
-use Rattle.mapping.specs.Lookup.{lookup, mappingFound, mappingOf}
+use Rattle.mapping.specs.Lookup.{lookup, mappingFound, mappingOf, found as found-at, isMapped, placeOf, listedMapping}
 use Rattle.mapping.specs.Facts.{MapsTo, Rules, FoundAt, Unlisted}
 use Rattle.mapping.proofs.Entry.{isAt-true, maps-isAt, isAt-false, not-isAt}
 use Rattle.mapping.proofs.Order.{ordered-distinct}
@@ -52,6 +55,23 @@ module _ (l : MappingList) (s p : ℕ) where
   pub mappingOf-nothing : lookup l s p ≡ Nothing → mappingOf l s p ≡ none
   unfolding mappingOf
   mappingOf-nothing e = ap (mappingFound l) e
+
+  -- and what is found if the mapping is known, or that there is none
+  pub found-listed : (m : Mapping) → mappingOf l s p ≡ some m → (isMapped l s p ≡ true) × (listedMapping l s p ≡ m)
+  unfolding mappingOf
+  found-listed m e = go (lookup l s p) e
+    where
+      go : (x : Found) → mappingFound l x ≡ some m → (found-at x ≡ true) × (mappingAt l (placeOf x) ≡ m)
+      go (At i) q = (refl, Option·some-injective _ _ q)
+      go Nothing q = absurd (Option·none-ne-some _ q)
+
+  pub none-found : mappingOf l s p ≡ none → lookup l s p ≡ Nothing
+  unfolding mappingOf
+  none-found e = go (lookup l s p) e
+    where
+      go : (x : Found) → mappingFound l x ≡ none → x ≡ Nothing
+      go (At i) q = absurd (Option·none-ne-some _ (sym q))
+      go Nothing q = refl
 
 -- ---- a list that keeps its rules
 

@@ -1,7 +1,7 @@
 -- What a colour's bits and the flag tell of its state, and of the table's cell that a step takes there. Each law is a test of four bits
 -- that the checker computes at all sixteen values.
 use mathlib.Core.Path.{_≡_, refl, sym, ap, _∙_}
-use mathlib.Core.Bool.{Bool, true, not, _&&_}
+use mathlib.Core.Bool.{Bool, true, false, not, _&&_, _||_, false≢true}
 use Prim.Native.Nat.{ℕ, _<_}
 use lib.Dec.{eqb}
 use Rattle.bits.specs.Mask.{bit}
@@ -10,7 +10,7 @@ use Rattle.page_model.specs.declared.FrameRecord.{FrameRecord}
 use Rattle.page_model.specs.Cases.{stepNumber, rowAt}
 use Rattle.page_model.specs.Record.{stateFrom, stateOf}
 use Rattle.page_model.specs.Step.{cellOf}
-use Rattle.page_model.specs.Table.{ColourState, empty, present, dirty, stale, Operation, Role, Cell, Step, read, write, deviceRead, deviceWrite, deviceWritePart, beginRead, beginWrite, fetch, roleIf, ownOf}
+use Rattle.page_model.specs.Table.{ColourState, empty, present, dirty, stale, Operation, Role, own, other, Cell, Step, read, write, deviceRead, deviceWrite, deviceWritePart, beginRead, beginWrite, fetch, roleIf, ownOf}
 use Rattle.page_model.proofs.Rules.{Keeps, flag}
 
 -- a test of whether a colour is the step's own, its stale bit, its held bit and the flag
@@ -91,3 +91,22 @@ each-state p e empty = search (and-left, and-right)
 each-state p e present = search (and-left, and-right)
 each-state p e dirty = search (and-left, and-right)
 each-state p e stale = search (and-left, and-right)
+
+-- ---- a law of a row
+
+-- of whether a colour is the step's own, its state and its cell
+abbrev pub Law : Type 0
+Law = Bool → ColourState → Cell → Bool
+
+abbrev everyState : (ColourState → Bool) → Bool
+everyState p = p empty && p present && p dirty && p stale
+
+-- at every state of a row, and of its own colour where there may be one
+abbrev pub everyCell : Bool → Law → (Role → ColourState → Cell) → Bool
+everyCell owns p row = (not owns || everyState (λ s. p true s (row own s))) && everyState (λ s. p false s (row other s))
+
+pub row-law : (owns : Bool) (p : Law) (row : Role → ColourState → Cell) → everyCell owns p row ≡ true → (o : Bool) → (o ≡ true → owns ≡ true) → (s : ColourState)
+    → p o s (row (roleIf o) s) ≡ true
+row-law true p row e true has s = each-state (λ s. p true s (row own s)) (and-left _ (everyState (λ s. p false s (row other s))) e) s
+row-law false p row e true has s = absurd (false≢true (has refl))
+row-law owns p row e false has s = each-state (λ s. p false s (row other s)) (and-right (not owns || everyState (λ s. p true s (row own s))) _ e) s

@@ -5,6 +5,7 @@ pub mod Instructions
 pub mod Idle
 pub mod Start
 pub mod Encoding
+pub mod Records
 pub mod After
 pub mod Operations
 pub mod Moving

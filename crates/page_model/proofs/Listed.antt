@@ -1,7 +1,7 @@
 -- Which operations a step lists: each colour's that its cell has, and no others.
 use mathlib.Core.Path.{_≡_, refl, subst}
 use mathlib.Core.Bool.{Bool, true, false}
-use mathlib.Core.List.{map, List·Memᴰ, List·Memᴰ·head, List·Memᴰ·tail, List·Memᴰ·append-cases, Memᴰ·append-left, Memᴰ·append-right, Memᴰ·map, Memᴰ·of-map}
+use mathlib.Core.List.{List, [], _∷_, map, List·Memᴰ, List·Memᴰ·head, List·Memᴰ·tail, List·Memᴰ·append-cases, Memᴰ·append-left, Memᴰ·append-right, Memᴰ·map, Memᴰ·of-map}
 use mathlib.Core.Logic.{⊎-elim}
 use Prim.Native.Nat.{ℕ, zero, suc, _<_}
 use native.Mathlib.Omega.{arith}
@@ -9,8 +9,8 @@ use Rattle.bits.specs.Mask.{placesOf, withZero}
 use Rattle.bits.proofs.Mask.{places-at}
 use Rattle.page_model.specs.declared.FrameRecord.{FrameRecord}
 use Rattle.page_model.specs.declared.Op.{Op}
-use Rattle.page_model.specs.declared.Op.the-variants.{Flush, Purge, PurgeInstructions}
-use Rattle.page_model.specs.Step.{isFlush, isPurge, cellOf, instructionCellOf, dataOperations, operations}
+use Rattle.page_model.specs.declared.Op.the-variants.{None, Flush, Purge, PurgeInstructions}
+use Rattle.page_model.specs.Step.{isFlush, isPurge, cellOf, instructionCellOf, dataOperations, operations, firstTwo}
 use Rattle.page_model.specs.Table.{Step}
 
 -- a place below n that p picks is among the places
@@ -23,6 +23,12 @@ places-listed (suc n) p (suc k) l e = go (p 0) (Memᴰ·map suc (places-listed n
     go : (t : Bool) → List·Memᴰ (suc k) (map suc (placesOf n (λ j. p (suc j)))) → List·Memᴰ (suc k) (withZero t (map suc (placesOf n (λ j. p (suc j)))))
     go true m = List·Memᴰ·tail m
     go false m = m
+
+-- what holds of none, and of each of a list, holds of the first two
+pub first-two : (P : Op → Type 0) → P None → (ops : List Op) → ((o : Op) → List·Memᴰ o ops → P o) → P (firstTwo ops .first) × P (firstTwo ops .second)
+first-two P e [] h = (e, e)
+first-two P e (a ∷ []) h = (h a (List·Memᴰ·head refl), e)
+first-two P e (a ∷ (z ∷ ops)) h = (h a (List·Memᴰ·head refl), h z (List·Memᴰ·tail (List·Memᴰ·head refl)))
 
 module _ (n : ℕ) (s : Step) (r : FrameRecord) where
   pub flush-listed : (k : ℕ) → k < n → isFlush (cellOf s r k .operation) ≡ true → List·Memᴰ (Flush k) (operations n s r)

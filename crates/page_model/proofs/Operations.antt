@@ -75,7 +75,7 @@ module _ (n : ℕ) (r : FrameRecord) (kr : Keeps n r) where
   alone : (step : Step) → ((k : ℕ) → k < n → isPurge (instructionCellOf step r k .operation) ≡ false) → length (placesWith n step r isPurge) + length (instructionPlaces n step r) ≤ 1
   alone step h = let f = few-purges step in let z = ap length (places-none n _ h) in omega arith
 
-  few-all : (step : Step) → length (placesWith n step r isPurge) + length (instructionPlaces n step r) ≤ 1
+  pub few-all : (step : Step) → length (placesWith n step r isPurge) + length (instructionPlaces n step r) ≤ 1
   unfolding instructionCellOf
   few-all (read c) = alone (read c) (λ k l. no-purge leftCell refl (instructionStateOf r k))
   few-all (write c) = alone (write c) (λ k l. no-purge outdatedCell refl (instructionStateOf r k))
