@@ -1,0 +1,23 @@
+-- Request N10's proof.
+pub mod Run
+pub mod PageCells
+pub mod CellLaws
+pub mod PageStates
+pub mod In
+pub mod Acted
+pub mod Orders
+pub mod Accesses
+pub mod Loads
+pub mod Here
+pub mod LoadAll
+pub mod Maps
+pub mod Differs
+pub mod Turns
+pub mod Reach
+pub mod Ends
+pub mod Lacking
+pub mod Theorem
+pub mod Meaning
+pub mod Every
+pub mod Rows
+pub mod EachCell

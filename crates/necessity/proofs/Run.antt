@@ -1,0 +1,71 @@
+-- Calls that lead from one state to another, with the cacheless memory beside it, as a proof puts them together.
+use mathlib.Core.Path.{_≡_, sym, ap, subst, subst⁻¹, _∙_}
+use mathlib.Core.Bool.{Bool, false}
+use mathlib.Core.List.{List, [], _∷_, _++_}
+use Rattle.board.specs.declared.Board.{Board}
+use Rattle.board.specs.Board.{Regular}
+use Rattle.manager.specs.Refusals.{firstRefusal}
+use Rattle.machine.specs.Call.{callCauses, perform}
+use Rattle.machine.specs.Refusals.{causes}
+use Rattle.machine.specs.State.{State, Single, Call, single, Result}
+use Rattle.machine.specs.Step.{accept, step}
+use Rattle.machine.proofs.CallLaws.{perform-accepted, accept-accepted}
+use Rattle.consistency.specs.Cacheless.{Cacheless, afterAccepted, afterSingle, isRefused, fed}
+use Rattle.consistency.specs.Demand3.{stateAfter, cachelessAfter}
+use Rattle.consistency.proofs.Invariant.{Invariant}
+use Rattle.consistency.proofs.Theorem.{serves}
+
+module _ (b : Board) where
+  -- ---- an accepted call
+
+  module _ (st : State) (call : Single) (e : firstRefusal (causes b st call) ≡ 0) where
+    pub perform-is : perform b st (single call) ≡ accept b st call
+    unfolding callCauses
+    perform-is = sym (perform-accepted b st (single call) e)
+
+    pub step-is : step b st call ≡ accept b st call
+    unfolding perform
+    step-is = perform-is
+
+    pub not-refused : isRefused (perform b st (single call) .answer) ≡ false
+    not-refused = ap (λ (r : Result). isRefused (r .answer)) perform-is ∙ accept-accepted b st (single call)
+
+    -- what holds of the state that it leaves and the cacheless memory fed it
+    pub after-call : (m : Cacheless) (P : State → Cacheless → Type 0) → P (accept b st call .after) (afterAccepted m call)
+        → P (perform b st (single call) .after) (fed m (single call) (perform b st (single call) .answer))
+    after-call m P p =
+        subst⁻¹ (λ (x : Bool). P (perform b st (single call) .after) (afterSingle m call x)) not-refused
+        (subst⁻¹ (λ (r : Result). P (r .after) (afterAccepted m call)) perform-is p)
+
+    pub invariant-call : Regular b → (m : Cacheless) → Invariant b st m → Invariant b (accept b st call .after) (afterAccepted m call)
+    invariant-call reg m inv =
+        subst (λ (r : Result). Invariant b (r .after) (afterAccepted m call)) perform-is
+        (subst (λ (x : Bool). Invariant b (perform b st (single call) .after) (afterSingle m call x)) not-refused (serves b reg st m inv (single call) .1))
+
+  -- ---- a run
+
+  -- calls from a state that lead to one of which P holds
+  pub record Run (st : State) (m : Cacheless) (P : State → Cacheless → Type 0) : Type 0 where
+    pub calls : List Call
+    pub ends : P (stateAfter (perform b) st calls) (cachelessAfter (perform b) st m calls)
+
+  pub stay : (st : State) (m : Cacheless) (P : State → Cacheless → Type 0) → P st m → Run st m P
+  stay st m P p = record { calls = []; ends = p }
+
+  append-ends : (st : State) (m : Cacheless) (first second : List Call) (P : State → Cacheless → Type 0)
+      → P (stateAfter (perform b) (stateAfter (perform b) st first) second) (cachelessAfter (perform b) (stateAfter (perform b) st first) (cachelessAfter (perform b) st m first) second)
+      → P (stateAfter (perform b) st (first ++ second)) (cachelessAfter (perform b) st m (first ++ second))
+  append-ends st m [] second P p = p
+  append-ends st m (call ∷ first) second P p =
+      append-ends (perform b st call .after) (fed m call (perform b st call .answer)) first second P p
+
+  -- one run after another
+  pub then : (st : State) (m : Cacheless) (P Q : State → Cacheless → Type 0) → Run st m P → ((t : State) (n : Cacheless) → P t n → Run t n Q) → Run st m Q
+  then st m P Q r next =
+      let s = next (stateAfter (perform b) st (r .calls)) (cachelessAfter (perform b) st m (r .calls)) (r .ends) in
+      record { calls = r .calls ++ s .calls; ends = append-ends st m (r .calls) (s .calls) Q (s .ends) }
+
+  -- one accepted call
+  pub one : (st : State) (m : Cacheless) (P : State → Cacheless → Type 0) (call : Single) → firstRefusal (causes b st call) ≡ 0
+      → P (accept b st call .after) (afterAccepted m call) → Run st m P
+  one st m P call e p = record { calls = single call ∷ []; ends = after-call st call e m P p }

@@ -1,0 +1,113 @@
+-- Request N10: each single order of an accepted step is needed.
+use mathlib.Core.Bool.{true, false}
+use mathlib.Core.List.{List}
+use mathlib.Core.Path.{_≡_}
+use Prim.Native.Nat.{ℕ, _≤_, _<_}
+use lib.ListN.{length, getD}
+use Rattle.board.specs.declared.Board.{Board}
+use Rattle.board.specs.Board.{Regular, board01, memoryWords, cacheWords}
+use Rattle.page_model.specs.declared.FrameRecord.{FrameRecord}
+use Rattle.page_model.specs.declared.Op.{Op}
+use Rattle.page_model.specs.declared.Op.the-variants.{None, Flush, Purge, PurgeInstructions}
+use Rattle.page_model.specs.Busy.{bars}
+use Rattle.page_model.specs.Instructions.{InstructionState, instructionCellAt}
+use Rattle.page_model.specs.Record.{stateOf, instructionStateOf, keepsRules}
+use Rattle.page_model.specs.Step.{operations}
+use Rattle.page_model.specs.Table.{ColourState, flush, purge, cellAt}
+use Rattle.mapping.specs.Entry.{capacity}
+use Rattle.manager.specs.Tables.{recordAt}
+use Rattle.machine.specs.Call.{perform}
+use Rattle.machine.specs.Parts.{steps, effectOf}
+use Rattle.machine.specs.State.{State, Single, Call}
+use Rattle.machine.specs.Step.{step}
+use Rattle.consistency.specs.Cacheless.{Cacheless, startCacheless, isRefused}
+use Rattle.consistency.specs.Demand3.{startState, stateAfter, cachelessAfter, Demand3}
+use Rattle.necessity.specs.Action.{Action, stepOf, InRange, callOf}
+use Rattle.necessity.specs.Without.{ordersIn, withoutOrder, FindsWrong, WrongWithout}
+
+-- Calls from st, beside whose words the cacheless memory is m, reach record r of frame f; there the call of the step is accepted, and is that step
+-- of f; and without its order at place j it, or one of some later calls, finds a wrong word.
+pub record Needed (b : Board) (st : State) (m : Cacheless) (f : ℕ) (r : FrameRecord) (a : Action) (j : ℕ) : Type 0 where
+  pub before : List Call
+  pub space : ℕ
+  pub page : ℕ
+  pub later : List Call
+  pub reached : recordAt (stateAfter (perform b) st before .tables .records) f ≡ r
+  pub makes : effectOf b (stateAfter (perform b) st before) (callOf f space page a) ≡ steps f (stepOf b a)
+  pub accepted : isRefused (step b (stateAfter (perform b) st before) (callOf f space page a) .answer) ≡ false
+  pub wrong : WrongWithout b j (stateAfter (perform b) st before) (cachelessAfter (perform b) st m before) (callOf f space page a) later
+
+-- from the start, whatever words memory, caches and protections hold
+abbrev pub FromStart : Board → (State → Cacheless → Type 0) → Type 0
+FromStart b P =
+    (memory words protections : List ℕ) → length memory ≡ memoryWords b → length words ≡ cacheWords b → length protections ≡ capacity
+    → P (startState b memory words protections) (startCacheless b memory)
+
+-- of every frame, every record that keeps the rules, every step that its mark does not bar, and each of its orders
+abbrev pub Necessary : Board → Type 0
+Necessary b =
+    FromStart b (λ st m.
+    (f : ℕ) (r : FrameRecord) (a : Action) (j : ℕ) → f < b .frames → keepsRules (b .colours) r ≡ true → InRange b a → bars (r .busy) (stepOf b a) ≡ false
+    → j < length (operations (b .colours) (stepOf b a) r) → Needed b st m f r a j)
+
+-- on every regular board whose pages have two words or more
+abbrev pub NoOrderWithoutNeed : Type 0
+NoOrderWithoutNeed = (b : Board) → Regular b → 2 ≤ b .page → Necessary b
+
+-- and so on document 01's
+abbrev pub Board01 : Type 0
+Board01 = Necessary board01
+
+-- ---- the same of calls: no order of any accepted call, whatever it is lent, is left out of the claim
+
+-- the call is a step of a frame with all its numbers, and its order at place j is needed on the record that the frame has
+pub record OrderNeeded (b : Board) (start : State) (m : Cacheless) (st : State) (call : Single) (j : ℕ) : Type 0 where
+  pub frame : ℕ
+  pub action : Action
+  pub space : ℕ
+  pub page : ℕ
+  pub is-call : call ≡ callOf frame space page action
+  pub is-step : effectOf b st call ≡ steps frame (stepOf b action)
+  pub needed : Needed b start m frame (recordAt (st .tables .records) frame) action j
+
+abbrev pub EveryOrder : Board → Type 0
+EveryOrder b = FromStart b (λ start m. (st : State) (call : Single) (j : ℕ) → j < length (ordersIn (step b st call .answer)) → OrderNeeded b start m st call j)
+
+-- ---- it says something
+
+-- leaving out an order that there is not leaves the call as it is
+abbrev pub WithoutNone : Type 0
+WithoutNone = (b : Board) (st : State) (call : Single) (j : ℕ) → length (ordersIn (step b st call .answer)) ≤ j → withoutOrder b j st call ≡ step b st call
+
+-- and with all orders carried out no list of calls finds a wrong word (demand 3)
+abbrev pub NothingWrong : Type 0
+NothingWrong = (b : Board) → Regular b → FromStart b (λ st m. (calls : List Call) → FindsWrong b st m calls → ⊥)
+
+-- ---- the same of the tables: they are exactly right
+
+-- some record that keeps the rules and of which P holds has an operation among the step's orders, at some place, and there it is needed
+pub record CellNeeded (b : Board) (st : State) (m : Cacheless) (f : ℕ) (a : Action) (op : Op) (P : FrameRecord → Type 0) : Type 0 where
+  pub on : FrameRecord
+  pub rules : keepsRules (b .colours) on ≡ true
+  pub in-state : P on
+  pub place : ℕ
+  pub ordered : getD (operations (b .colours) (stepOf b a) on) place None ≡ op
+  pub needed : Needed b st m f on a place
+
+-- each cell that has an order, for data and for instructions: a record has its colour in its state, and the order is needed
+abbrev pub EachCell : Board → Type 0
+EachCell b =
+    FromStart b (λ st m.
+    (f : ℕ) (a : Action) (k : ℕ) → f < b .frames → InRange b a → k < b .colours
+    → ((z : ColourState) → cellAt (stepOf b a) k z .operation ≡ flush → CellNeeded b st m f a (Flush k) (λ r. stateOf r k ≡ z))
+    × ((z : ColourState) → cellAt (stepOf b a) k z .operation ≡ purge → CellNeeded b st m f a (Purge k) (λ r. stateOf r k ≡ z))
+    × ((i : InstructionState) → instructionCellAt (stepOf b a) k i .operation ≡ purge → CellNeeded b st m f a (PurgeInstructions k) (λ r. instructionStateOf r k ≡ i)))
+
+-- With every order that the tables give no read finds a wrong word; each of them is needed, on every record, and in each cell that has one.
+pub record Exact (b : Board) : Type 0 where
+  pub enough : Demand3 b
+  pub needed : Necessary b
+  pub each-cell : EachCell b
+
+abbrev pub TablesExact : Type 0
+TablesExact = (b : Board) → Regular b → 2 ≤ b .page → Exact b
