@@ -21,3 +21,4 @@ pub mod Meaning
 pub mod Every
 pub mod Rows
 pub mod EachCell
+pub mod OneWord

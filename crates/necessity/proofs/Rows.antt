@@ -2,7 +2,7 @@
 use mathlib.Core.Path.{refl}
 use Rattle.machine.proofs.Opened.{opened}
 use Rattle.consistency.specs.Cacheless as cacheless
-use Rattle.necessity.specs.Rows.{OrderRows, OneWordPage}
+use Rattle.necessity.specs.Rows.{OrderRows}
 use Rattle.necessity.specs.Without as without
 
 pub order-rows : OrderRows
@@ -25,7 +25,3 @@ order-rows =
       both-for-fetch = (refl, refl);
       other-carried-out = refl;
     }
-
-pub one-word-page : OneWordPage
-unfolding opened cacheless.startCacheless cacheless.afterAccepted without.withoutOrder
-one-word-page = record { purged = refl; same = refl }

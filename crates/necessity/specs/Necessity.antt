@@ -83,6 +83,13 @@ WithoutNone = (b : Board) (st : State) (call : Single) (j : ℕ) → length (ord
 abbrev pub NothingWrong : Type 0
 NothingWrong = (b : Board) → Regular b → FromStart b (λ st m. (calls : List Call) → FindsWrong b st m calls → ⊥)
 
+-- and two words in a page are no more than it takes: with one a write through a stale colour overwrites all that is old, and its purge is not needed
+abbrev pub oneWord : Board
+oneWord = record { page = 1; line = 1; colours = 1; frames = 1 }
+
+abbrev pub NotOnOneWord : Type 0
+NotOnOneWord = Necessary oneWord → ⊥
+
 -- ---- the same of the tables: they are exactly right
 
 -- some record that keeps the rules and of which P holds has an operation among the step's orders, at some place, and there it is needed

@@ -7,7 +7,6 @@ use Prim.Native.Nat.{ℕ}
 use lib.Dec.{eqb}
 use lib.ListN.{length, replicate, getD}
 use Rattle.bits.specs.Mask.{any}
-use Rattle.board.specs.declared.Board.{Board}
 use Rattle.board.specs.Board.{cacheWords}
 use Rattle.page_model.specs.declared.Op.{Op}
 use Rattle.page_model.specs.declared.Op.the-variants.{Flush, Purge, PurgeInstructions}
@@ -15,11 +14,10 @@ use Rattle.page_model.specs.Step.{firstTwo}
 use Rattle.mapping.specs.Entry.{capacity, readWrite, readFetch}
 use Rattle.manager.specs.Answers.{Outcome, accepted}
 use Rattle.manager.specs.Tables.{tabulate}
-use Rattle.machine.specs.Call.{perform}
 use Rattle.machine.specs.State.{State, Single, map, read, write, deviceRead, deviceWrite, deviceWritePart, beginRead, beginWrite, bringWord, takeWord, endTransfer, fetch, single, Answer, Result}
 use Rattle.machine.specs.Step.{step}
 use Rattle.consistency.specs.Cacheless.{Cacheless, startCacheless, isRefused, fed}
-use Rattle.consistency.specs.Demand3.{startState, stateAfter}
+use Rattle.consistency.specs.Demand3.{startState}
 use Rattle.consistency.specs.Rows.{small}
 use Rattle.necessity.specs.Without.{withoutOrder}
 
@@ -180,19 +178,3 @@ pub record OrderRows : Type 0 where
   -- the order that is not left out is carried out: without the purge the device's read finds the word in memory, where the flush has put it
   pub other-carried-out :
       Shows (record { before = read 0 1 2 ∷ deviceWrite 0 sent ∷ write 0 0 2 22 ∷ []; call = read 0 1 2; orders = Flush 0 ∷ Purge 1 ∷ []; later = deviceRead 0 lent ∷ []; finds = 22; without = 32 ∷ 22 ∷ [] })
-
--- ---- a page of one word: a write through a stale colour overwrites all that is old, so that its purge is not needed there
-
-abbrev pub oneWord : Board
-oneWord = record { page = 1; line = 1; colours = 1; frames = 1 }
-
--- the word is read and a device sends another: colour 0 is stale
-abbrev pub overwritten : State
-overwritten =
-    stateAfter (perform oneWord) (startState oneWord (10 ∷ []) (replicate (cacheWords oneWord) 90) (replicate capacity 0))
-    (single (map 0 0 0 readWrite) ∷ single (read 0 0 0) ∷ single (deviceWrite 0 (30 ∷ [])) ∷ [])
-
--- the write has the purge, and without it answers and leaves the same
-pub record OneWordPage : Type 0 where
-  pub purged : step oneWord overwritten (write 0 0 0 20) .answer .outcome ≡ accepted 0 (firstTwo (Purge 0 ∷ []))
-  pub same : withoutOrder oneWord 0 overwritten (write 0 0 0 20) ≡ step oneWord overwritten (write 0 0 0 20)
