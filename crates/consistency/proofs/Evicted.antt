@@ -1,27 +1,23 @@
 -- Every line evicted: none of the evictions is refused, and memory then holds the cacheless memory's words.
 use mathlib.Core.Path.{_≡_, refl, ap, _∙_, subst⁻¹}
-use mathlib.Core.Bool.{true, false}
+use mathlib.Core.Bool.{false}
 use mathlib.Core.List.{List, [], _∷_}
 use mathlib.Core.Logic.{_⊎_, inl, inr}
 use Prim.Native.Nat.{ℕ, _<_}
 use native.Mathlib.Omega.{arith}
 use native.Mathlib.Decide.{ℕ-discrete, decLt}
 use borrow.Author.Tests.{lt-leb}
-use Rattle.bits.proofs.Mask.{all-of}
 use Rattle.board.specs.declared.Board.{Board}
 use Rattle.board.specs.Board.{Regular, dataLines, lines, lineOf}
 use Rattle.board.proofs.Geometry.{lineOf-data}
-use Rattle.mapping.proofs.Laws.{rules-keepsRules}
 use Rattle.manager.specs.Refusals.{firstRefusal}
-use Rattle.manager.specs.Tables.{Tables, recordsKeepRules, lengthsRight, rulesKept}
-use Rattle.manager.proofs.CauseLaws.{lengths-right, rules-kept}
-use Rattle.cache.specs.Store.{Store, WellFormedStore, tagAt}
+use Rattle.cache.specs.Store.{tagAt}
 use Rattle.cache.specs.Tag.{emptyTag, dirtyTag}
 use Rattle.cache.proofs.Laws.Evict.{evict-tag-same, evict-tag-other}
 use Rattle.cache.proofs.Laws.Instructions.{dirty-colour}
-use Rattle.machine.specs.Refusals.{storeLengths, causes}
+use Rattle.machine.specs.Refusals.{ownCauses, causes}
 use Rattle.machine.specs.State.{State, evict, single, Result}
-use Rattle.machine.proofs.StoreLaws as store
+use Rattle.machine.proofs.StepLaws.{own-clear}
 use Rattle.cache.specs.Cache.{FlushKind}
 use Rattle.machine.specs.Step.{operateBy, carryOutBy}
 use Rattle.consistency.specs.Cacheless.{Cacheless, isRefused}
@@ -29,29 +25,13 @@ use Rattle.consistency.specs.Demand3.{stateAfter, evictions, Occurs, Non
 use Rattle.consistency.specs.Flushes.{acceptBy, performBy}
 use Rattle.consistency.proofs.Evict.{evict-invariant}
 use Rattle.consistency.proofs.Flushes.{single-cases}
-use Rattle.consistency.proofs.Invariant.{Sound, Invariant}
-
--- ---- what the invariant says to the tests
-
-sound-lengths : (b : Board) (t : Tables) → Sound b t → lengthsRight b t ≡ true
-sound-lengths b t s = lengths-right b t (s .items-length) (s .records-length) (s .protections-length)
-
-sound-records : (b : Board) (t : Tables) → Sound b t → recordsKeepRules b (t .records) ≡ true
-unfolding recordsKeepRules
-sound-records b t s = all-of _ _ (s .record-rules)
-
-sound-rules : (b : Board) (t : Tables) → Sound b t → rulesKept b t ≡ true
-sound-rules b t s = rules-kept b t (rules-keepsRules b (t .list) (s .list-rules)) (sound-records b t s)
-
-store-lengths : (b : Board) (s : Store) → WellFormedStore b s → storeLengths b s ≡ true
-store-lengths b s w = store.lengths-right b s (w .memory-length) (w .words-length) (w .tags-length)
+use Rattle.consistency.proofs.Invariant.{sound-kept, Invariant}
 
 module _ (b : Board) (reg : Regular b) (how : FlushKind) (m : Cacheless) where
   module _ (st : State) (inv : Invariant b st m) (n : ℕ) (h : n < lines b) where
     evict-clear : firstRefusal (causes b st (evict n)) ≡ 0
-    unfolding causes firstRefusal
-    evict-clear =
-        rw (sound-lengths b (st .tables) (inv .sound), store-lengths b (st .store) (inv .kept), sound-rules b (st .tables) (inv .sound), inv .kept .tags-rules, lt-leb (lines b) n h)
+    unfolding ownCauses
+    evict-clear = own-clear b st (evict n) (sound-kept b (st .tables) (inv .sound)) (inv .kept) refl (lt-leb (lines b) n h, tt)
 
     evict-step : performBy b how st (single (evict n)) ≡ acceptBy b how st (evict n)
     unfolding performBy

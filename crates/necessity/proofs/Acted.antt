@@ -62,7 +62,7 @@ storeOf b f (deviceWritePart first number buffer) s = hardware.deviceWrite b f f
 storeOf b f beginRead s = s
 storeOf b f beginWrite s = s
 
--- the frame's step, its orders, and the store after other orders of it
+-- the frame's step with its orders, and the store after some orders on the frame
 abbrev pub change : Board → State → ℕ → Action → Stepped
 change b st f a = stepped (b .colours) (stepOf b a) (recordAt (st .tables .records) f)
 
@@ -131,7 +131,7 @@ module _ (b : Board) (reg : Regular b) (f : ℕ) (hf : f < b .frames) (states : 
   access-is beginWrite h s = refl
 
   module _ (a : Action) (h : InRange b a) where
-    -- in the store that is left
+    -- where the access is made in store s
     pub after-is : (s : Store) → acceptAfter b st (made b f a) s ≡ acted b st f a s
     after-is s =
         let e = effect-is a h in

@@ -1,5 +1,5 @@
 -- What the cells of the tables say that the argument needs, by page of the caches.
-use mathlib.Core.Path.{_≡_, refl, sym, ap, _∙_}
+use mathlib.Core.Path.{_≡_, refl, sym, ap, ap₂, _∙_}
 use mathlib.Core.Bool.{Bool, true, false, cond, not, _&&_, _||_, true≢false, false≢true}
 use mathlib.Core.Logic.{_≢_}
 use Prim.Native.Nat.{ℕ, zero, suc, _+_, _<_}
@@ -8,10 +8,11 @@ use borrow.Author.Tests.{eq-eqb, ne-eqb, eqb-true, eqb-false, lt-ltb, not-true}
 use lib.Dec.{eqb}
 use Rattle.bits.proofs.Tautology.{and-left, and-right}
 use Rattle.page_model.specs.Cases.{stateNumber}
-use Rattle.page_model.specs.Record.{isHeld}
+use Rattle.page_model.specs.Record.{isHeld, isDirty}
 use Rattle.page_model.specs.Step.{isFlush, isPurge}
 use Rattle.page_model.specs.Table.{ColourState, empty, present, dirty, stale, Operation, none, flush, purge, Step, read, write, deviceRead, deviceWrite, deviceWritePart, beginRead, beginWrite, fetch}
 use Rattle.page_model.proofs.Cells.{Law}
+use Rattle.page_model.proofs.Instructions.{not-held}
 use Rattle.necessity.proofs.PageCells.{pageCell, Every, page-law}
 
 -- ---- tests
@@ -53,6 +54,10 @@ not-same x y ne = ap not (ne-eqb (stateNumber x) (stateNumber y) (λ e. ne (same
 differ : (x y : ColourState) → not (same x y) ≡ true → x ≢ y
 unfolding same
 differ x y h e = true≢false (sym (eq-eqb (stateNumber x) (stateNumber y) (ap stateNumber e)) ∙ not-true (same x y) h)
+
+-- a state that is not the dirty one
+pub clean-state : (z : ColourState) → isDirty z ≡ false → z ≢ dirty
+clean-state z h e = true≢false (sym (ap isDirty e) ∙ h)
 
 idle : Operation → Bool
 idle o = not (isFlush o || isPurge o)
@@ -119,6 +124,17 @@ module _ {n x : ℕ} {s : Step} (t : Through n x s) (z : ColourState) where
       differ _ dirty
       (implied (not (eqb x k)) _ (through-law t (λ o z cell. implies (not o) (not (same (cell .next) dirty))) (λ c. refl) (λ c. refl) (λ c. refl) k z) (ap not (ne-eqb x k ne)))
 
+  -- it flushes no page, if none but its own is dirty, and has no operation on another that is not dirty
+  pub through-unflushed : (k : ℕ) → (x ≢ k → z ≢ dirty) → isFlush (pageCell n s k z .operation) ≡ false
+  through-unflushed k clean = not-held _ (λ e. let y = through-flush k e in clean (y .0) (y .1))
+
+  pub through-other-idle : z ≢ dirty → (k : ℕ) → x ≢ k → pageCell n s k z .operation ≡ none
+  unfolding implies idle same
+  through-other-idle ne k away =
+      is-none _
+      (implied (not (eqb x k) && not (same z dirty)) _ (through-law t (λ o z cell. implies (not o && not (same z dirty)) (idle (cell .operation))) (λ c. refl) (λ c. refl) (λ c. refl) k z)
+      (ap₂ _&&_ (ap not (ne-eqb x k away)) (not-same z dirty ne)))
+
 -- ---- a load where its page is not stale, or none is dirty
 
 module _ {n x : ℕ} {s : Step} (l : Loads n x s) (z : ColourState) where
@@ -127,14 +143,6 @@ module _ {n x : ℕ} {s : Step} (l : Loads n x s) (z : ColourState) where
 
   other-law : (p : Law) → ((c : ℕ) → Every p (read c)) → ((c : ℕ) → Every p (fetch c)) → (k : ℕ) → x ≢ k → p false z (pageCell n s k z) ≡ true
   other-law p r f k ne = ap (λ (t : Bool). p t z (pageCell n s k z)) (sym (ne-eqb x k ne)) ∙ load-law l p r f k z
-
-  -- it flushes no page, if none but its own is dirty
-  pub load-unflushed : (k : ℕ) → (x ≢ k → z ≢ dirty) → isFlush (pageCell n s k z .operation) ≡ false
-  load-unflushed k clean = go (isFlush (pageCell n s k z .operation)) refl
-    where
-      go : (t : Bool) → isFlush (pageCell n s k z .operation) ≡ t → isFlush (pageCell n s k z .operation) ≡ false
-      go true e = let y = through-flush (loads x s l) z k e in absurd (clean (y .0) (y .1))
-      go false e = e
 
   pub load-own-idle : z ≢ stale → pageCell n s x z .operation ≡ none
   unfolding implies idle same
@@ -152,37 +160,19 @@ module _ {n x : ℕ} {s : Step} (l : Loads n x s) (z : ColourState) where
     load-other-next k away =
         same-state _ z (implied (not (same z dirty)) _ (other-law (λ o z cell. implies (not o && not (same z dirty)) (same (cell .next) z)) (λ c. refl) (λ c. refl) k away) (not-same z dirty ne))
 
-    pub load-other-idle : (k : ℕ) → x ≢ k → pageCell n s k z .operation ≡ none
-    unfolding implies idle same
-    load-other-idle k away =
-        is-none _ (implied (not (same z dirty)) _ (other-law (λ o z cell. implies (not o && not (same z dirty)) (idle (cell .operation))) (λ c. refl) (λ c. refl) k away) (not-same z dirty ne))
-
--- ---- a write, where its own page or another that is stale or empty counts
+-- ---- a write: its own page, and another that is stale or empty
 
 module _ (n c : ℕ) (h : c < n) (z : ColourState) where
   pub write-own-next : pageCell n (write c) c z .next ≡ dirty
   unfolding implies same
   write-own-next = same-state _ dirty (implied (eqb c c) _ (page-law n (λ o z cell. implies o (same (cell .next) dirty)) (write c) h refl c z) (eq-eqb c c refl))
 
-  module _ (clean : isHeld z ≡ false) where
-    loose : not (isHeld z) ≡ true
-    loose = ap not clean
-
-    module _ (k : ℕ) (away : c ≢ k) where
-      away-loose : (not (eqb c k) && not (isHeld z)) ≡ true
-      away-loose = rw (ne-eqb c k away, clean)
-
-      pub write-other-next : pageCell n (write c) k z .next ≡ z
-      unfolding implies same
-      write-other-next = same-state _ z (implied _ _ (page-law n (λ o z cell. implies (not o && not (isHeld z)) (same (cell .next) z)) (write c) h refl k z) away-loose)
-
-      pub write-other-idle : pageCell n (write c) k z .operation ≡ none
-      unfolding implies idle same
-      write-other-idle = is-none _ (implied _ _ (page-law n (λ o z cell. implies (not o && not (isHeld z)) (idle (cell .operation))) (write c) h refl k z) away-loose)
-
-    pub write-unflushed : (k : ℕ) → isFlush (pageCell n (write c) k z .operation) ≡ false
-    unfolding implies same
-    write-unflushed k = not-true _ (implied (not (isHeld z)) _ (page-law n (λ o z cell. implies (not (isHeld z)) (not (isFlush (cell .operation)))) (write c) h refl k z) loose)
+  pub write-other-next : isHeld z ≡ false → (k : ℕ) → c ≢ k → pageCell n (write c) k z .next ≡ z
+  unfolding implies same
+  write-other-next loose k away =
+      same-state _ z
+      (implied (not (eqb c k) && not (isHeld z)) _ (page-law n (λ o z cell. implies (not o && not (isHeld z)) (same (cell .next) z)) (write c) h refl k z)
+      (ap₂ _&&_ (ap not (ne-eqb c k away)) (ap not loose)))
 
 -- ---- a transfer that flushes
 
@@ -206,6 +196,9 @@ module _ {s : Step} (t : Flushing s) (n k : ℕ) (z : ColourState) where
   flushing-flush e =
       same-state z dirty (implied (isFlush (pageCell n s k z .operation)) (same z dirty) (flushing-law t n (λ o z cell. implies (isFlush (cell .operation)) (same z dirty)) refl refl refl refl k z) e)
 
+  pub flushing-unflushed : z ≢ dirty → isFlush (pageCell n s k z .operation) ≡ false
+  flushing-unflushed ne = not-held _ (λ e. ne (flushing-flush e))
+
   pub flushing-purge : isPurge (pageCell n s k z .operation) ≡ false
   flushing-purge = not-true _ (flushing-law t n (λ o z cell. not (isPurge (cell .operation))) refl refl refl refl k z)
 
@@ -214,11 +207,6 @@ module _ {s : Step} (t : Flushing s) (n k : ℕ) (z : ColourState) where
   flushing-clean = differ _ dirty (flushing-law t n (λ o z cell. not (same (cell .next) dirty)) refl refl refl refl k z)
 
 module _ (n k : ℕ) (z : ColourState) where
-  pub device-unflushed : z ≢ dirty → isFlush (pageCell n deviceRead k z .operation) ≡ false
-  unfolding implies same
-  device-unflushed ne =
-      not-true _ (implied (not (same z dirty)) _ (page-law n (λ o z cell. implies (not (same z dirty)) (not (isFlush (cell .operation)))) deviceRead (omega arith) refl k z) (not-same z dirty ne))
-
   module _ (ne : z ≢ dirty) where
     pub begin-next : pageCell n beginRead k z .next ≡ z
     unfolding implies same

@@ -28,6 +28,7 @@ use Rattle.consistency.specs.Demand3.{startState}
 use Rattle.consistency.proofs.Theorem.{demand3}
 use Rattle.necessity.specs.Action.{Action, stepOf, InRange}
 use Rattle.necessity.specs.Necessity.{CellNeeded, EachCell, TablesExact}
+use Rattle.necessity.proofs.Every.{every-order}
 use Rattle.necessity.proofs.Theorem.{no-order-without-need}
 
 -- ---- one colour in a state, and the others empty
@@ -38,7 +39,7 @@ alone k z other i = cond (eqb k i) z other
 alone-here : {A : Type 0} (k : ℕ) (z other : A) → alone k z other k ≡ z
 alone-here k z other = ap (λ (t : Bool). cond t z other) (eq-eqb k k refl)
 
--- a test that holds of a colour, and not of the others' value, holds of this one
+-- a colour of which a test holds that fails of the others' value is this one
 alone-at : {A : Type 0} (test : A → Bool) (k : ℕ) (z other : A) (i : ℕ) → test other ≡ false → test (alone k z other i) ≡ true → k ≡ i
 alone-at test k z other i no-other e = go (eqb k i) refl e
   where
@@ -66,11 +67,11 @@ place-of op (a ∷ ops) m =
 -- the record of a free frame with these states
 module _ (n : ℕ) (states : ℕ → ColourState) (instructions : ℕ → InstructionState) (one : OneDirty n states)
     (beside : (j k : ℕ) → j < n → k < n → isFetched (instructions j) ≡ true → isDirty (states k) ≡ false) where
-  abbrev made : FrameRecord
-  made = encode n free states instructions
+  abbrev freeRecord : FrameRecord
+  freeRecord = encode n free states instructions
 
-  made-rules : keepsRules n made ≡ true
-  made-rules =
+  free-record-rules : keepsRules n freeRecord ≡ true
+  free-record-rules =
       decode-encode n free states instructions one .0
       (record {
         is-mark = omega arith;
@@ -80,15 +81,15 @@ module _ (n : ℕ) (states : ℕ → ColourState) (instructions : ℕ → Instru
         beside-fetched = beside;
       })
 
-  made-state : (k : ℕ) → k < n → stateOf made k ≡ states k
-  made-state = decode-encode n free states instructions one .1
+  free-record-state : (k : ℕ) → k < n → stateOf freeRecord k ≡ states k
+  free-record-state = decode-encode n free states instructions one .1
 
-  made-instruction : (k : ℕ) → k < n → instructionStateOf made k ≡ instructions k
-  made-instruction = decode-encode n free states instructions one .2
+  free-record-instruction : (k : ℕ) → k < n → instructionStateOf freeRecord k ≡ instructions k
+  free-record-instruction = decode-encode n free states instructions one .2
 
-  made-free : made .busy ≡ free
+  free-record-free : freeRecord .busy ≡ free
   unfolding encode
-  made-free = refl
+  free-record-free = refl
 
 -- ---- its order is needed
 
@@ -122,15 +123,15 @@ module _ (b : Board) (reg : Regular b) (two : 2 ≤ b .page) (memory words prote
       beside i j hi hj e = absurd (false≢true e)
 
       abbrev on : FrameRecord
-      on = made (b .colours) (alone k z empty) (λ i. unfetched) one beside
+      on = freeRecord (b .colours) (alone k z empty) (λ i. unfetched) one beside
 
       state-on : stateOf on k ≡ z
-      state-on = made-state (b .colours) (alone k z empty) (λ i. unfetched) one beside k hk ∙ alone-here k z empty
+      state-on = free-record-state (b .colours) (alone k z empty) (λ i. unfetched) one beside k hk ∙ alone-here k z empty
 
       data-needed : (op : Op) → List·Memᴰ op (operations (b .colours) (stepOf b a) on) → CellOn op (λ r. stateOf r k ≡ z)
       data-needed op m =
-          cell-needed op (λ r. stateOf r k ≡ z) on (made-rules (b .colours) (alone k z empty) (λ i. unfetched) one beside)
-          (made-free (b .colours) (alone k z empty) (λ i. unfetched) one beside) state-on m
+          cell-needed op (λ r. stateOf r k ≡ z) on (free-record-rules (b .colours) (alone k z empty) (λ i. unfetched) one beside)
+          (free-record-free (b .colours) (alone k z empty) (λ i. unfetched) one beside) state-on m
 
       flush-needed : cellAt (stepOf b a) k z .operation ≡ flush → CellOn (Flush k) (λ r. stateOf r k ≡ z)
       unfolding cellOf
@@ -148,17 +149,17 @@ module _ (b : Board) (reg : Regular b) (two : 2 ≤ b .page) (memory words prote
       none-dirty i j hi hj e held = absurd (false≢true held)
 
       abbrev on-instructions : FrameRecord
-      on-instructions = made (b .colours) (λ i. empty) (alone k z unfetched) none-dirty (λ i j hi hj e. refl)
+      on-instructions = freeRecord (b .colours) (λ i. empty) (alone k z unfetched) none-dirty (λ i j hi hj e. refl)
 
       instruction-on : instructionStateOf on-instructions k ≡ z
-      instruction-on = made-instruction (b .colours) (λ i. empty) (alone k z unfetched) none-dirty (λ i j hi hj e. refl) k hk ∙ alone-here k z unfetched
+      instruction-on = free-record-instruction (b .colours) (λ i. empty) (alone k z unfetched) none-dirty (λ i j hi hj e. refl) k hk ∙ alone-here k z unfetched
 
       instruction-needed : instructionCellAt (stepOf b a) k z .operation ≡ purge → CellOn (PurgeInstructions k) (λ r. instructionStateOf r k ≡ z)
       unfolding instructionCellOf
       instruction-needed e =
           cell-needed (PurgeInstructions k) (λ r. instructionStateOf r k ≡ z) on-instructions
-          (made-rules (b .colours) (λ i. empty) (alone k z unfetched) none-dirty (λ i j hi hj e. refl))
-          (made-free (b .colours) (λ i. empty) (alone k z unfetched) none-dirty (λ i j hi hj e. refl)) instruction-on
+          (free-record-rules (b .colours) (λ i. empty) (alone k z unfetched) none-dirty (λ i j hi hj e. refl))
+          (free-record-free (b .colours) (λ i. empty) (alone k z unfetched) none-dirty (λ i j hi hj e. refl)) instruction-on
           (instruction-purge-listed (b .colours) (stepOf b a) on-instructions k hk
           (ap (λ (s : InstructionState). isPurge (instructionCellAt (stepOf b a) k s .operation)) instruction-on ∙ ap isPurge e))
 
@@ -170,4 +171,4 @@ each-cell b reg two memory words protections full wide long f a k hf h hk = (
 )
 
 pub tables-exact : TablesExact
-tables-exact b reg two = record { enough = demand3 b reg; needed = no-order-without-need b reg two; each-cell = each-cell b reg two }
+tables-exact b reg two = record { enough = demand3 b reg; needed = no-order-without-need b reg two; every-order = every-order b reg two; each-cell = each-cell b reg two }

@@ -1,4 +1,4 @@
--- The ends of the runs: a load through a page in which it finds a wrong word, and a device's read where memory is off.
+-- The ends of the runs: a load that finds a wrong word, and a device's read where memory's word is wrong.
 use mathlib.Core.Path.{_≡_, refl, sym, ap, subst, _∙_}
 use mathlib.Core.Bool.{Bool, true, false}
 use mathlib.Core.List.{List, [], _∷_}
@@ -9,15 +9,11 @@ use borrow.Author.Tests.{eqb-true}
 use lib.Dec.{eqb}
 use lib.ListN.{length, getD, replicate, length-replicate}
 use Rattle.board.specs.declared.Board.{Board}
-use Rattle.board.specs.Board.{Regular, cachePages, memoryAt}
-use Rattle.board.proofs.Geometry.{data-page}
+use Rattle.board.specs.Board.{Regular, cachePages}
 use Rattle.page_model.specs.Busy.{free, writing, bars}
-use Rattle.page_model.specs.Step.{isFlush}
 use Rattle.page_model.specs.Table.{ColourState, dirty, stale}
-use Rattle.page_model.proofs.Theorems.{operations-below}
 use Rattle.manager.specs.Refusals.{firstRefusal}
-use Rattle.manager.specs.Tables.{recordAt}
-use Rattle.cache.specs.Cache.{leaving, readWord}
+use Rattle.cache.specs.Cache.{readWord}
 use Rattle.cache.specs.Store as hardware-store
 use Rattle.cache.specs.Store.{Store, memoryWord}
 use Rattle.cache.proofs.Laws.Device.{deviceRead-word}
@@ -29,16 +25,13 @@ use Rattle.machine.specs.State.{State, Call, single, Result}
 use Rattle.machine.specs.Step.{carryOutBy, accept}
 use Rattle.consistency.specs.Cacheless.{Cacheless, afterAccepted}
 use Rattle.consistency.specs.Demand3.{pageWord}
-use Rattle.consistency.proofs.Lines.{carry-memory}
 use Rattle.necessity.specs.Action.{Action, deviceRead, stepOf, InRange}
 use Rattle.necessity.specs.Without.{FindsWrong}
 use Rattle.necessity.proofs.Acted.{change, ordered, accept-is, clear}
-use Rattle.necessity.proofs.CellLaws.{load-unflushed, load-own-idle, device-unflushed}
-use Rattle.necessity.proofs.Here.{ordered-kept, ordered-line}
-use Rattle.necessity.proofs.In.{In, made, rules, in-end, accepts-end}
+use Rattle.necessity.proofs.CellLaws.{loads, through-unflushed, load-own-idle, device, flushing-unflushed}
+use Rattle.necessity.proofs.Here.{quiet-memory, ordered-kept, ordered-line}
+use Rattle.necessity.proofs.In.{In, made, in-end, accepts-end}
 use Rattle.necessity.proofs.Loads.{LoadAt, load, load-at, load-steps, load-range, load-bars, load-word, load-wrong}
-use Rattle.necessity.proofs.Orders.{no-flush}
-use Rattle.necessity.proofs.PageCells.{pageCell}
 use Rattle.necessity.proofs.Run.{perform-is, not-refused, after-call}
 
 -- some calls, one of which finds a wrong word
@@ -47,18 +40,6 @@ pub record Later (b : Board) (st : State) (m : Cacheless) : Type 0 where
   pub wrong : FindsWrong b st m calls
 
 module _ (b : Board) (reg : Regular b) (f : ℕ) (hf : f < b .frames) (states : ℕ → ColourState) where
-  -- no flush among the orders of an action: memory stays
-  quiet-memory : (mark : ℕ) (st : State) (m : Cacheless) (now : In b f states mark (st .tables) m) → hardware-store.WellFormedStore b (st .store) → (a : Action)
-      → ((k : ℕ) → k < b .colours → isFlush (pageCell (b .colours) (stepOf b a) k (states k) .operation) ≡ false)
-      → (o : ℕ) → memoryWord b (ordered b st f (change b st f a .ops)) f o ≡ memoryWord b (st .store) f o
-  quiet-memory mark st m now kept a none o =
-      let r = recordAt (st .tables .records) f in
-      let below = operations-below (b .colours) (stepOf b a) r in
-      let quiet =
-      no-flush (b .colours) (stepOf b a) r (rules b reg f hf states mark (st .tables) m now m refl)
-      (λ k hk. ap (λ (z : ColourState). isFlush (pageCell (b .colours) (stepOf b a) k z .operation)) (now .states-are k (data-page b reg k hk)) ∙ none k hk) in
-      ap (λ (l : List ℕ). getD l (memoryAt b f o) 0) (carry-memory b reg leaving f hf (st .store) kept (change b st f a .ops) (below .1) (below .2) (quiet .0) (quiet .1))
-
   -- ---- a load through a page that is not stale, where no other is dirty
 
   module _ (mark : ℕ) (st : State) (m : Cacheless) (now : In b f states mark (st .tables) m) (kept : hardware-store.WellFormedStore b (st .store)) (x p : ℕ) (hx : x < cachePages b)
@@ -87,7 +68,7 @@ module _ (b : Board) (reg : Regular b) (f : ℕ) (hf : f < b .frames) (states : 
     found-same =
         let line = ordered-line b reg f hf states mark st m now kept finds range unbarred x p hx hp (load-own-idle (load-steps is-load) (states x) fresh) in
         readWord-same b reg f x p hf hx hp (st .store) found-in kept (ordered-kept b reg f hf states mark st m now kept finds range unbarred) (line .tag) (line .word)
-        (quiet-memory mark st m now kept finds (λ k hk. load-unflushed (load-steps is-load) (states k) k (alone k)) p)
+        (quiet-memory b reg f hf states mark st m now kept finds (λ k hk. through-unflushed (loads x _ (load-steps is-load)) (states k) k (alone k)) p)
 
     load-answered : perform b st (single (made b f finds)) .answer .word ≡ some (readWord b f x p (st .store))
     load-answered =
@@ -122,7 +103,7 @@ module _ (b : Board) (reg : Regular b) (f : ℕ) (hf : f < b .frames) (states : 
       read-from = ordered b st f (change b st f reads .ops)
 
       memory-same : memoryWord b read-from f o ≡ memoryWord b (st .store) f o
-      memory-same = quiet-memory free st m now kept reads (λ k hk. device-unflushed (b .colours) k (states k) (clean k hk)) o
+      memory-same = quiet-memory b reg f hf states free st m now kept reads (λ k hk. flushing-unflushed device (b .colours) k (states k) (clean k hk)) o
 
       memory-answered : getD (perform b st (single (made b f reads)) .answer .buffer) o 0 ≡ memoryWord b (st .store) f o
       memory-answered =

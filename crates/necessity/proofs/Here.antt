@@ -1,4 +1,4 @@
--- One action of a run: what holds before it holds after it with the states and the mark of its step, and lines beside it stay.
+-- One action of a run: what holds before it holds after it with the states and the mark of its step, and lines of other pages stay.
 use mathlib.Core.Path.{_≡_, refl, ap, subst, subst⁻¹, _∙_}
 use mathlib.Core.Bool.{Bool, true, false, cond, _&&_}
 use mathlib.Core.List.{List}
@@ -10,25 +10,26 @@ use borrow.Author.Tests.{eq-eqb, ne-eqb, le-leb, lt-ltb, leb-true, ltb-true}
 use lib.Dec.{eqb, leb, ltb}
 use lib.ListN.{length, getD}
 use Rattle.board.specs.declared.Board.{Board}
-use Rattle.board.specs.Board.{Regular, cachePages}
+use Rattle.board.specs.Board.{Regular, cachePages, memoryAt}
+use Rattle.board.proofs.Geometry.{data-page}
 use Rattle.page_model.specs.Busy.{bars, markAfter}
-use Rattle.page_model.specs.Step.{OpBelow}
+use Rattle.page_model.specs.Step.{isFlush, OpBelow}
 use Rattle.page_model.specs.Table.{ColourState, none}
 use Rattle.page_model.proofs.Theorems.{operations-below}
 use Rattle.manager.specs.Tables.{recordAt}
 use Rattle.cache.specs.Cache.{leaving}
 use Rattle.cache.specs.Store as hardware
-use Rattle.cache.specs.Store.{Store}
+use Rattle.cache.specs.Store.{Store, memoryWord}
 use Rattle.machine.specs.State.{State, Result}
 use Rattle.machine.proofs.StoreLaws.{carryOut-kept}
 use Rattle.consistency.specs.Cacheless.{Cacheless, sent, stored, afterAccepted}
 use Rattle.consistency.proofs.Invariant.{Invariant}
-use Rattle.consistency.proofs.Lines.{SameLine, same-then, carry-line}
+use Rattle.consistency.proofs.Lines.{SameLine, same-then, carry-line, carry-memory}
 use Rattle.necessity.specs.Action.{Action, write, deviceWrite, deviceWritePart, beginRead, stepOf, InRange}
 use Rattle.necessity.proofs.Acted.{change, ordered, acted, done, frames-same, accept-is, clear}
 use Rattle.necessity.proofs.In.{In, made, rules, in-step}
 use Rattle.necessity.proofs.Accesses.{Beside, act-line}
-use Rattle.necessity.proofs.Orders.{idle-elsewhere}
+use Rattle.necessity.proofs.Orders.{idle-elsewhere, no-flush}
 use Rattle.necessity.proofs.PageCells.{pageCell}
 use Rattle.necessity.proofs.Run.{Run, one, invariant-call}
 
@@ -37,7 +38,7 @@ pub record Here (b : Board) (f : ℕ) (states : ℕ → ColourState) (mark : ℕ
   pub tables-in : In b f states mark (st .tables) m
   pub inv : Invariant b st m
 
--- states are told apart below the pages of the caches only
+-- only the states of the pages of the caches count
 pub here-states : (b : Board) (f : ℕ) (states others : ℕ → ColourState) (mark : ℕ) (st : State) (m : Cacheless) → ((k : ℕ) → k < cachePages b → states k ≡ others k)
     → Here b f states mark st m → Here b f others mark st m
 here-states b f states others mark st m e h =
@@ -97,6 +98,19 @@ module _ (m : Cacheless) (b : Board) (f : ℕ) where
 
 -- ---- an action
 
+-- with no flush among its orders memory stays
+pub quiet-memory : (b : Board) (reg : Regular b) (f : ℕ) (hf : f < b .frames) (states : ℕ → ColourState) (mark : ℕ) (st : State) (m : Cacheless)
+    (now : In b f states mark (st .tables) m) → hardware.WellFormedStore b (st .store) → (a : Action)
+    → ((k : ℕ) → k < b .colours → isFlush (pageCell (b .colours) (stepOf b a) k (states k) .operation) ≡ false)
+    → (o : ℕ) → memoryWord b (ordered b st f (change b st f a .ops)) f o ≡ memoryWord b (st .store) f o
+quiet-memory b reg f hf states mark st m now kept a unflushed o =
+    let r = recordAt (st .tables .records) f in
+    let below = operations-below (b .colours) (stepOf b a) r in
+    let quiet =
+    no-flush (b .colours) (stepOf b a) r (rules b reg f hf states mark (st .tables) m now)
+    (λ k hk. ap (λ (z : ColourState). isFlush (pageCell (b .colours) (stepOf b a) k z .operation)) (now .states-are k (data-page b reg k hk)) ∙ unflushed k hk) in
+    ap (λ (l : List ℕ). getD l (memoryAt b f o) 0) (carry-memory b reg leaving f hf (st .store) kept (change b st f a .ops) (below .1) (below .2) (quiet .0) (quiet .1))
+
 module _ (b : Board) (reg : Regular b) (f : ℕ) (hf : f < b .frames) (states : ℕ → ColourState) (mark : ℕ) (st : State) (m : Cacheless)
     (now : In b f states mark (st .tables) m) (kept : hardware.WellFormedStore b (st .store)) (a : Action) (h : InRange b a) (unbarred : bars mark (stepOf b a) ≡ false) where
   pub in-after : (s : Store) → In b f (λ k. pageCell (b .colours) (stepOf b a) k (states k) .next) (markAfter (stepOf b a) mark) (acted b st f a s .after .tables) (afterAccepted m (made b f a))
@@ -115,7 +129,7 @@ module _ (b : Board) (reg : Regular b) (f : ℕ) (hf : f < b .frames) (states : 
   module _ (x p : ℕ) (hx : x < cachePages b) (hp : p < b .page) (e : pageCell (b .colours) (stepOf b a) x (states x) .operation ≡ none) where
     pub ordered-line : SameLine b x p (st .store) (ordered b st f (change b st f a .ops))
     ordered-line =
-        let i = idle-elsewhere (b .colours) (stepOf b a) (recordAt (st .tables .records) f) (rules b reg f hf states mark (st .tables) m now m refl) x
+        let i = idle-elsewhere (b .colours) (stepOf b a) (recordAt (st .tables .records) f) (rules b reg f hf states mark (st .tables) m now) x
         (ap (λ (z : ColourState). pageCell (b .colours) (stepOf b a) x z .operation) (now .states-are x hx) ∙ e) in
         carry-line b reg leaving f hf (st .store) kept (change b st f a .ops) first-below second-below x p hp (i .0) (i .1)
 

@@ -160,10 +160,11 @@ module _ (b : Board) (reg : Regular b) (f : ℕ) (hf : f < b .frames) (states : 
 
   -- ---- the tables after a step of f, and after the end of a transfer
 
-  module _ (t : Tables) (m : Cacheless) (now : In b f states mark t m) (n : Cacheless) (same : n .frame ≡ m .frame) where
+  module _ (t : Tables) (m : Cacheless) (now : In b f states mark t m) where
     pub rules : keepsRules (b .colours) (recordAt (t .records) f) ≡ true
     rules = record-rules b t (now .tables-kept .1) f hf
 
+  module _ (t : Tables) (m : Cacheless) (now : In b f states mark t m) (n : Cacheless) (same : n .frame ≡ m .frame) where
     -- with another record of f
     in-next : (r : FrameRecord) (others : ℕ → ColourState) (next : ℕ) → WellFormedTables b (commitChange b t f r)
         → ((k : ℕ) → k < cachePages b → pageStates (b .colours) r k ≡ others k) → r .busy ≡ next → In b f others next (commitChange b t f r) n
@@ -184,7 +185,7 @@ module _ (b : Board) (reg : Regular b) (f : ℕ) (hf : f < b .frames) (states : 
     in-step s unbarred =
         let r = recordAt (t .records) f in
         in-next (recordAfter (b .colours) s r) _ _ (step-keeps b t (now .tables-kept) f s hf (rw (now .mark-is) unbarred))
-        (λ k hk. pages-after (b .colours) r s rules k hk ∙ page-next (b .colours) s r k ∙ ap (λ (z : ColourState). pageCell (b .colours) s k z .next) (now .states-are k hk))
+        (λ k hk. pages-after (b .colours) r s (rules t m now) k hk ∙ page-next (b .colours) s r k ∙ ap (λ (z : ColourState). pageCell (b .colours) s k z .next) (now .states-are k hk))
         (ap (markAfter s) (now .mark-is))
 
     pub in-end : In b f states free (endedTables b t f) n

@@ -1,4 +1,4 @@
--- An action that lacks an order: what it leaves off, and which later call finds it.
+-- An action without one of its orders: where it leaves a wrong word, and which later call finds it.
 use mathlib.Core.Path.{_≡_, refl, sym, ap, _∙_}
 use mathlib.Core.Bool.{Bool, true, false, cond}
 use mathlib.Core.List.{List}
@@ -79,7 +79,7 @@ pub through : {b : Board} {o x : ℕ} {a : Action} → Processor b o x a → Thr
 through (loads-at x a l) = loads x _ (load-steps l)
 through (writes-at c h v) = writes c h
 
--- a mark that does not bar it is no device's write, and stays
+-- a mark that does not bar it is not that of a device's write, and stays
 pub processor-open : {b : Board} {o x : ℕ} {a : Action} → Processor b o x a → (mark : ℕ) → bars mark (stepOf b a) ≡ false → eqb mark writing ≡ false
 processor-open (loads-at x a l) mark e = sym (load-bars l mark) ∙ e
 processor-open (writes-at c h v) mark e = ap (λ (x : ℕ). eqb x writing) (eqb-true mark free (not-false (eqb mark free) e))
@@ -143,14 +143,14 @@ module _ (b : Board) (reg : Regular b) (f : ℕ) (hf : f < b .frames) (states : 
         (mark-open acts mark unbarred)
         (λ e. w (sym (finds-same b reg f hf o p ho hp apart acts hx left left-kept) ∙ e ∙ word-same b reg f hf o p ho hp apart acts m (now .framed x hx)))
 
-    -- the purge of its page is left out, where a line is off
+    -- the purge of its page is left out, where a line's word is wrong
     pub purge-lacked : Elsewhere (b .colours) x rest → Off b f x p (st .store) m → Later b lacked after
     purge-lacked e off =
         let line = left-line x p hp e in
         wrong-found (λ q.
         off .wrong (sym (line .word) ∙ sym (readWord-hit b reg f x p hf hx hp left left-kept (ap (λ (t : ℕ). names t f) (line .tag) ∙ off .named)) ∙ q))
 
-    -- the flush of another is left out, where memory is off and its own page is empty then
+    -- the flush of another is left out, where memory's word is wrong and its own page is empty then
     pub flush-lacked : Invariant b st m → NoFlush rest → statesLeft (b .colours) rest (pageStates (b .colours) (recordAt (st .tables .records) f)) x ≡ empty
         → memoryWord b (st .store) f p ≢ m .word f p → Later b lacked after
     flush-lacked inv quiet emptied off =
@@ -162,7 +162,7 @@ module _ (b : Board) (reg : Regular b) (f : ℕ) (hf : f < b .frames) (states : 
 
   -- ---- transfers
 
-  -- the flush of the dirty colour is left out, where memory is off at an offset that is not sent
+  -- the flush of the dirty colour is left out, where memory's word is wrong at an offset that is not sent
   pub transfer-lacked : Flushing (stepOf b a) → NoFlush rest → (o : ℕ) → o < b .page → ((s : Store) → hardware-store.WellFormedStore b s → memoryWord b (storeOf b f a s) f o ≡ memoryWord b s f o)
       → after .word f o ≡ m .word f o
       → memoryWord b (st .store) f o ≢ m .word f o → Later b lacked after

@@ -2,7 +2,7 @@
 use mathlib.Core.Path.{_≡_, refl, sym, ap, subst, subst⁻¹, _∙_}
 use mathlib.Core.Bool.{Bool, true, false, cond}
 use mathlib.Core.Logic.{_≢_}
-use Prim.Native.Nat.{ℕ, zero, suc, _≤_, _<_}
+use Prim.Native.Nat.{ℕ, suc, _<_}
 use native.Mathlib.Omega.{arith}
 use native.Mathlib.Decide.{ℕ-discrete}
 use borrow.Author.Tests.{lt-ltb, le-ltb, ltb-true, ltb-false}
@@ -15,12 +15,12 @@ use Rattle.machine.specs.State.{State}
 use Rattle.consistency.specs.Cacheless.{Cacheless, afterAccepted}
 use Rattle.necessity.specs.Action.{Action, read, fetch, stepOf}
 use Rattle.necessity.proofs.Acted.{done}
-use Rattle.necessity.proofs.CellLaws.{load-own-next, load-other-next}
+use Rattle.necessity.proofs.CellLaws.{clean-state, load-own-next, load-other-next}
 use Rattle.necessity.proofs.Here.{Here, here-states, here-after, act}
 use Rattle.necessity.proofs.In.{made}
 use Rattle.necessity.proofs.Loads.{LoadAt, reads-at, fetches-at, load, load-at, load-steps, load-range, load-bars, load-same}
 use Rattle.necessity.proofs.PageCells.{pageCell}
-use Rattle.necessity.proofs.Run.{Run, stay, then}
+use Rattle.necessity.proofs.Run.{Run, stay, then, repeated}
 
 -- ---- one load
 
@@ -40,9 +40,6 @@ module _ (b : Board) (reg : Regular b) (f : ℕ) (hf : f < b .frames) (states : 
 
 -- ---- the states along the run
 
-pub present-clean : present ≢ dirty
-present-clean e = let z : _≡_ {A = ℕ} 0 1 = cc in omega arith
-
 abbrev pub picked : (ℕ → Bool) → (ℕ → ColourState) → ℕ → ColourState
 picked q begin k = cond (q k) present (begin k)
 
@@ -54,7 +51,7 @@ module _ (q : ℕ → Bool) (begin : ℕ → ColourState) where
   picked-clean k ne = go (q k)
     where
       go : (t : Bool) → cond t present (begin k) ≢ dirty
-      go true = present-clean
+      go true = clean-state present refl
       go false = ne
 
   mix-clean : (i k : ℕ) → begin k ≢ dirty → mix q begin i k ≢ dirty
@@ -110,13 +107,9 @@ module _ (b : Board) (reg : Regular b) (f : ℕ) (hf : f < b .frames) (o : ℕ) 
               subst (λ (x : ℕ). pageCell (b .colours) (stepOf b (load b i o)) x (mix q begin i x) .next ≡ mix q begin (suc i) x) z
               (load-own-next (load-steps (load-at b i o hi)) (mix q begin i i) (mix-clean q begin i i (clean i)) ∙ sym (mix-next q begin i ∙ ap (λ (t : Bool). cond t present (begin i)) e))
 
-  upto : (i : ℕ) → i ≤ cachePages b → (st : State) (m : Cacheless) → Upto 0 st m → Run b st m (Upto i)
-  upto zero h st m u = stay b st m (Upto 0) u
-  upto (suc i) h st m u = then b st m (Upto i) (Upto (suc i)) (upto i (omega arith) st m u) (turn i h)
-
   pub load-all : (st : State) (m : Cacheless) → Here b f begin free st m → Q st m → Run b st m (λ t n. Here b f (picked q begin) free t n × Q t n)
   load-all st m here p =
-      then b st m (Upto (cachePages b)) _ (upto (cachePages b) (omega arith) st m (here-states b f begin (mix q begin 0) free st m (λ k hk. sym (first k)) here, p))
+      then b st m (Upto (cachePages b)) _ (repeated b Upto (cachePages b) turn st m (here-states b f begin (mix q begin 0) free st m (λ k hk. sym (first k)) here, p))
       (λ t n u. stay b t n _ (here-states b f (mix q begin (cachePages b)) (picked q begin) free t n (λ k hk. last k hk) (u .0), u .1))
     where
       first : (k : ℕ) → mix q begin 0 k ≡ begin k

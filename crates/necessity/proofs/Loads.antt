@@ -1,11 +1,10 @@
 -- A load through a page of the caches: a read through a colour's, and a fetch through an instruction colour's.
-use mathlib.Core.Path.{_≡_, refl}
+use mathlib.Core.Path.{_≡_, refl, subst}
 use mathlib.Core.Bool.{Bool, true, false, cond}
 use mathlib.Core.Option.{some}
 use Prim.Native.Nat.{ℕ, _-_, _<_}
 use native.Mathlib.Omega.{arith}
 use mathlib.Core.Logic.{_≢_}
-use mathlib.Core.Path.{subst}
 use borrow.Author.Tests.{ltb-true, ltb-false}
 use lib.Dec.{eqb, ltb}
 use Rattle.board.specs.declared.Board.{Board}
@@ -13,11 +12,10 @@ use Rattle.board.specs.Board.{cachePages, instructionPage}
 use Rattle.page_model.specs.Busy.{writing, bars, markAfter}
 use Rattle.cache.specs.Cache as hardware
 use Rattle.cache.specs.Store.{Store}
-use Rattle.consistency.specs.Cacheless.{Cacheless, afterAccepted}
+use Rattle.consistency.specs.Cacheless.{Cacheless, useOf, afterAccepted}
 use Rattle.consistency.specs.Demand3.{pageWord}
 use Rattle.necessity.specs.Action.{Action, read, fetch, stepOf, InRange}
 use Rattle.necessity.specs.Without.{Differ, WrongBy}
-use Rattle.consistency.specs.Cacheless.{useOf}
 use Rattle.machine.specs.State.{Answer}
 use Rattle.necessity.proofs.Acted.{wordOf, storeOf}
 use Rattle.necessity.proofs.CellLaws.{Loads, reads, fetches}
@@ -29,7 +27,7 @@ pub data LoadAt (b : Board) (o : ℕ) : ℕ → Action → Type 0 where
   reads-at : (c : ℕ) → c < b .colours → LoadAt b o c (read c o)
   fetches-at : (c : ℕ) → c < b .colours → LoadAt b o (instructionPage b c) (fetch c o)
 
--- the load of a page
+-- the load of offset o through page x
 abbrev pub load : Board → ℕ → ℕ → Action
 load b x o = cond (ltb x (b .colours)) (read x o) (fetch (x - b .colours) o)
 

@@ -4,7 +4,7 @@ use mathlib.Core.Bool.{Bool, true, false, not, cond}
 use mathlib.Core.List.{List}
 use mathlib.Core.Logic.{_≢_}
 use mathlib.Core.Option.{none, some}
-use Prim.Native.Nat.{ℕ, zero, suc, _-_, _≤_, _<_}
+use Prim.Native.Nat.{ℕ, suc, _-_, _≤_, _<_}
 use native.Mathlib.Omega.{arith}
 use native.Mathlib.Decide.{ℕ-discrete}
 use borrow.Author.Tests.{eq-eqb, ne-eqb, lt-leb}
@@ -20,10 +20,10 @@ use Rattle.page_model.proofs.Theorems.{start-record}
 use Rattle.mapping.specs.declared.Found.the-variants.{Nothing}
 use Rattle.mapping.specs.declared.MappingList.{MappingList}
 use Rattle.mapping.specs.Change.{insert}
-use Rattle.mapping.specs.Entry.{capacity, readOnly, readWrite, readFetch, isRights}
+use Rattle.mapping.specs.Entry.{capacity, readWrite, readFetch, isRights}
 use Rattle.mapping.specs.Facts as facts
 use Rattle.mapping.specs.Lookup.{lookup, mappingOf, found}
-use Rattle.mapping.proofs.Laws.{none-found, empty-count, mappingOf-empty, inserted-count, mappingOf-inserted-same, mappingOf-inserted-other}
+use Rattle.mapping.proofs.Laws.{rights-known, none-found, empty-count, mappingOf-empty, inserted-count, mappingOf-inserted-same, mappingOf-inserted-other}
 use Rattle.manager.specs.Refusals.{firstRefusal}
 use Rattle.manager.specs.Tables.{recordAt, refill}
 use Rattle.manager.specs.Theorems.{WellFormedTables}
@@ -42,16 +42,9 @@ use Rattle.consistency.proofs.Start.{start-invariant}
 use Rattle.demands.proofs.Kept.{tables-after}
 use Rattle.necessity.proofs.Here.{Here}
 use Rattle.necessity.proofs.In.{rightsOf, In, mapping}
-use Rattle.necessity.proofs.Run.{Run, stay, then, one, invariant-call}
+use Rattle.necessity.proofs.Run.{Run, stay, then, repeated, one, invariant-call}
 
 -- the rights of a page of the caches
-rights-in : (b : Board) (i : ℕ) → (readOnly ≤ rightsOf b i) × (rightsOf b i ≤ readFetch)
-rights-in b i = go (ltb i (b .colours))
-  where
-    go : (t : Bool) → (readOnly ≤ cond t readWrite readFetch) × (cond t readWrite readFetch ≤ readFetch)
-    go true = (omega arith, omega arith)
-    go false = (omega arith, omega arith)
-
 is-rights : (b : Board) (i : ℕ) → isRights (rightsOf b i) ≡ true
 is-rights b i = go (ltb i (b .colours))
   where
@@ -81,7 +74,7 @@ module _ (b : Board) (reg : Regular b) (f : ℕ) (hf : f < b .frames) where
     room = let few = reg .few-colours in let c = u .count in omega arith
 
     range : facts.InRange b (mapping b f i)
-    range = let few = reg .few-colours in record { space-lt = omega arith; page-lt = omega arith; frame-lt = hf; rights-of = rights-in b i }
+    range = let few = reg .few-colours in record { space-lt = omega arith; page-lt = omega arith; frame-lt = hf; rights-of = rights-known _ (is-rights b i) }
 
     map-clear : firstRefusal (causes b st call) ≡ 0
     unfolding ownCauses
@@ -130,16 +123,12 @@ module _ (b : Board) (reg : Regular b) (f : ℕ) (hf : f < b .frames) where
     turn : Run b st m (Upto (suc i))
     turn = one b st m (Upto (suc i)) call map-clear next
 
-  upto : (i : ℕ) → i ≤ cachePages b → (st : State) (m : Cacheless) → Upto 0 st m → Run b st m (Upto i)
-  upto zero h st m u = stay b st m (Upto 0) u
-  upto (suc i) h st m u = then b st m (Upto i) (Upto (suc i)) (upto i (omega arith) st m u) (λ t n v. turn i h t n v)
-
   pub map-all : (memory words protections : List ℕ) → length memory ≡ memoryWords b → length words ≡ cacheWords b → length protections ≡ capacity
       → Run b (startState b memory words protections) (startCacheless b memory) (λ st m. Here b f (λ k. empty) free st m)
   map-all memory words protections full wide long =
       let inv = start-invariant b reg memory words protections full wide long in
       let st = startState b memory words protections in
-      then b st (startCacheless b memory) (Upto (cachePages b)) _ (upto (cachePages b) (omega arith) st (startCacheless b memory) (begins inv))
+      then b st (startCacheless b memory) (Upto (cachePages b)) _ (repeated b Upto (cachePages b) turn st (startCacheless b memory) (begins inv))
       (λ t n u. stay b t n _ (record { tables-in = ready t n u; inv = u .inv }))
     where
       begins : Invariant b (startState b memory words protections) (startCacheless b memory) → Upto 0 (startState b memory words protections) (startCacheless b memory)

@@ -1,4 +1,4 @@
--- What the claim speaks of means what it says: a call without an order that there is not is the call, and with all orders no read finds a wrong word.
+-- What the claim speaks of means what it says: without an order that it does not have a call is itself, and with all orders no read finds a wrong word.
 use mathlib.Core.Path.{_≡_, refl, sym, ap, _∙_}
 use mathlib.Core.List.{List, [], _∷_, _++_, List·Memᴰ, List·Memᴰ·head}
 use mathlib.Core.Logic.{_⊎_, inl, inr, ⊎-elim}
@@ -35,7 +35,7 @@ one-or-none (Flush c) = inr refl
 one-or-none (Purge c) = inr refl
 one-or-none (PurgeInstructions c) = inr refl
 
--- the second of two is none if they are fewer than two and none stands only behind one; so is the first if there are none
+-- two operations, the second none where the first is: if they are fewer than two, the second is none; if there are none, the first too
 module _ (a z : Op) (gap : a ≡ None → z ≡ None) where
   second-none : length (opList a ++ opList z) ≤ 1 → z ≡ None
   second-none l =

@@ -1,4 +1,4 @@
--- Which order a step with one left out lacks, and which pages of the caches the others are on.
+-- A step's orders with one left out: which that is, and which page of the caches the other is on.
 use mathlib.Core.Path.{_≡_, refl, sym, ap, subst, _∙_}
 use mathlib.Core.Bool.{Bool, true, false, cond, true≢false, false≢true}
 use mathlib.Core.List.{List, [], _∷_, _++_, map, append-assoc, List·Memᴰ, List·Memᴰ·head, List·Memᴰ·tail, List·Memᴰ·not-nil, List·Memᴰ·cases-cons, List·Memᴰ·eq-of-singleton, List·Memᴰ·append-cases, Memᴰ·of-map}
@@ -119,7 +119,7 @@ module _ (n : ℕ) (s : Step) (r : FrameRecord) (rules : keepsRules n r ≡ true
   instruction-operation : (k : ℕ) → operationAt (n + k) ≡ instructionCellOf s r k .operation
   instruction-operation k = ap (λ (x : Cell). x .operation) (instruction-cell n s r k)
 
-  -- a page whose cell has no operation is on none of them
+  -- none of them is on a page whose cell has no operation
   pub idle-elsewhere : (x : ℕ) → operationAt x ≡ none → Elsewhere n x (stepped n s r .ops .first) × Elsewhere n x (stepped n s r .ops .second)
   idle-elsewhere x e =
       first-two (Elsewhere n x) tt (operations n s r)
@@ -148,7 +148,7 @@ module _ (n : ℕ) (s : Step) (r : FrameRecord) (rules : keepsRules n r ≡ true
       listed-cases n s r (λ k l p e. let q : k ≡ c = cc in subst (λ (i : ℕ). (i < n) × (isFlush (operationAt i) ≡ true)) q (l, ap isFlush (data-operation k l) ∙ p))
       (λ k l p e. let z : _≡_ {A = ℕ} 0 1 = cc in absurd (omega arith)) (λ k l p e. let z : _≡_ {A = ℕ} 0 1 = cc in absurd (omega arith))
 
-  -- and a purge of a page is listed
+  -- and the purge of a page whose cell has one is listed
   purge-page-listed : (x : ℕ) → x < 2 * n → isPurge (operationAt x) ≡ true → List·Memᴰ (purgeOf n x) (operations n s r)
   purge-page-listed x h e = go (ltb x n) refl
     where
@@ -170,7 +170,6 @@ module _ (n : ℕ) (s : Step) (r : FrameRecord) (rules : keepsRules n r ≡ true
   -- or the purge of a page, and what is left is on another
   pub record PurgeOut (rest : Op) : Type 0 where
     pub page : ℕ
-    pub below : page < 2 * n
     pub purges : isPurge (operationAt page) ≡ true
     pub elsewhere : Elsewhere n page rest
 
@@ -198,7 +197,7 @@ module _ (n : ℕ) (s : Step) (r : FrameRecord) (rules : keepsRules n r ≡ true
   purge-out : (left rest : Op) → NoFlush left → List·Memᴰ left (operations n s r) → (rest ≡ None) ⊎ List·Memᴰ rest (operations n s r)
       → ((c : ℕ) × (rest ≡ Flush c)) ⊎ (rest ≡ None) → PurgeOut rest
   purge-out left rest quiet m other is =
-      let here = listed-purge left quiet m in record { page = here .0; below = here .1; purges = here .2; elsewhere = ⊎-elim (λ f. flushed (here .0) (here .2) (f .0) (f .1) other) (λ e. subst (Elsewhere n (here .0)) (sym e) tt) is }
+      let here = listed-purge left quiet m in record { page = here .0; purges = here .2; elsewhere = ⊎-elim (λ f. flushed (here .0) (here .2) (f .0) (f .1) other) (λ e. subst (Elsewhere n (here .0)) (sym e) tt) is }
     where
       flushed : (x : ℕ) → isPurge (operationAt x) ≡ true → (c : ℕ) → rest ≡ Flush c → (rest ≡ None) ⊎ List·Memᴰ rest (operations n s r) → Elsewhere n x rest
       flushed x p c e (inl z) = absurd (let q : _≡_ {A = ℕ} 0 1 = cc in omega arith)

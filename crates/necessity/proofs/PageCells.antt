@@ -101,15 +101,15 @@ abbrev instructionRow : Step → Role → ColourState → Cell
 instructionRow s role z = asCell (instructionRowAt (stepNumber s) role (asInstruction z))
 
 module _ (n : ℕ) where
-  data-row : (s : Step) (k : ℕ) (z : ColourState) → k < n → (cellAt s k z ≡ rowOf s (roleIf (isOwn n s k)) z) × (isOwn n s k ≡ true → inData s ≡ true)
-  data-row (read c) k z h = (refl, λ e. refl)
-  data-row (write c) k z h = (refl, λ e. refl)
-  data-row deviceRead k z h = (refl, λ e. e)
-  data-row deviceWrite k z h = (refl, λ e. e)
-  data-row deviceWritePart k z h = (refl, λ e. e)
-  data-row beginRead k z h = (refl, λ e. e)
-  data-row beginWrite k z h = (refl, λ e. e)
-  data-row (fetch c) k z h = (refl, λ e. absurd (let q = eqb-true (n + c) k e in omega arith))
+  data-in-row : (s : Step) (k : ℕ) (z : ColourState) → k < n → (cellAt s k z ≡ rowOf s (roleIf (isOwn n s k)) z) × (isOwn n s k ≡ true → inData s ≡ true)
+  data-in-row (read c) k z h = (refl, λ e. refl)
+  data-in-row (write c) k z h = (refl, λ e. refl)
+  data-in-row deviceRead k z h = (refl, λ e. e)
+  data-in-row deviceWrite k z h = (refl, λ e. e)
+  data-in-row deviceWritePart k z h = (refl, λ e. e)
+  data-in-row beginRead k z h = (refl, λ e. e)
+  data-in-row beginWrite k z h = (refl, λ e. e)
+  data-in-row (fetch c) k z h = (refl, λ e. absurd (let q = eqb-true (n + c) k e in omega arith))
 
   past : (c k : ℕ) → n ≤ k → eqb c (k - n) ≡ eqb (n + c) k
   past c k h = go (ℕ-discrete (n + c) k)
@@ -118,16 +118,16 @@ module _ (n : ℕ) where
       go (yes e) = eq-eqb c (k - n) (omega arith) ∙ sym (eq-eqb (n + c) k e)
       go (no ne) = ne-eqb c (k - n) (λ e. ne (omega arith)) ∙ sym (ne-eqb (n + c) k ne)
 
-  instruction-row : (s : Step) → reach s ≤ n → (k : ℕ) (z : ColourState) → n ≤ k
+  instruction-in-row : (s : Step) → reach s ≤ n → (k : ℕ) (z : ColourState) → n ≤ k
       → (asCell (instructionCellAt s (k - n) (asInstruction z)) ≡ instructionRow s (roleIf (isOwn n s k)) z) × (isOwn n s k ≡ true → inInstructions s ≡ true)
-  instruction-row (read c) l k z h = (refl, λ e. absurd (let q = eqb-true c k e in omega arith))
-  instruction-row (write c) l k z h = (refl, λ e. absurd (let q = eqb-true c k e in omega arith))
-  instruction-row deviceRead l k z h = (refl, λ e. e)
-  instruction-row deviceWrite l k z h = (refl, λ e. e)
-  instruction-row deviceWritePart l k z h = (refl, λ e. e)
-  instruction-row beginRead l k z h = (refl, λ e. e)
-  instruction-row beginWrite l k z h = (refl, λ e. e)
-  instruction-row (fetch c) l k z h = (ap (λ (t : Bool). asCell (fetchedCell (roleIf t) (asInstruction z))) (past c k h), λ e. refl)
+  instruction-in-row (read c) l k z h = (refl, λ e. absurd (let q = eqb-true c k e in omega arith))
+  instruction-in-row (write c) l k z h = (refl, λ e. absurd (let q = eqb-true c k e in omega arith))
+  instruction-in-row deviceRead l k z h = (refl, λ e. e)
+  instruction-in-row deviceWrite l k z h = (refl, λ e. e)
+  instruction-in-row deviceWritePart l k z h = (refl, λ e. e)
+  instruction-in-row beginRead l k z h = (refl, λ e. e)
+  instruction-in-row beginWrite l k z h = (refl, λ e. e)
+  instruction-in-row (fetch c) l k z h = (ap (λ (t : Bool). asCell (fetchedCell (roleIf t) (asInstruction z))) (past c k h), λ e. refl)
 
 -- ---- a law of a step's rows
 
@@ -139,8 +139,8 @@ page-law n p s l e k z = go (ltb k n) refl
   where
     go : (t : Bool) → ltb k n ≡ t → p (isOwn n s k) z (cond t (cellAt s k z) (asCell (instructionCellAt s (k - n) (asInstruction z)))) ≡ true
     go true q =
-        let x = data-row n s k z (ltb-true k n q) in
+        let x = data-in-row n s k z (ltb-true k n q) in
         ap (p (isOwn n s k) z) (x .0) ∙ row-law (inData s) p (rowOf s) (and-left _ (everyCell (inInstructions s) p (instructionRow s)) e) (isOwn n s k) (x .1) z
     go false q =
-        let x = instruction-row n s l k z (ltb-false k n q) in
+        let x = instruction-in-row n s l k z (ltb-false k n q) in
         ap (p (isOwn n s k) z) (x .0) ∙ row-law (inInstructions s) p (instructionRow s) (and-right (everyCell (inData s) p (rowOf s)) _ e) (isOwn n s k) (x .1) z

@@ -1,4 +1,4 @@
--- A record that keeps the rules is told by its mark and the states of the pages of the caches; and what these are beside a dirty one.
+-- A record that keeps the rules is determined by its mark and the states of the pages of the caches; and what these are beside a dirty one.
 use mathlib.Core.Path.{_≡_, sym, ap, _∙_}
 use mathlib.Core.Bool.{true, true≢false}
 use mathlib.Core.Logic.{_≢_}
@@ -31,18 +31,19 @@ asPage-present x e = asPage-injective x fetched e
 pub dirty-data : (n : ℕ) (r : FrameRecord) (k : ℕ) → pageStates n r k ≡ dirty → (k < n) × (stateOf r k ≡ dirty)
 dirty-data n r k = page-cases (λ z. z ≡ dirty → (k < n) × (stateOf r k ≡ dirty)) n k (λ h e. (h, e)) (λ _ e. absurd (never-dirty (instructionStateOf r (k - n)) e))
 
+-- so none is dirty if no colour is
+pub none-dirty : (n : ℕ) (r : FrameRecord) → ((k : ℕ) → k < n → stateOf r k ≢ dirty) → (k : ℕ) → pageStates n r k ≢ dirty
+none-dirty n r clean k e = let d = dirty-data n r k e in clean k (d .0) (d .1)
+
 module _ (n : ℕ) (r : FrameRecord) (rules : keepsRules n r ≡ true) where
   pub same-pages : (s : FrameRecord) → keepsRules n s ≡ true → s .busy ≡ r .busy → ((k : ℕ) → k < 2 * n → pageStates n s k ≡ pageStates n r k) → s ≡ r
   same-pages s ks mark e =
       same-record n r s rules ks mark (λ k h. sym (page-data n s k h) ∙ e k (omega arith) ∙ page-data n r k h)
       (λ k h. asPage-injective _ _ (sym (page-instruction n s k) ∙ e (n + k) (omega arith) ∙ page-instruction n r k))
 
-  -- no page is dirty where a device reads, or where the record names no dirty colour
-  pub none-dirty : ((k : ℕ) → k < n → stateOf r k ≢ dirty) → (k : ℕ) → pageStates n r k ≢ dirty
-  none-dirty clean k = page-cases (λ z. z ≢ dirty) n k (λ h. clean k h) (λ _. never-dirty (instructionStateOf r (k - n)))
-
+  -- no page is dirty where a device reads
   pub reading-clean : r .busy ≡ reading → (k : ℕ) → pageStates n r k ≢ dirty
-  reading-clean e = none-dirty (λ k h q. true≢false (sym (ap isDirty q) ∙ kept-mark n r rules .none-dirty e k h))
+  reading-clean e = none-dirty n r (λ k h q. true≢false (sym (ap isDirty q) ∙ kept-mark n r rules .none-dirty e k h))
 
   module _ (d : ℕ) (hd : d < n) (dirties : stateOf r d ≡ dirty) where
     pub one-dirty : (k : ℕ) → pageStates n r k ≡ dirty → k ≡ d

@@ -29,7 +29,7 @@ use Rattle.consistency.proofs.Pages.{pageStates}
 use Rattle.consistency.proofs.Table.{empty-clean}
 use Rattle.necessity.specs.Action.{stepOf, write, deviceWrite, beginRead}
 use Rattle.necessity.proofs.Acted.{change, ordered, done}
-use Rattle.necessity.proofs.CellLaws.{load-own-next, load-other-next, load-other-idle, begin-next, begin-idle}
+use Rattle.necessity.proofs.CellLaws.{clean-state, loads, through-other-idle, load-own-next, load-other-next, begin-next, begin-idle}
 use Rattle.necessity.proofs.Differs as differs
 use Rattle.necessity.proofs.Here.{Here, here-states, here-after, begin-word, write-word-other, ordered-kept, done-line, act}
 use Rattle.necessity.proofs.In.{made}
@@ -39,7 +39,13 @@ use Rattle.necessity.proofs.Maps.{map-all}
 use Rattle.necessity.proofs.PageCells.{pageCell}
 use Rattle.necessity.proofs.PageStates.{page-data, none-dirty, reading-clean}
 use Rattle.necessity.proofs.Run.{Run, stay, then}
-use Rattle.necessity.proofs.Turns.{Off, off-same, stale-clean, rebuilt-clean, staleLoaded, staleOnly, stale-loaded-clean, stale-only-clean, page-of, page-length, sent-here, sent-line, sent-words, written-here, written-memory, written-named, written-word, written-ref, written-line}
+use Rattle.necessity.proofs.Turns.{Off, off-same, rebuilt-clean, staleLoaded, staleOnly, where-stale-clean, page-of, page-length, sent-here, sent-line, sent-words, written-here, written-memory, written-named, written-word, written-ref, written-line}
+
+-- the dirty line holds the cacheless memory's word, which is not the one to avoid
+pub record Ahead (b : Board) (f d p avoid : ℕ) (s : Store) (m : Cacheless) : Type 0 where
+  pub named : names (tagAt s (lineOf b d p)) f ≡ true
+  pub word : wordAt b s d p ≡ m .word f p
+  pub avoids : m .word f p ≢ avoid
 
 module _ (b : Board) (reg : Regular b) (f : ℕ) (hf : f < b .frames) (r : FrameRecord) (kept-rules : keepsRules (b .colours) r ≡ true) where
   -- the states to be reached
@@ -56,10 +62,10 @@ module _ (b : Board) (reg : Regular b) (f : ℕ) (hf : f < b .frames) (r : Frame
 
   module _ (memory words protections : List ℕ) (full : length memory ≡ memoryWords b) (wide : length words ≡ cacheWords b)
       (long : length protections ≡ capacity) where
-    abbrev pub begin : State
+    abbrev begin : State
     begin = startState b memory words protections
 
-    abbrev pub ref : Cacheless
+    abbrev ref : Cacheless
     ref = startCacheless b memory
 
     -- the pages to be stale are loaded
@@ -73,12 +79,6 @@ module _ (b : Board) (reg : Regular b) (f : ℕ) (hf : f < b .frames) (r : Frame
 
     -- ---- a record with a dirty colour
 
-    -- the dirty line holds the cacheless memory's word, which is not the one to avoid
-    pub record Ahead (d p avoid : ℕ) (s : Store) (m : Cacheless) : Type 0 where
-      pub named : names (tagAt s (lineOf b d p)) f ≡ true
-      pub word : wordAt b s d p ≡ m .word f p
-      pub avoids : m .word f p ≢ avoid
-
     module _ (d : ℕ) (hd : d < b .colours) (dirties : stateOf r d ≡ dirty) (p : ℕ) (hp : p < b .page) where
       stale-only : Run b begin ref (λ st m. Here b f aside free st m)
       stale-only =
@@ -91,7 +91,7 @@ module _ (b : Board) (reg : Regular b) (f : ℕ) (hf : f < b .frames) (r : Frame
       write-run st m here v Q q = act b reg f hf aside free st m (here .tables-in) (here .inv .kept) (write d p v) (hd, hp) refl Q q
 
       -- the line of the dirty colour holds another word than a given one
-      pub reach-line : (avoid : ℕ) → Run b begin ref (λ st m. Here b f wanted free st m × Ahead d p avoid (st .store) m)
+      pub reach-line : (avoid : ℕ) → Run b begin ref (λ st m. Here b f wanted free st m × Ahead b f d p avoid (st .store) m)
       reach-line avoid =
           then b begin ref (λ st m. Here b f aside free st m) _ stale-only
           (λ st m here.
@@ -135,12 +135,12 @@ module _ (b : Board) (reg : Regular b) (f : ℕ) (hf : f < b .frames) (r : Frame
           ))
         where
           next : (k : ℕ) → Dec (x ≡ k) → pageCell (b .colours) (stepOf b (load b x p)) k (loaded k) .next ≡ loaded k
-          next k (no ne) = load-other-next (load-steps (load-at b x p hx)) (loaded k) (stale-loaded-clean (b .colours) r k) k ne
+          next k (no ne) = load-other-next (load-steps (load-at b x p hx)) (loaded k) (where-stale-clean present refl (b .colours) r k) k ne
           next k (yes e) =
               subst (λ (y : ℕ). pageCell (b .colours) (stepOf b (load b x p)) y (loaded y) .next ≡ loaded y) e
-              (load-own-next (load-steps (load-at b x p hx)) (loaded x) (stale-loaded-clean (b .colours) r x) ∙ sym (ap (λ (z : ColourState). cond (isStale z) present empty) stales))
+              (load-own-next (load-steps (load-at b x p hx)) (loaded x) (where-stale-clean present refl (b .colours) r x) ∙ sym (ap (λ (z : ColourState). cond (isStale z) present empty) stales))
 
-      -- a device writes, and its word is old
+      -- a device writes, and the line's word is old
       aged : Run b begin ref (λ st m. Here b f aside free st m × Off b f x p (st .store) m)
       aged =
           then b begin ref _ _ filled
@@ -163,12 +163,12 @@ module _ (b : Board) (reg : Regular b) (f : ℕ) (hf : f < b .frames) (r : Frame
       load-held : ((k : ℕ) → wanted k ≢ dirty) → (st : State) (m : Cacheless) → Here b f aside free st m → Off b f x p (st .store) m → Run b st m (Aged free)
       load-held clean st m here off =
           then b st m (λ t n. Here b f (picked (λ k. isHeld (wanted k)) aside) free t n × Off b f x p (t .store) n) (Aged free)
-          (load-all b reg f hf o ho (λ k. isHeld (wanted k)) aside (stale-only-clean (b .colours) r) (λ t n. Off b f x p (t .store) n)
+          (load-all b reg f hf o ho (λ k. isHeld (wanted k)) aside (where-stale-clean stale refl (b .colours) r) (λ t n. Off b f x p (t .store) n)
           (λ states t n i h quiet hi e u.
           let away : i ≢ x = λ q. true≢false (sym e ∙ ap (λ (k : ℕ). isHeld (wanted k)) q ∙ ap isHeld stales) in
           let l = load-at b i o hi in
           off-same b f x p (t .store) _ n n
-          (done-line b reg f hf states free t n (h .tables-in) (h .inv .kept) (load b i o) (load-range l ho) (load-bars l free) x p hx hp (load-other-idle (load-steps l) (states x) (quiet x) x away)
+          (done-line b reg f hf states free t n (h .tables-in) (h .inv .kept) (load b i o) (load-range l ho) (load-bars l free) x p hx hp (through-other-idle (loads i _ (load-steps l)) (states x) (quiet x) x away)
           (load-beside l x away))
           refl u)
           st m here off)
@@ -177,7 +177,7 @@ module _ (b : Board) (reg : Regular b) (f : ℕ) (hf : f < b .frames) (r : Frame
       -- or the dirty one is written
       write-dirty : (d : ℕ) → d < b .colours → stateOf r d ≡ dirty → (st : State) (m : Cacheless) → Here b f aside free st m → Off b f x p (st .store) m → Run b st m (Aged free)
       write-dirty d hd dirties st m here off =
-          let away : d ≢ x = λ q. stale-clean (sym stales ∙ ap wanted (sym q) ∙ page-data (b .colours) r d hd ∙ dirties) in
+          let away : d ≢ x = λ q. clean-state stale refl (sym stales ∙ ap wanted (sym q) ∙ page-data (b .colours) r d hd ∙ dirties) in
           write-run d hd dirties o ho st m here 0 (Aged free) (
             written-here b reg f hf r kept-rules d hd dirties st m here o ho 0,
             off-same b f x p (st .store) _ m (afterAccepted m (made b f (write d o 0))) (written-line b reg f hf r kept-rules d hd dirties st m here o ho 0 x p hx hp away)
@@ -193,7 +193,7 @@ module _ (b : Board) (reg : Regular b) (f : ℕ) (hf : f < b .frames) (r : Frame
               write-dirty (r .«dirty_colour») hd (dirty-colour (b .colours) r kept-rules .1 (r .«dirty_colour») hd .1 refl) st m (u .0) (u .1)
           go false e st m u =
               let out = ltb-false (r .«dirty_colour») (b .colours) e in
-              load-held (none-dirty (b .colours) r kept-rules (λ k hk q. let z = dirty-colour (b .colours) r kept-rules .1 k hk .0 q in omega arith)) st m (u .0) (u .1)
+              load-held (none-dirty (b .colours) r (λ k hk q. let z = dirty-colour (b .colours) r kept-rules .1 k hk .0 q in omega arith)) st m (u .0) (u .1)
 
       -- and a device's read begins, if the record says so
       pub reach-stale : eqb (r .busy) writing ≡ false → Run b begin ref (Aged (r .busy))

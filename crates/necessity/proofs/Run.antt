@@ -2,6 +2,8 @@
 use mathlib.Core.Path.{_≡_, sym, ap, subst, subst⁻¹, _∙_}
 use mathlib.Core.Bool.{Bool, false}
 use mathlib.Core.List.{List, [], _∷_, _++_}
+use Prim.Native.Nat.{ℕ, zero, suc, _<_}
+use native.Mathlib.Omega.{arith}
 use Rattle.board.specs.declared.Board.{Board}
 use Rattle.board.specs.Board.{Regular}
 use Rattle.manager.specs.Refusals.{firstRefusal}
@@ -69,3 +71,9 @@ module _ (b : Board) where
   pub one : (st : State) (m : Cacheless) (P : State → Cacheless → Type 0) (call : Single) → firstRefusal (causes b st call) ≡ 0
       → P (accept b st call .after) (afterAccepted m call) → Run st m P
   one st m P call e p = record { calls = single call ∷ []; ends = after-call st call e m P p }
+
+  -- runs one after the other, n times
+  pub repeated : (P : ℕ → State → Cacheless → Type 0) (n : ℕ) → ((i : ℕ) → i < n → (st : State) (m : Cacheless) → P i st m → Run st m (P (suc i)))
+      → (st : State) (m : Cacheless) → P 0 st m → Run st m (P n)
+  repeated P zero turn st m p = stay st m (P 0) p
+  repeated P (suc n) turn st m p = then st m (P n) (P (suc n)) (repeated P n (λ i h. turn i (omega arith)) st m p) (turn n (omega arith))

@@ -1,5 +1,5 @@
--- Request N10: each single order of an accepted step is needed. By the page of the caches that the order left out is on: it is stale, and its line is
--- old; or it is dirty, and memory is old where it is not flushed, or its line is where it is not purged.
+-- Request N10: each single order of an accepted step is needed. A stale page that is not purged keeps an old line; a dirty one that is not flushed leaves
+-- memory old; a dirty one that is not purged keeps a line that is hit later.
 use mathlib.Core.Path.{_≡_, refl, sym, ap, subst, subst⁻¹, _∙_}
 use mathlib.Core.Bool.{Bool, true, false, cond, true≢false}
 use mathlib.Core.List.{List}
@@ -31,8 +31,8 @@ use Rattle.cache.proofs.Laws.Device.{deviceWrite-memory-rest}
 use Rattle.machine.specs.Call.{perform}
 use Rattle.machine.specs.State.{State, single, Result}
 use Rattle.machine.proofs.CallLaws.{accept-accepted}
-use Rattle.consistency.specs.Cacheless.{Cacheless, isRefused, fed, afterAccepted}
-use Rattle.consistency.specs.Demand3.{stateAfter, cachelessAfter}
+use Rattle.consistency.specs.Cacheless.{Cacheless, startCacheless, isRefused, fed, afterAccepted}
+use Rattle.consistency.specs.Demand3.{startState, stateAfter, cachelessAfter}
 use Rattle.consistency.proofs.Operate.{statesLeft}
 use Rattle.consistency.proofs.Pages.{pageStates}
 use Rattle.consistency.proofs.Lines.{Elsewhere}
@@ -51,17 +51,17 @@ use Rattle.necessity.proofs.Loads.{reads-at, fetches-at}
 use Rattle.necessity.proofs.Orders.{FlushOut, LeftOut, left-out}
 use Rattle.necessity.proofs.PageCells.{pageCell}
 use Rattle.necessity.proofs.PageStates.{page-data, same-pages, dirty-data, one-dirty, none-present}
-use Rattle.necessity.proofs.Reach.{begin, ref, Ahead, reach-line, reach-memory, reach-stale}
+use Rattle.necessity.proofs.Reach.{Ahead, reach-line, reach-memory, reach-stale}
 use Rattle.necessity.proofs.Run.{Run, step-is}
 use Rattle.necessity.proofs.Turns.{Off}
 
 module _ (b : Board) (reg : Regular b) (two : 2 ≤ b .page) (memory words protections : List ℕ) (full : length memory ≡ memoryWords b) (wide : length words ≡ cacheWords b)
     (long : length protections ≡ capacity) (f : ℕ) (r : FrameRecord) (hf : f < b .frames) (rules : keepsRules (b .colours) r ≡ true) where
   abbrev from : State
-  from = begin b reg f hf r rules memory words protections full wide long
+  from = startState b memory words protections
 
   abbrev ref-at : Cacheless
-  ref-at = ref b reg f hf r rules memory words protections full wide long
+  ref-at = startCacheless b memory
 
   abbrev states : ℕ → ColourState
   states = pageStates (b .colours) r
@@ -176,7 +176,7 @@ module _ (b : Board) (reg : Regular b) (two : 2 ≤ b .page) (memory words prote
         let here = dirty-data (b .colours) r d dirty-page in
         let hd = here .0 in
         let dirties = here .1 in
-        needed busy.free (dirty-free (b .colours) r rules d hd dirties) (λ st m. Ahead b reg f hf r rules memory words protections full wide long d p v (st .store) m)
+        needed busy.free (dirty-free (b .colours) r rules d hd dirties) (λ st m. Ahead b f d p v (st .store) m)
         (reach-line b reg f hf r rules memory words protections full wide long d hd dirties p hp v)
         (λ st m same here open-mark ahead.
         whole-lacked b reg f hf states busy.free st m (here .tables-in) (here .inv .kept) a h open-mark (lack .rest) (lack .rest-below) step refl d p hd hp (beside d)

@@ -1,4 +1,4 @@
--- The two turns of a run that change words: a device writes the whole page, and the colour to be dirty is written.
+-- The two calls of a run that change words: a device writes the whole page, and the colour to be dirty is written.
 use mathlib.Core.Path.{_≡_, refl, sym, ap, _∙_}
 use mathlib.Core.Bool.{Bool, true, false, cond, true≢false}
 use mathlib.Core.List.{List}
@@ -12,13 +12,9 @@ use Rattle.board.specs.Board.{Regular, cachePages, lineOf, memoryAt}
 use Rattle.board.proofs.Geometry.{data-page}
 use Rattle.page_model.specs.declared.FrameRecord.{FrameRecord}
 use Rattle.page_model.specs.Busy.{free}
-use Rattle.page_model.specs.Record.{stateOf, keepsRules, isHeld, isStale}
-use Rattle.page_model.specs.Step.{isFlush}
+use Rattle.page_model.specs.Record.{stateOf, keepsRules, isHeld, isDirty, isStale}
 use Rattle.page_model.specs.Table as table
 use Rattle.page_model.specs.Table.{ColourState, empty, present, dirty, stale}
-use Rattle.page_model.proofs.Theorems.{operations-below}
-use Rattle.manager.specs.Tables.{recordAt}
-use Rattle.cache.specs.Cache.{leaving}
 use Rattle.cache.specs.Store as hardware-store
 use Rattle.cache.specs.Store.{Store, tagAt, wordAt, memoryWord}
 use Rattle.cache.specs.Tag.{names}
@@ -28,14 +24,12 @@ use Rattle.machine.specs.State.{State}
 use Rattle.consistency.specs.Cacheless.{Cacheless, afterAccepted}
 use Rattle.consistency.proofs.Pages.{pageStates}
 use Rattle.consistency.proofs.Table.{empty-clean}
-use Rattle.consistency.proofs.Lines.{SameLine, carry-memory}
+use Rattle.consistency.proofs.Lines.{SameLine}
 use Rattle.necessity.specs.Action.{Action, write, deviceWrite}
 use Rattle.necessity.proofs.Acted.{change, ordered, done}
-use Rattle.necessity.proofs.CellLaws.{write-own-next, write-other-next, write-other-idle, write-unflushed, whole-next, whole-idle}
-use Rattle.necessity.proofs.Here.{Here, here-states, here-after, write-word-same, sent-word, ordered-kept, done-line}
-use Rattle.necessity.proofs.In.{made, rules}
-use Rattle.necessity.proofs.LoadAll.{present-clean}
-use Rattle.necessity.proofs.Orders.{no-flush}
+use Rattle.necessity.proofs.CellLaws.{clean-state, writes as writes-page, through-unflushed, through-other-idle, write-own-next, write-other-next, whole-next, whole-idle}
+use Rattle.necessity.proofs.Here.{quiet-memory, Here, here-states, here-after, write-word-same, sent-word, ordered-kept, done-line}
+use Rattle.necessity.proofs.In.{made}
 use Rattle.necessity.proofs.PageCells.{pageCell}
 use Rattle.necessity.proofs.PageStates.{page-data, one-dirty, none-present}
 
@@ -49,10 +43,7 @@ off-same b f x p s t m n l e o = record { named = ap (λ (y : ℕ). names y f) (
 
 -- ---- the states on the way
 
-pub stale-clean : stale ≢ dirty
-stale-clean e = let z : _≡_ {A = ℕ} 0 1 = cc in omega arith
-
--- the page of a test in one state and else in another
+-- one of two states that are not dirty
 either-clean : (a z : ColourState) (t : Bool) → a ≢ dirty → z ≢ dirty → cond t a z ≢ dirty
 either-clean a z true h g = h
 either-clean a z false h g = g
@@ -62,7 +53,7 @@ either-loose : (t : Bool) → isHeld (cond t stale empty) ≡ false
 either-loose true = refl
 either-loose false = refl
 
--- the states after all loads, of one that is not dirty; and of one that is neither present nor dirty
+-- what the loads leave is the state itself, if it is not dirty; without them, if it is not present either
 pub rebuilt-clean : (z : ColourState) → z ≢ dirty → cond (isHeld z) present (cond (isStale z) stale empty) ≡ z
 rebuilt-clean empty ne = refl
 rebuilt-clean present ne = refl
@@ -75,21 +66,20 @@ rebuilt-beside present ne np = absurd (np refl)
 rebuilt-beside dirty ne np = absurd (ne refl)
 rebuilt-beside stale ne np = refl
 
-module _ (n : ℕ) (r : FrameRecord) where
-  -- the pages to be stale are present, and then stale, and the others empty
-  abbrev pub staleLoaded : ℕ → ColourState
-  staleLoaded k = cond (isStale (pageStates n r k)) present empty
+-- the pages to be stale are in a state, and the others empty: present once they are loaded, then stale
+abbrev whereStale : ColourState → ℕ → FrameRecord → ℕ → ColourState
+whereStale state n r k = cond (isStale (pageStates n r k)) state empty
 
-  abbrev pub staleOnly : ℕ → ColourState
-  staleOnly k = cond (isStale (pageStates n r k)) stale empty
+abbrev pub staleLoaded : ℕ → FrameRecord → ℕ → ColourState
+staleLoaded = whereStale present
 
-  pub stale-loaded-clean : (k : ℕ) → staleLoaded k ≢ dirty
-  stale-loaded-clean k = either-clean present empty (isStale (pageStates n r k)) present-clean empty-clean
+abbrev pub staleOnly : ℕ → FrameRecord → ℕ → ColourState
+staleOnly = whereStale stale
 
-  pub stale-only-clean : (k : ℕ) → staleOnly k ≢ dirty
-  stale-only-clean k = either-clean stale empty (isStale (pageStates n r k)) stale-clean empty-clean
+pub where-stale-clean : (state : ColourState) → isDirty state ≡ false → (n : ℕ) (r : FrameRecord) (k : ℕ) → whereStale state n r k ≢ dirty
+where-stale-clean state e n r k = either-clean state empty (isStale (pageStates n r k)) (clean-state state e) empty-clean
 
--- a page of one word, which a device writes
+-- a page with the same word at every offset, which a device writes
 abbrev pub page-of : Board → ℕ → List ℕ
 page-of b v = replicate (b .page) v
 
@@ -108,7 +98,7 @@ module _ (b : Board) (reg : Regular b) (f : ℕ) (hf : f < b .frames) (r : Frame
         here-states b f _ (staleOnly (b .colours) r) free _ _ (λ k hk. whole-next (b .colours) k (isStale (pageStates (b .colours) r k)))
         (here-after b reg f hf (staleLoaded (b .colours) r) free st m here sends (page-length b v) refl)
 
-    -- a line, and the cacheless memory's words
+    -- a line is as it was; the cacheless memory's words are the device's
     pub sent-line : (x p : ℕ) → x < cachePages b → p < b .page → SameLine b x p (st .store) (done b st f sends .store)
     sent-line x p hx hp =
         done-line b reg f hf (staleLoaded (b .colours) r) free st m (here .tables-in) (here .inv .kept) sends (page-length b v) refl x p hx hp
@@ -149,18 +139,12 @@ module _ (b : Board) (reg : Regular b) (f : ℕ) (hf : f < b .frames) (r : Frame
       -- the memory is as it was
       pub written-memory : memoryWord b (written .store) f p ≡ memoryWord b (st .store) f p
       written-memory =
-          let ops = change b st f writes .ops in
-          let s = ordered b st f ops in
+          let s = ordered b st f (change b st f writes .ops) in
           let hp-d = data-page b reg d hd in
-          let quiet =
-          no-flush (b .colours) (table.write d) (recordAt (st .tables .records) f) (rules b reg f hf (staleOnly (b .colours) r) free (st .tables) m (here .tables-in) m refl)
-          (λ k hk.
-          ap (λ (z : ColourState). isFlush (pageCell (b .colours) (table.write d) k z .operation)) (here .tables-in .states-are k (data-page b reg k hk))
-          ∙ write-unflushed (b .colours) d hd (staleOnly (b .colours) r k) (either-loose (isStale (pageStates (b .colours) r k))) k) in
-          let below = operations-below (b .colours) (table.write d) (recordAt (st .tables .records) f) in
           ap (λ (l : List ℕ). getD l (memoryAt b f p) 0) (writeWord-memory b reg f d p hf hp-d hp s between v)
           ∙ access-memory-other b reg f d p hf hp-d hp s between f p hp (λ miss e q. true≢false (sym (ap (λ (t : ℕ). names t f) q ∙ names-dirty f) ∙ miss))
-          ∙ ap (λ (l : List ℕ). getD l (memoryAt b f p) 0) (carry-memory b reg leaving f hf (st .store) (here .inv .kept) ops (below .1) (below .2) (quiet .0) (quiet .1))
+          ∙ quiet-memory b reg f hf (staleOnly (b .colours) r) free st m (here .tables-in) (here .inv .kept) writes
+          (λ k hk. through-unflushed (writes-page d hd) (staleOnly (b .colours) r k) k (λ _. where-stale-clean stale refl (b .colours) r k)) p
 
       -- the line holds the word, and so does the cacheless memory
       pub written-named : names (tagAt (written .store) (lineOf b d p)) f ≡ true
@@ -177,4 +161,4 @@ module _ (b : Board) (reg : Regular b) (f : ℕ) (hf : f < b .frames) (r : Frame
       pub written-line : (x q : ℕ) → x < cachePages b → q < b .page → d ≢ x → SameLine b x q (st .store) (written .store)
       written-line x q hx hq ne =
           done-line b reg f hf (staleOnly (b .colours) r) free st m (here .tables-in) (here .inv .kept) writes (hd, hp) refl x q hx hq
-          (write-other-idle (b .colours) d hd (staleOnly (b .colours) r x) (either-loose (isStale (pageStates (b .colours) r x))) x ne) ne
+          (through-other-idle (writes-page d hd) (staleOnly (b .colours) r x) (where-stale-clean stale refl (b .colours) r x) x ne) ne

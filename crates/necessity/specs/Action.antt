@@ -1,4 +1,4 @@
--- A step of the page model on a frame, with all the numbers and words of its call: which step it is, when no cause of refusal lies in its numbers, and the
+-- Request N10: a step of the page model on a frame, with all the numbers and words of its call: which step it is, when no cause of refusal lies in its numbers, and the
 -- call.
 use mathlib.Core.List.{List}
 use mathlib.Core.Path.{_≡_}

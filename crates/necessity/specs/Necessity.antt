@@ -43,7 +43,7 @@ FromStart b P =
     (memory words protections : List ℕ) → length memory ≡ memoryWords b → length words ≡ cacheWords b → length protections ≡ capacity
     → P (startState b memory words protections) (startCacheless b memory)
 
--- of every frame, every record that keeps the rules, every step that its mark does not bar, and each of its orders
+-- of every frame, every record that keeps the rules, every step in its ranges that the record's mark does not bar, and each of its orders
 abbrev pub Necessary : Board → Type 0
 Necessary b =
     FromStart b (λ st m.
@@ -110,10 +110,11 @@ EachCell b =
     × ((z : ColourState) → cellAt (stepOf b a) k z .operation ≡ purge → CellNeeded b st m f a (Purge k) (λ r. stateOf r k ≡ z))
     × ((i : InstructionState) → instructionCellAt (stepOf b a) k i .operation ≡ purge → CellNeeded b st m f a (PurgeInstructions k) (λ r. instructionStateOf r k ≡ i)))
 
--- With every order that the tables give no read finds a wrong word; each of them is needed, on every record, and in each cell that has one.
+-- With every order that the tables give no read finds a wrong word; each of them is needed, on every record, of every call, and in each cell that has one.
 pub record Exact (b : Board) : Type 0 where
   pub enough : Demand3 b
   pub needed : Necessary b
+  pub every-order : EveryOrder b
   pub each-cell : EachCell b
 
 abbrev pub TablesExact : Type 0

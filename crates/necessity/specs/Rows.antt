@@ -61,13 +61,13 @@ abbrev pub mappings : List Single
 mappings = map 0 0 0 readWrite ∷ map 0 1 0 readWrite ∷ map 0 2 0 readFetch ∷ []
 
 -- the state after some calls and the cacheless memory beside it, whether one of the calls was refused, and the word that the last one found
-pub record Run : Type 0 where
+pub record Reached : Type 0 where
   pub state : State
   pub memory : Cacheless
   pub refused : Bool
   pub word : ℕ
 
-abbrev pub started : Run
+abbrev pub started : Reached
 started = record { state = startState small old cached (replicate capacity 0); memory = startCacheless small old; refused = false; word = 0 }
 
 -- the word read, fetched or taken, or the one at that offset of the page's words that a device has read
@@ -75,7 +75,7 @@ abbrev pub wordIn : Answer → ℕ
 wordIn a = Option·getD (a .word) (getD (a .buffer) looked 0)
 
 -- the run with one call more, by its result
-abbrev pub afterCall : Run → Single → Result → Run
+abbrev pub afterCall : Reached → Single → Result → Reached
 afterCall run call made =
     record {
       state = made .after;
@@ -85,7 +85,7 @@ afterCall run call made =
     }
 
 -- the run with some calls more, each carried out whole
-abbrev pub afterCalls : Run → List Single → Run
+abbrev pub afterCalls : Reached → List Single → Reached
 afterCalls run [] = run
 afterCalls run (call ∷ calls) = let made : Result = step small (run .state) call in afterCalls (afterCall run call made) calls
 
@@ -103,9 +103,9 @@ pub record Seen : Type 0 where
 
 abbrev pub seen : Row → Seen
 seen row =
-    let reached : Run = afterCalls started (mappings ++ row .before) in
+    let reached : Reached = afterCalls started (mappings ++ row .before) in
     let made : Result = step small (reached .state) (row .call) in
-    let whole : Run = afterCalls (afterCall reached (row .call) made) (row .later) in
+    let whole : Reached = afterCalls (afterCall reached (row .call) made) (row .later) in
     let lacking : ℕ → Result = λ j. withoutOrder small j (reached .state) (row .call) in
     record {
       refused = whole .refused;

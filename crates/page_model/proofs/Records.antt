@@ -1,6 +1,6 @@
--- A record that keeps the rules is told by its mark and its states; and what its states are beside a dirty one.
+-- A record that keeps the rules is determined by its mark and its states; and what its states are beside a dirty one.
 use mathlib.Core.Path.{_≡_, refl, sym, ap, _∙_}
-use mathlib.Core.Bool.{Bool, true, false, true≢false}
+use mathlib.Core.Bool.{Bool, true, false, true≢false, false≢true}
 use mathlib.Core.Logic.{_≢_}
 use Prim.Native.Nat.{ℕ, zero, suc, _<_}
 use native.Mathlib.Omega.{arith}
@@ -38,17 +38,12 @@ same-record n r s kr ks mark e i =
 
 -- ---- a record with a dirty colour
 
-from-dirty : (s h f : Bool) → stateFrom s h f ≡ dirty → f ≡ true
-from-dirty true h f e = absurd (let z : _≡_ {A = ℕ} 0 1 = cc in omega arith)
-from-dirty false true true e = refl
-from-dirty false true false e = absurd (let z : _≡_ {A = ℕ} 0 1 = cc in omega arith)
-from-dirty false false f e = absurd (let z : _≡_ {A = ℕ} 0 1 = cc in omega arith)
-
-from-present : (s h f : Bool) → stateFrom s h f ≡ present → f ≡ false
-from-present true h f e = absurd (let z : _≡_ {A = ℕ} 0 1 = cc in omega arith)
-from-present false true true e = absurd (let z : _≡_ {A = ℕ} 0 1 = cc in omega arith)
-from-present false true false e = refl
-from-present false false f e = absurd (let z : _≡_ {A = ℕ} 0 1 = cc in omega arith)
+-- the flag of a held colour says whether it is dirty
+held-flag : (s h f : Bool) → isHeld (stateFrom s h f) ≡ true → f ≡ isDirty (stateFrom s h f)
+held-flag true h f e = absurd (false≢true e)
+held-flag false true true e = refl
+held-flag false true false e = refl
+held-flag false false f e = absurd (false≢true e)
 
 module _ (n : ℕ) (r : FrameRecord) (rules : keepsRules n r ≡ true) (d : ℕ) (hd : d < n) (dirties : stateOf r d ≡ dirty) where
   -- no colour beside it is dirty or present, none is held for instructions, and the frame is free
@@ -58,7 +53,8 @@ module _ (n : ℕ) (r : FrameRecord) (rules : keepsRules n r ≡ true) (d : ℕ)
   pub dirty-none-present : (k : ℕ) → stateOf r k ≢ present
   unfolding stateOf
   dirty-none-present k e =
-      true≢false (sym (from-dirty (bit (r .masks .stale) d) (bit (r .masks .held) d) (eqb (r .dirty) 1) dirties) ∙ from-present (bit (r .masks .stale) k) (bit (r .masks .held) k) (eqb (r .dirty) 1) e)
+      let flag : (j : ℕ) → isHeld (stateOf r j) ≡ true → eqb (r .dirty) 1 ≡ isDirty (stateOf r j) = λ j. held-flag (bit (r .masks .stale) j) (bit (r .masks .held) j) (eqb (r .dirty) 1) in
+      true≢false (sym (ap isDirty dirties) ∙ sym (flag d (ap isHeld dirties)) ∙ flag k (ap isHeld e) ∙ ap isDirty e)
 
   pub dirty-none-fetched : (k : ℕ) → k < n → instructionStateOf r k ≢ fetched
   dirty-none-fetched k hk e = true≢false (sym (ap isDirty dirties) ∙ kept-mark n r rules .beside-fetched k d hk hd (ap isFetched e))

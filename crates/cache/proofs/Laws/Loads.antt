@@ -1,4 +1,5 @@
--- What a load finds, by its line and memory's word: a load or a write at another offset through the same page of the caches does not change it.
+-- What a load finds, by its line and memory's word: another load of the frame through the same page of the caches, and a write there at another offset, do
+-- not change it.
 use mathlib.Core.Path.{_≡_, refl, sym, ap, _∙_}
 use mathlib.Core.Bool.{Bool, true, false}
 use mathlib.Core.List.{List}
@@ -28,10 +29,11 @@ module _ (b : Board) (reg : Regular b) (f c p : ℕ) (hf : f < b .frames) (hc : 
     kept : WellFormedStore b (access b f c o s)
     kept = access-kept b reg f c o hf hc ho s wf
 
-    -- after an access to the same line, and to another
+    -- an access to another line leaves memory's word
     memory-left : lineOf b c p ≢ lineOf b c o → memoryWord b (access b f c o s) f p ≡ memoryWord b s f p
     memory-left ne = access-memory-other b reg f c o hf hc ho s wf f p hp (λ miss q d. ne q)
 
+    -- after a load, and after a write
     pub readWord-load : readWord b f c p (access b f c o s) ≡ readWord b f c p s
     readWord-load = go (names (tagAt s (lineOf b c o)) f) refl (ℕ-discrete (lineOf b c p) (lineOf b c o))
       where
