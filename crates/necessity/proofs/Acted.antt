@@ -24,10 +24,11 @@ use Rattle.cache.specs.Store.{Store}
 use Rattle.machine.specs.Parts.{steps, effectOf, outcomeOf, recordsAfter, listAfter, accessed, accessOf}
 use Rattle.machine.specs.Refusals.{causes}
 use Rattle.machine.specs.State.{State, state, pageFrame, Result}
-use Rattle.machine.specs.Step.{answer, result, carryOut, ordersOf, acceptAfter, accept, unlessRefused}
+use Rattle.machine.specs.Step.{answer, result, carryOut, ordersOf, acceptAfter, accept}
 use Rattle.consistency.specs.Cacheless.{Cacheless, afterAccepted}
 use Rattle.necessity.specs.Action.{Action, read, fetch, write, deviceRead, deviceWrite, deviceWritePart, beginRead, beginWrite, stepOf, InRange}
 use Rattle.necessity.specs.Without.{leaveOut, lacking, withoutOrder}
+use Rattle.necessity.proofs.Run.{without-accepted}
 use Rattle.necessity.proofs.In.{In, made, page-frame, accepts}
 
 -- ---- an action's access, in the store after its orders
@@ -154,6 +155,7 @@ module _ (b : Board) (reg : Regular b) (f : ℕ) (hf : f < b .frames) (states : 
       clear = accepts b reg f hf states mark st m now kept a h unbarred
 
       pub without-is : (j : ℕ) → withoutOrder b j st (made b f a) ≡ acted b st f a (ordered b st f (leaveOut j (change b st f a .ops)))
-      unfolding withoutOrder
       without-is j =
-          rw (clear, unlessRefused) (ap (λ o. acceptAfter b st (made b f a) (carryOut b (lacking j o) (st .store))) orders-are ∙ after-is (ordered b st f (leaveOut j (change b st f a .ops))))
+          without-accepted b st (made b f a) clear j
+          ∙ ap (λ o. acceptAfter b st (made b f a) (carryOut b (lacking j o) (st .store))) orders-are
+          ∙ after-is (ordered b st f (leaveOut j (change b st f a .ops)))

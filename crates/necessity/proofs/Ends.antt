@@ -26,17 +26,18 @@ use Rattle.machine.specs.Step.{carryOutBy, accept}
 use Rattle.consistency.specs.Cacheless.{Cacheless, afterAccepted}
 use Rattle.consistency.specs.Demand3.{pageWord}
 use Rattle.necessity.specs.Action.{Action, deviceRead, stepOf, InRange}
-use Rattle.necessity.specs.Without.{FindsWrong}
+use Rattle.necessity.specs.Without.{Sends, FindsWrong}
 use Rattle.necessity.proofs.Acted.{change, ordered, accept-is, clear}
 use Rattle.necessity.proofs.CellLaws.{loads, through-unflushed, load-own-idle, device, flushing-unflushed}
 use Rattle.necessity.proofs.Here.{quiet-memory, ordered-kept, ordered-line}
 use Rattle.necessity.proofs.In.{In, made, in-end, accepts-end}
-use Rattle.necessity.proofs.Loads.{LoadAt, load, load-at, load-steps, load-range, load-bars, load-word, load-wrong}
+use Rattle.necessity.proofs.Loads.{LoadAt, load, load-at, load-steps, load-range, load-bars, load-word, load-wrong, load-sends}
 use Rattle.necessity.proofs.Run.{perform-is, not-refused, after-call}
 
 -- some calls, one of which finds a wrong word
 pub record Later (b : Board) (st : State) (m : Cacheless) : Type 0 where
   pub calls : List Call
+  pub sends : Sends calls
   pub wrong : FindsWrong b st m calls
 
 module _ (b : Board) (reg : Regular b) (f : ℕ) (hf : f < b .frames) (states : ℕ → ColourState) where
@@ -80,6 +81,7 @@ module _ (b : Board) (reg : Regular b) (f : ℕ) (hf : f < b .frames) (states : 
     load-found =
         record {
           calls = single (made b f finds) ∷ [];
+          sends = (load-sends is-load f, tt);
           wrong = inl (
             not-refused b st (made b f finds) load-clear,
             load-wrong is-load f m _ (readWord b f x p (st .store), m .word f p, load-answered, ap (λ (y : Option ℕ). pageWord m y p) (now .framed x hx), wrong),
@@ -128,11 +130,13 @@ module _ (b : Board) (reg : Regular b) (f : ℕ) (hf : f < b .frames) (states : 
           go true e =
               record {
                 calls = single (made b f reads) ∷ [];
+                sends = (tt, tt);
                 wrong = memory-calls st m (subst (λ (x : ℕ). In b f states x (st .tables) m) (eqb-true mark free e) now) kept off;
               }
           go false e =
               record {
                 calls = single (call.endTransfer f) ∷ single (made b f reads) ∷ [];
+                sends = (tt, (tt, tt));
                 wrong =
                     inr
                     (after-call b st (call.endTransfer f) (accepts-end b reg f hf states mark st m now kept e) m (λ t n. FindsWrong b t n (single (made b f reads) ∷ [])) ended);

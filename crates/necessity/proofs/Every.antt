@@ -21,7 +21,7 @@ use Rattle.manager.proofs.CauseLaws.{record-rules}
 use Rattle.machine.specs.Call.{callCauses, perform}
 use Rattle.machine.specs.Parts.{Effect, steps, ends, nothing, effectOf, outcomeOf}
 use Rattle.machine.specs.Refusals.{causes}
-use Rattle.machine.specs.State.{State, Single, map, unmap, read, write, deviceRead, deviceWrite, deviceWritePart, evict, beginRead, beginWrite, bringWord, takeWord, endTransfer, fetch, single}
+use Rattle.machine.specs.State.{State, Single, map, unmap, read, write, deviceRead, deviceWrite, deviceWritePart, evict, beginRead, beginWrite, bringWord, takeWord, endTransfer, fetch, single, mapAll}
 use Rattle.machine.specs.Step.{answer, accept}
 use Rattle.machine.proofs.CallLaws.{perform-cases}
 use Rattle.machine.proofs.StepLaws.{cleared, tables-clear, buffer-length, Tested, effect-tested, part-ready}
@@ -29,7 +29,7 @@ use Rattle.consistency.specs.Cacheless.{startCacheless}
 use Rattle.consistency.specs.Demand3.{startState}
 use Rattle.necessity.specs.Action as claim
 use Rattle.necessity.specs.Action.{Action, stepOf, InRange, callOf}
-use Rattle.necessity.specs.Necessity.{OrderNeeded, EveryOrder}
+use Rattle.necessity.specs.Necessity.{OrderNeeded, EveryOrder, MapsOrderNothing}
 use Rattle.necessity.specs.Without.{ordersIn}
 use Rattle.necessity.proofs.Theorem.{no-order-without-need}
 
@@ -116,6 +116,9 @@ step-of : (b : Board) (records : List ℕ) (x : Effect) (j : ℕ) → j < length
 step-of b records (steps f s) j l = (f, s, refl)
 step-of b records (ends f) j l = absurd (omega arith)
 step-of b records nothing j l = absurd (omega arith)
+
+pub maps-order-nothing : MapsOrderNothing
+maps-order-nothing b st items answers = perform-cases b st (mapAll items answers) (λ r. ordersIn (r .answer) ≡ []) (λ e. refl) (λ n e. refl)
 
 pub every-order : (b : Board) → Regular b → 2 ≤ b .page → EveryOrder b
 unfolding accept perform callCauses

@@ -22,10 +22,11 @@ use Rattle.cache.specs.Store as hardware
 use Rattle.cache.specs.Store.{Store, memoryWord}
 use Rattle.machine.specs.State.{State, Result}
 use Rattle.machine.proofs.StoreLaws.{carryOut-kept}
-use Rattle.consistency.specs.Cacheless.{Cacheless, sent, stored, afterAccepted}
+use Rattle.consistency.specs.Cacheless.{Cacheless, sent, stored, afterAccepted, useOf}
 use Rattle.consistency.proofs.Invariant.{Invariant}
 use Rattle.consistency.proofs.Lines.{SameLine, same-then, carry-line, carry-memory}
 use Rattle.necessity.specs.Action.{Action, write, deviceWrite, deviceWritePart, beginRead, stepOf, InRange}
+use Rattle.necessity.specs.Without.{SendsBy}
 use Rattle.necessity.proofs.Acted.{change, ordered, acted, done, frames-same, accept-is, clear}
 use Rattle.necessity.proofs.In.{In, made, rules, in-step}
 use Rattle.necessity.proofs.Accesses.{Beside, act-line}
@@ -139,9 +140,9 @@ module _ (b : Board) (reg : Regular b) (f : ℕ) (hf : f < b .frames) (states : 
         (act-line b reg f hf (ordered b st f (change b st f a .ops)) ordered-kept x p hp a h beside)
 
   -- the call of it, as a run
-  pub act : (Q : State → Cacheless → Type 0) → Q (done b st f a) (afterAccepted m (made b f a)) → Run b st m Q
-  act Q q =
-      one b st m Q (made b f a) (clear b reg f hf states mark st m now kept a h unbarred)
+  pub act : SendsBy (useOf (made b f a)) → (Q : State → Cacheless → Type 0) → Q (done b st f a) (afterAccepted m (made b f a)) → Run b st m Q
+  act w Q q =
+      one b st m Q (made b f a) w (clear b reg f hf states mark st m now kept a h unbarred)
       (subst⁻¹ (λ (r : Result). Q (r .after) (afterAccepted m (made b f a))) (accept-is b reg f hf states mark st m now kept a h) q)
 
 module _ (b : Board) (reg : Regular b) (f : ℕ) (hf : f < b .frames) (states : ℕ → ColourState) (mark : ℕ) (st : State) (m : Cacheless)

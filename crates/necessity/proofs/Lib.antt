@@ -22,3 +22,4 @@ pub mod Every
 pub mod Rows
 pub mod EachCell
 pub mod OneWord
+pub mod CellRows

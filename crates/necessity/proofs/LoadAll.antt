@@ -18,7 +18,7 @@ use Rattle.necessity.proofs.Acted.{done}
 use Rattle.necessity.proofs.CellLaws.{clean-state, load-own-next, load-other-next}
 use Rattle.necessity.proofs.Here.{Here, here-states, here-after, act}
 use Rattle.necessity.proofs.In.{made}
-use Rattle.necessity.proofs.Loads.{LoadAt, reads-at, fetches-at, load, load-at, load-steps, load-range, load-bars, load-same}
+use Rattle.necessity.proofs.Loads.{LoadAt, reads-at, fetches-at, load, load-at, load-steps, load-range, load-bars, load-same, load-sends}
 use Rattle.necessity.proofs.PageCells.{pageCell}
 use Rattle.necessity.proofs.Run.{Run, stay, then, repeated}
 
@@ -35,7 +35,7 @@ module _ (b : Board) (reg : Regular b) (f : ℕ) (hf : f < b .frames) (states : 
 
   pub load-run : (Q : State → Cacheless → Type 0) → Q (done b st f a) m → Run b st m Q
   load-run Q q =
-      act b reg f hf states mark st m (here .tables-in) (here .inv .kept) a (load-range l ho) (load-bars l mark ∙ unbarred) Q
+      act b reg f hf states mark st m (here .tables-in) (here .inv .kept) a (load-range l ho) (load-bars l mark ∙ unbarred) (load-sends l f) Q
       (subst⁻¹ (Q (done b st f a)) (load-same l f m) q)
 
 -- ---- the states along the run

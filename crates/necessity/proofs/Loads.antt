@@ -1,10 +1,10 @@
 -- A load through a page of the caches: a read through a colour's, and a fetch through an instruction colour's.
 use mathlib.Core.Path.{_≡_, refl, subst}
 use mathlib.Core.Bool.{Bool, true, false, cond}
+use mathlib.Core.Logic.{_≢_}
 use mathlib.Core.Option.{some}
 use Prim.Native.Nat.{ℕ, _-_, _<_}
 use native.Mathlib.Omega.{arith}
-use mathlib.Core.Logic.{_≢_}
 use borrow.Author.Tests.{ltb-true, ltb-false}
 use lib.Dec.{eqb, ltb}
 use Rattle.board.specs.declared.Board.{Board}
@@ -12,11 +12,11 @@ use Rattle.board.specs.Board.{cachePages, instructionPage}
 use Rattle.page_model.specs.Busy.{writing, bars, markAfter}
 use Rattle.cache.specs.Cache as hardware
 use Rattle.cache.specs.Store.{Store}
+use Rattle.machine.specs.State.{Answer}
 use Rattle.consistency.specs.Cacheless.{Cacheless, useOf, afterAccepted}
 use Rattle.consistency.specs.Demand3.{pageWord}
 use Rattle.necessity.specs.Action.{Action, read, fetch, stepOf, InRange}
-use Rattle.necessity.specs.Without.{Differ, WrongBy}
-use Rattle.machine.specs.State.{Answer}
+use Rattle.necessity.specs.Without.{Differ, SendsBy, WrongBy}
 use Rattle.necessity.proofs.Acted.{wordOf, storeOf}
 use Rattle.necessity.proofs.CellLaws.{Loads, reads, fetches}
 use Rattle.necessity.proofs.In.{made}
@@ -75,6 +75,11 @@ module _ {b : Board} {o : ℕ} where
   unfolding afterAccepted
   load-same (reads-at c h) f m = refl
   load-same (fetches-at c h) f m = refl
+
+  -- it sends no word
+  pub load-sends : {x : ℕ} {a : Action} → LoadAt b o x a → (f : ℕ) → SendsBy (useOf (made b f a))
+  load-sends (reads-at c h) f = tt
+  load-sends (fetches-at c h) f = tt
 
   -- what it finds wrong
   pub load-wrong : {x : ℕ} {a : Action} → LoadAt b o x a → (f : ℕ) (m : Cacheless) (answer : Answer) → Differ (answer .word) (pageWord m (m .frame 0 x) o) → WrongBy b m (useOf (made b f a)) answer

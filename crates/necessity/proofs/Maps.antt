@@ -121,7 +121,7 @@ module _ (b : Board) (reg : Regular b) (f : ℕ) (hf : f < b .frames) where
         framed-next k hk (no ne) = ap (λ (t : Bool). cond t (some f) (m .frame 0 k)) (ne-eqb i k ne) ∙ u .framed k (omega arith)
 
     turn : Run b st m (Upto (suc i))
-    turn = one b st m (Upto (suc i)) call map-clear next
+    turn = one b st m (Upto (suc i)) call tt map-clear next
 
   pub map-all : (memory words protections : List ℕ) → length memory ≡ memoryWords b → length words ≡ cacheWords b → length protections ≡ capacity
       → Run b (startState b memory words protections) (startCacheless b memory) (λ st m. Here b f (λ k. empty) free st m)

@@ -1,30 +1,41 @@
 -- What the claim speaks of means what it says: without an order that it does not have a call is itself, and with all orders no read finds a wrong word.
-use mathlib.Core.Path.{_≡_, refl, sym, ap, _∙_}
+use mathlib.Core.Path.{_≡_, refl, sym, ap, subst, _∙_}
+use mathlib.Core.Bool.{Bool, true, false}
 use mathlib.Core.List.{List, [], _∷_, _++_, List·Memᴰ, List·Memᴰ·head}
 use mathlib.Core.Logic.{_⊎_, inl, inr, ⊎-elim}
 use mathlib.Core.Option.{Option, none, Option·some-injective}
-use Prim.Native.Nat.{ℕ, zero, suc, _≤_}
+use Prim.Native.Nat.{ℕ, zero, suc, _≤_, _<_}
 use native.Mathlib.Omega.{arith}
+use borrow.Author.Tests.{ltb-true, ltb-false}
+use lib.Dec.{ltb}
 use lib.ListN.{length, length-append, getD}
 use Rattle.board.specs.declared.Board.{Board}
+use Rattle.board.specs.Board.{Regular, memoryWords, cacheWords}
+use Rattle.page_model.specs.declared.FrameRecord.{FrameRecord}
 use Rattle.page_model.specs.declared.Op.{Op}
 use Rattle.page_model.specs.declared.Op.the-variants.{None, Flush, Purge, PurgeInstructions}
-use Rattle.page_model.specs.Step.{operations, opList, firstTwo}
+use Rattle.page_model.specs.Record.{keepsRules}
+use Rattle.page_model.specs.Step.{operations, opList, firstTwo, stepped}
+use Rattle.page_model.proofs.Theorems.{ops-complete}
 use Rattle.page_model.proofs.Listed.{listed-cases}
-use Rattle.manager.specs.Answers.{Outcome, refused, accepted, operationsOf}
+use Rattle.mapping.specs.Entry.{capacity}
+use Rattle.manager.specs.Answers.{Outcome, refused, accepted, operationsOf, firstOperation, secondOperation}
 use Rattle.manager.specs.Refusals.{firstRefusal}
 use Rattle.manager.specs.Tables.{recordAt}
 use Rattle.manager.proofs.Laws.{getD-tabulate}
+use Rattle.cache.specs.Store.{Store}
 use Rattle.machine.specs.Call.{perform}
 use Rattle.machine.specs.Parts.{Effect, steps, ends, nothing, effectOf, outcomeOf}
 use Rattle.machine.specs.Refusals.{causes}
-use Rattle.machine.specs.State.{State, Call, single, mapAll, Answer, Result, lentBuffer}
-use Rattle.machine.specs.Step.{answer, result, carryOut, ordersOf, acceptAfter, accept, step}
-use Rattle.consistency.specs.Cacheless.{Cacheless, Use, noUse, setsFrame, loads, stores, loadsPage, sendsWords, takesWord, bringsWord, useOf, fed}
-use Rattle.consistency.specs.Demand3.{FindsBy, Finds, AllFind}
+use Rattle.machine.specs.State.{State, Single, Call, single, mapAll, Answer, Result, lentBuffer}
+use Rattle.machine.specs.Step.{answer, result, carryOutBy, operateBy, operate, carryOut, ordersOf, acceptAfter, accept, step}
+use Rattle.consistency.specs.Cacheless.{Cacheless, startCacheless, isRefused, Use, noUse, setsFrame, loads, stores, loadsPage, sendsWords, takesWord, bringsWord, useOf, fed}
+use Rattle.consistency.specs.Demand3.{FindsBy, Finds, AllFind, startState, stateAfter, cachelessAfter}
 use Rattle.consistency.proofs.Theorem.{demand3}
-use Rattle.necessity.specs.Necessity.{WithoutNone, NothingWrong}
-use Rattle.necessity.specs.Without.{leaveOut, lacking, withoutOrder, Differ, WrongBy, Wrong, FindsWrong}
+use Rattle.necessity.specs.Action.{Action, stepOf, callOf}
+use Rattle.necessity.specs.Necessity.{Needed, WithoutNone, NothingWrong, LeavesOutOne, WrongIsWrong, SameStart, OnlyOrders}
+use Rattle.necessity.specs.Without.{ordersIn, leaveOut, lacking, withoutOrder, Differ, WrongBy, Wrong, FindsWrong, WrongWithout}
+use Rattle.necessity.proofs.Run.{accepted-clear, accepted-outcome, without-accepted}
 
 -- ---- no order left out
 
@@ -107,3 +118,84 @@ finds-right b st m (call ∷ calls) h (inr w) = finds-right b (perform b st call
 pub nothing-wrong : NothingWrong
 nothing-wrong b reg memory words protections full wide long calls =
     finds-right b _ _ calls (demand3 b reg memory words protections calls full wide long .finds)
+
+-- ---- one order left out
+
+out-first : (b : Board) (o : Outcome) (s : Store) → carryOut b (lacking 0 o) s ≡ operate b (secondOperation o) s
+unfolding carryOutBy operateBy
+out-first b (refused n) s = refl
+out-first b (accepted f ops) s = refl
+
+out-second : (b : Board) (o : Outcome) (s : Store) → carryOut b (lacking 1 o) s ≡ operate b (firstOperation o) s
+unfolding carryOutBy operateBy
+out-second b (refused n) s = refl
+out-second b (accepted f ops) s = refl
+
+pub leaves-out-one : LeavesOutOne
+leaves-out-one b st call taken =
+    let clear = accepted-clear b st call taken in
+    let o = sym (accepted-outcome b st call taken) in (
+      without-accepted b st call clear 0
+          ∙ ap (acceptAfter b st call) (out-first b (ordersOf b st call) (st .store) ∙ ap (λ (x : Outcome). operate b (secondOperation x) (st .store)) o),
+      without-accepted b st call clear 1
+          ∙ ap (acceptAfter b st call) (out-second b (ordersOf b st call) (st .store) ∙ ap (λ (x : Outcome). operate b (firstOperation x) (st .store)) o),
+    )
+
+pub wrong-is-wrong : WrongIsWrong
+wrong-is-wrong b st m calls w h = finds-right b st m calls h w
+
+pub same-start : SameStart
+same-start b h memory words protections calls full wide long = h memory words protections full wide long calls
+
+-- ---- only where there is an order
+
+-- what is found after some calls is found by them and the rest
+found-after : (b : Board) (st : State) (m : Cacheless) (before calls : List Call)
+    → FindsWrong b (stateAfter (perform b) st before) (cachelessAfter (perform b) st m before) calls → FindsWrong b st m (before ++ calls)
+found-after b st m [] calls w = w
+found-after b st m (call ∷ before) calls w = inr (found-after b (perform b st call .after) (fed m call (perform b st call .answer)) before calls w)
+
+whole-wrong : (b : Board) (st : State) (m : Cacheless) (call : Single) (j : ℕ) (later : List Call) → withoutOrder b j st call ≡ step b st call → WrongWithout b j st m call later
+    → FindsWrong b st m (single call ∷ later)
+unfolding perform
+whole-wrong b st m call j later e w =
+    subst (λ (r : Result). ((isRefused (r .answer) ≡ false) × Wrong b m (single call) (r .answer)) ⊎ FindsWrong b (r .after) (fed m (single call) (r .answer)) later) e w
+
+module _ (b : Board) (reg : Regular b) (memory words protections : List ℕ) (full : length memory ≡ memoryWords b) (wide : length words ≡ cacheWords b)
+    (long : length protections ≡ capacity) (f : ℕ) (r : FrameRecord) (a : Action) (j : ℕ)
+    (n : Needed b (startState b memory words protections) (startCacheless b memory) f r a j) where
+  abbrev from : State
+  from = startState b memory words protections
+
+  abbrev ops : List Op
+  ops = operations (b .colours) (stepOf b a) r
+
+  abbrev at : State
+  at = stateAfter (perform b) from (n .before)
+
+  abbrev the-call : Single
+  the-call = callOf f (n .space) (n .page) a
+
+  -- the call is not the same without that order
+  pub not-the-same : withoutOrder b j at the-call ≡ step b at the-call → ⊥
+  not-the-same same =
+      nothing-wrong b reg memory words protections full wide long (n .before ++ (single the-call ∷ n .later))
+      (found-after b from (startCacheless b memory) (n .before) (single the-call ∷ n .later)
+      (whole-wrong b at (cachelessAfter (perform b) from (startCacheless b memory) (n .before)) the-call j (n .later) same (n .wrong)))
+
+  orders-are : keepsRules (b .colours) r ≡ true → ordersIn (step b at the-call .answer) ≡ ops
+  orders-are rules =
+      ap (λ (o : Outcome). opList (operationsOf o .ops .first) ++ opList (operationsOf o .ops .second))
+      (accepted-outcome b at the-call (n .accepted) ∙ ap (outcomeOf b (at .tables .records)) (n .makes)
+      ∙ ap (λ (x : FrameRecord). accepted f (stepped (b .colours) (stepOf b a) x .ops)) (n .reached))
+      ∙ ops-complete (b .colours) (stepOf b a) r rules
+
+  only : keepsRules (b .colours) r ≡ true → (t : Bool) → ltb j (length ops) ≡ t → j < length ops
+  only rules true e = ltb-true j (length ops) e
+  only rules false e =
+      let out = ltb-false j (length ops) e in
+      absurd (not-the-same (without-none b at the-call j (subst (λ (l : List Op). length l ≤ j) (sym (orders-are rules)) (omega arith))))
+
+pub only-orders : OnlyOrders
+only-orders b reg memory words protections full wide long f r a j rules n =
+    only b reg memory words protections full wide long f r a j n rules (ltb j (length (operations (b .colours) (stepOf b a) r))) refl

@@ -1,7 +1,7 @@
 -- On a page of one word the claim is false: a write through a stale colour leaves the same with its purge and without it, so that no later call can tell.
 use mathlib.Core.Path.{_≡_, refl, sym, ap, subst, subst⁻¹, _∙_}
 use mathlib.Core.Bool.{Bool, true, false}
-use mathlib.Core.List.{List, [], _∷_, _++_}
+use mathlib.Core.List.{List, [], _∷_}
 use mathlib.Core.Logic.{_⊎_, inl, inr, _≢_, ⊎-elim}
 use mathlib.Core.Option.{none}
 use Prim.Native.Nat.{ℕ, _<_}
@@ -25,7 +25,7 @@ use Rattle.cache.specs.Tag.{dirtyTag, isDirtyTag, tagKeepsRules}
 use Rattle.cache.proofs.Laws.Tag.{dirty-frame, rules-at, rules-below, rules-above}
 use Rattle.machine.specs.Call.{perform}
 use Rattle.machine.specs.Parts.{steps, effectOf, outcomeOf}
-use Rattle.machine.specs.State.{State, state, pageFrame, Call, single, write, Result}
+use Rattle.machine.specs.State.{State, state, pageFrame, Call, write}
 use Rattle.machine.specs.Step.{operateBy, carryOutBy, carryOut, answer, result, tablesLeft, ordersOf, acceptAfter, accept, step, unlessRefused}
 use Rattle.machine.proofs.Opened.{opened}
 use Rattle.consistency.specs.Cacheless.{Cacheless, startCacheless, fed}
@@ -36,8 +36,8 @@ use Rattle.consistency.proofs.Start.{start-invariant}
 use Rattle.consistency.proofs.Theorem.{serves}
 use Rattle.necessity.specs.Action as action
 use Rattle.necessity.specs.Necessity.{Needed, Necessary, oneWord, NotOnOneWord}
-use Rattle.necessity.specs.Without.{lacking, withoutOrder, FindsWrong}
-use Rattle.necessity.proofs.Meaning.{nothing-wrong}
+use Rattle.necessity.specs.Without.{lacking, withoutOrder}
+use Rattle.necessity.proofs.Meaning.{not-the-same}
 
 regular : Regular oneWord
 unfolding opened
@@ -140,17 +140,12 @@ module _ (st : State) (m : Cacheless) (inv : Invariant oneWord st m) (reached : 
       ∙ sym same-after
       ∙ sym (ap (λ (o : Outcome). acceptAfter oneWord st (write space page 0 v) (carryOut oneWord o (st .store))) orders))
 
--- ---- so nothing that is found after it is wrong
+-- ---- so it is not needed
 
 module _ (b : Board) where
   run-invariant : Regular b → (st : State) (m : Cacheless) (calls : List Call) → Invariant b st m → Invariant b (stateAfter (perform b) st calls) (cachelessAfter (perform b) st m calls)
   run-invariant reg st m [] inv = inv
   run-invariant reg st m (call ∷ calls) inv = run-invariant reg (perform b st call .after) (fed m call (perform b st call .answer)) calls (serves b reg st m inv call .1)
-
-  found-after : (st : State) (m : Cacheless) (before calls : List Call)
-      → FindsWrong b (stateAfter (perform b) st before) (cachelessAfter (perform b) st m before) calls → FindsWrong b st m (before ++ calls)
-  found-after st m [] calls w = w
-  found-after st m (call ∷ before) calls w = inr (found-after (perform b st call .after) (fed m call (perform b st call .answer)) before calls w)
 
 module _ (claim : Necessary oneWord) where
   abbrev memory : List ℕ
@@ -173,14 +168,9 @@ module _ (claim : Necessary oneWord) where
       let ref = startCacheless oneWord memory in
       let st = stateAfter (perform oneWord) from (needed .before) in
       let m = cachelessAfter (perform oneWord) from ref (needed .before) in
-      let call = write (needed .space) (needed .page) 0 0 in
       let inv = run-invariant oneWord regular from ref (needed .before) (start-invariant oneWord regular memory words protections refl refl refl) in
       let same = without-same st m inv (needed .reached) (needed .space) (needed .page) 0 (needed .makes) in
-      ⊎-elim (λ w. w .1)
-      (λ w.
-      nothing-wrong oneWord regular memory words protections refl refl refl (needed .before ++ single call ∷ needed .later)
-      (found-after oneWord from ref (needed .before) (single call ∷ needed .later) (inr (subst (λ (r : Result). FindsWrong oneWord (r .after) (fed m (single call) (r .answer)) (needed .later)) same w))))
-      (needed .wrong)
+      not-the-same oneWord regular memory words protections refl refl refl 0 staleRecord (action.write 0 0 0) 0 needed same
 
 pub not-on-one-word : NotOnOneWord
 not-on-one-word claim = refuted claim

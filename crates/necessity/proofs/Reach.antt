@@ -4,7 +4,7 @@ use mathlib.Core.Path.{_≡_, refl, sym, ap, subst, _∙_}
 use mathlib.Core.Bool.{Bool, true, false, cond, true≢false}
 use mathlib.Core.List.{List}
 use mathlib.Core.Logic.{_≢_}
-use Prim.Native.Nat.{ℕ, zero, suc, _<_}
+use Prim.Native.Nat.{ℕ, zero, suc, _^_, _<_}
 use native.Mathlib.Omega.{arith}
 use native.Mathlib.Decide.{ℕ-discrete}
 use borrow.Author.Tests.{ltb-true, ltb-false}
@@ -39,7 +39,7 @@ use Rattle.necessity.proofs.Maps.{map-all}
 use Rattle.necessity.proofs.PageCells.{pageCell}
 use Rattle.necessity.proofs.PageStates.{page-data, none-dirty, reading-clean}
 use Rattle.necessity.proofs.Run.{Run, stay, then}
-use Rattle.necessity.proofs.Turns.{Off, off-same, rebuilt-clean, staleLoaded, staleOnly, where-stale-clean, page-of, page-length, sent-here, sent-line, sent-words, written-here, written-memory, written-named, written-word, written-ref, written-line}
+use Rattle.necessity.proofs.Turns.{Off, page-words, off-same, rebuilt-clean, staleLoaded, staleOnly, where-stale-clean, page-of, page-length, sent-here, sent-line, sent-words, written-here, written-memory, written-named, written-word, written-ref, written-line}
 
 -- the dirty line holds the cacheless memory's word, which is not the one to avoid
 pub record Ahead (b : Board) (f d p avoid : ℕ) (s : Store) (m : Cacheless) : Type 0 where
@@ -84,11 +84,11 @@ module _ (b : Board) (reg : Regular b) (f : ℕ) (hf : f < b .frames) (r : Frame
       stale-only =
           then b begin ref (λ st m. Here b f loaded free st m) _ (stale-loaded p hp)
           (λ st m here.
-          act b reg f hf loaded free st m (here .tables-in) (here .inv .kept) (deviceWrite (page-of b 0)) (page-length b 0) refl _ (sent-here b reg f hf r kept-rules st m here 0))
+          act b reg f hf loaded free st m (here .tables-in) (here .inv .kept) (deviceWrite (page-of b 0)) (page-length b 0) refl (page-words (b .page) 0 (omega arith)) _ (sent-here b reg f hf r kept-rules st m here 0))
 
-      write-run : (st : State) (m : Cacheless) (here : Here b f aside free st m) (v : ℕ) (Q : State → Cacheless → Type 0)
+      write-run : (st : State) (m : Cacheless) (here : Here b f aside free st m) (v : ℕ) → v < 2 ^ 32 → (Q : State → Cacheless → Type 0)
           → Q (done b st f (write d p v)) (afterAccepted m (made b f (write d p v))) → Run b st m Q
-      write-run st m here v Q q = act b reg f hf aside free st m (here .tables-in) (here .inv .kept) (write d p v) (hd, hp) refl Q q
+      write-run st m here v w Q q = act b reg f hf aside free st m (here .tables-in) (here .inv .kept) (write d p v) (hd, hp) refl w Q q
 
       -- the line of the dirty colour holds another word than a given one
       pub reach-line : (avoid : ℕ) → Run b begin ref (λ st m. Here b f wanted free st m × Ahead b f d p avoid (st .store) m)
@@ -97,7 +97,7 @@ module _ (b : Board) (reg : Regular b) (f : ℕ) (hf : f < b .frames) (r : Frame
           (λ st m here.
           let v = differs.other avoid in
           let holds = written-ref b reg f hf r kept-rules d hd dirties st m here p hp v in
-          write-run st m here v _ (
+          write-run st m here v (let w = differs.other-lt avoid in omega arith) _ (
             written-here b reg f hf r kept-rules d hd dirties st m here p hp v,
             record {
               named = written-named b reg f hf r kept-rules d hd dirties st m here p hp v;
@@ -113,7 +113,7 @@ module _ (b : Board) (reg : Regular b) (f : ℕ) (hf : f < b .frames) (r : Frame
           (λ st m here.
           let old = memoryWord b (st .store) f p in
           let v = differs.other old in
-          write-run st m here v _ (
+          write-run st m here v (let w = differs.other-lt old in omega arith) _ (
             written-here b reg f hf r kept-rules d hd dirties st m here p hp v,
             λ e. differs.other-differs old (sym (sym (written-memory b reg f hf r kept-rules d hd dirties st m here p hp v) ∙ e ∙ written-ref b reg f hf r kept-rules d hd dirties st m here p hp v)),
           ))
@@ -148,7 +148,7 @@ module _ (b : Board) (reg : Regular b) (f : ℕ) (hf : f < b .frames) (r : Frame
           let old = wordAt b (st .store) x p in
           let v = differs.other old in
           let line = sent-line b reg f hf r kept-rules st m (here .0) v x p hx hp in
-          act b reg f hf loaded free st m (here .0 .tables-in) (here .0 .inv .kept) (deviceWrite (page-of b v)) (page-length b v) refl _ (
+          act b reg f hf loaded free st m (here .0 .tables-in) (here .0 .inv .kept) (deviceWrite (page-of b v)) (page-length b v) refl (page-words (b .page) v (let w = differs.other-lt old in omega arith)) _ (
             sent-here b reg f hf r kept-rules st m (here .0) v,
             record {
               named = ap (λ (t : ℕ). names t f) (line .tag) ∙ here .1;
@@ -178,7 +178,7 @@ module _ (b : Board) (reg : Regular b) (f : ℕ) (hf : f < b .frames) (r : Frame
       write-dirty : (d : ℕ) → d < b .colours → stateOf r d ≡ dirty → (st : State) (m : Cacheless) → Here b f aside free st m → Off b f x p (st .store) m → Run b st m (Aged free)
       write-dirty d hd dirties st m here off =
           let away : d ≢ x = λ q. clean-state stale refl (sym stales ∙ ap wanted (sym q) ∙ page-data (b .colours) r d hd ∙ dirties) in
-          write-run d hd dirties o ho st m here 0 (Aged free) (
+          write-run d hd dirties o ho st m here 0 (omega arith) (Aged free) (
             written-here b reg f hf r kept-rules d hd dirties st m here o ho 0,
             off-same b f x p (st .store) _ m (afterAccepted m (made b f (write d o 0))) (written-line b reg f hf r kept-rules d hd dirties st m here o ho 0 x p hx hp away)
                 (write-word-other m b f d o 0 (here .tables-in .framed d (data-page b reg d hd)) p apart) off,
@@ -205,7 +205,7 @@ module _ (b : Board) (reg : Regular b) (f : ℕ) (hf : f < b .frames) (r : Frame
               let clean = reading-clean (b .colours) r kept-rules e in
               then b begin ref (Aged free) (Aged reading) unmarked
               (λ st m u.
-              act b reg f hf wanted free st m (u .0 .tables-in) (u .0 .inv .kept) beginRead tt refl (Aged reading) (
+              act b reg f hf wanted free st m (u .0 .tables-in) (u .0 .inv .kept) beginRead tt refl tt (Aged reading) (
                 here-states b f _ wanted reading _ _ (λ k hk. begin-next (b .colours) k (wanted k) (clean k)) (here-after b reg f hf wanted free st m (u .0) beginRead tt refl),
                 off-same b f x p (st .store) _ m (afterAccepted m (made b f beginRead))
                     (done-line b reg f hf wanted free st m (u .0 .tables-in) (u .0 .inv .kept) beginRead tt refl x p hx hp (begin-idle (b .colours) x (wanted x) (clean x)) tt)

@@ -24,4 +24,6 @@ order-rows =
       both-for-write = (refl, refl);
       both-for-fetch = (refl, refl);
       other-carried-out = refl;
+      line-stays = refl;
+      dirty-line-stays = (refl, refl);
     }

@@ -94,6 +94,7 @@ module _ (b : Board) (reg : Regular b) (two : 2 ≤ b .page) (memory words prote
           space = 0;
           page = pageOf b a;
           later = later .calls;
+          words = (run .sends, later .sends);
           reached = same;
           makes = effect-is b reg f hf states mark st m now kept a h;
           accepted = ap (λ (x : Result). isRefused (x .answer)) (step-is b st (made b f a) (clear b reg f hf states mark st m now kept a h open-mark)) ∙ accept-accepted b st (single (made b f a));
@@ -242,7 +243,7 @@ module _ (b : Board) (reg : Regular b) (two : 2 ≤ b .page) (memory words prote
 
 pub no-order-without-need : NoOrderWithoutNeed
 no-order-without-need b reg two memory words protections full wide long f r a j hf rules h unbarred l =
-    each b reg two memory words protections full wide long f r hf rules a h unbarred j l
+    each b reg (omega arith) memory words protections full wide long f r hf rules a h unbarred j l
 
 pub board-01 : Board01
 board-01 = no-order-without-need board01 board01-regular (omega arith)

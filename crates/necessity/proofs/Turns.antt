@@ -3,7 +3,7 @@ use mathlib.Core.Path.{_≡_, refl, sym, ap, _∙_}
 use mathlib.Core.Bool.{Bool, true, false, cond, true≢false}
 use mathlib.Core.List.{List}
 use mathlib.Core.Logic.{_≢_}
-use Prim.Native.Nat.{ℕ, _<_}
+use Prim.Native.Nat.{ℕ, zero, suc, _^_, _<_}
 use native.Mathlib.Omega.{arith}
 use native.Mathlib.Decide.{ℕ-discrete}
 use lib.ListN.{length, getD, replicate, length-replicate, getD-replicate}
@@ -26,6 +26,7 @@ use Rattle.consistency.proofs.Pages.{pageStates}
 use Rattle.consistency.proofs.Table.{empty-clean}
 use Rattle.consistency.proofs.Lines.{SameLine}
 use Rattle.necessity.specs.Action.{Action, write, deviceWrite}
+use Rattle.necessity.specs.Without.{Words}
 use Rattle.necessity.proofs.Acted.{change, ordered, done}
 use Rattle.necessity.proofs.CellLaws.{clean-state, writes as writes-page, through-unflushed, through-other-idle, write-own-next, write-other-next, whole-next, whole-idle}
 use Rattle.necessity.proofs.Here.{quiet-memory, Here, here-states, here-after, write-word-same, sent-word, ordered-kept, done-line}
@@ -85,6 +86,10 @@ page-of b v = replicate (b .page) v
 
 pub page-length : (b : Board) (v : ℕ) → length (page-of b v) ≡ b .page
 page-length b v = length-replicate (b .page) v
+
+pub page-words : (n v : ℕ) → v < 2 ^ 32 → Words (replicate n v)
+page-words zero v h = tt
+page-words (suc n) v h = (h, page-words n v h)
 
 module _ (b : Board) (reg : Regular b) (f : ℕ) (hf : f < b .frames) (r : FrameRecord) (kept-rules : keepsRules (b .colours) r ≡ true) where
   -- ---- the device's write

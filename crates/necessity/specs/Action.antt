@@ -1,7 +1,7 @@
--- Request N10: a step of the page model on a frame, with all the numbers and words of its call: which step it is, when no cause of refusal lies in its numbers, and the
--- call.
-use mathlib.Core.List.{List}
+-- Request N10: a step of the page model on a frame, with all the numbers and words of its call: its step (`stepOf`), its ranges (`InRange`), its call
+-- (`callOf`).
 use mathlib.Core.Path.{_≡_}
+use mathlib.Core.List.{List}
 use Prim.Native.Nat.{ℕ, _+_, _≤_, _<_}
 use lib.ListN.{length}
 use Rattle.board.specs.declared.Board.{Board}
@@ -29,7 +29,7 @@ stepOf b (deviceWritePart first number buffer) = writeStep b number
 stepOf b beginRead = table.beginRead
 stepOf b beginWrite = table.beginWrite
 
--- no cause of refusal lies in its numbers
+-- no cause of refusal lies in its numbers: neither 1, of its buffer, nor 6, nor 13; the colour is that of the page it goes through
 abbrev pub InRange : Board → Action → Type 0
 InRange b (read c o) = (c < b .colours) × (o < b .page)
 InRange b (fetch c o) = (c < b .colours) × (o < b .page)

@@ -1,7 +1,7 @@
 -- Request N10: each single order of an accepted step is needed.
-use mathlib.Core.Bool.{true, false}
-use mathlib.Core.List.{List}
 use mathlib.Core.Path.{_≡_}
+use mathlib.Core.Bool.{true, false}
+use mathlib.Core.List.{List, []}
 use Prim.Native.Nat.{ℕ, _≤_, _<_}
 use lib.ListN.{length, getD}
 use Rattle.board.specs.declared.Board.{Board}
@@ -14,24 +14,27 @@ use Rattle.page_model.specs.Instructions.{InstructionState, instructionCellAt}
 use Rattle.page_model.specs.Record.{stateOf, instructionStateOf, keepsRules}
 use Rattle.page_model.specs.Step.{operations}
 use Rattle.page_model.specs.Table.{ColourState, flush, purge, cellAt}
+use Rattle.mapping.specs.declared.Mapping.{Mapping}
 use Rattle.mapping.specs.Entry.{capacity}
+use Rattle.manager.specs.Answers.{firstOperation, secondOperation}
 use Rattle.manager.specs.Tables.{recordAt}
 use Rattle.machine.specs.Call.{perform}
 use Rattle.machine.specs.Parts.{steps, effectOf}
-use Rattle.machine.specs.State.{State, Single, Call}
-use Rattle.machine.specs.Step.{step}
+use Rattle.machine.specs.State.{State, Single, Call, mapAll}
+use Rattle.machine.specs.Step.{step, operate, acceptAfter}
 use Rattle.consistency.specs.Cacheless.{Cacheless, startCacheless, isRefused}
-use Rattle.consistency.specs.Demand3.{startState, stateAfter, cachelessAfter, Demand3}
+use Rattle.consistency.specs.Demand3.{startState, stateAfter, cachelessAfter, AllFind, Holds, Demand3}
 use Rattle.necessity.specs.Action.{Action, stepOf, InRange, callOf}
-use Rattle.necessity.specs.Without.{ordersIn, withoutOrder, FindsWrong, WrongWithout}
+use Rattle.necessity.specs.Without.{ordersIn, withoutOrder, Sends, FindsWrong, WrongWithout}
 
--- Calls from st, beside whose words the cacheless memory is m, reach record r of frame f; there the call of the step is accepted, and is that step
--- of f; and without its order at place j it, or one of some later calls, finds a wrong word.
+-- From st, with the cacheless memory m beside it, some calls reach a state in which frame f's record is r; there the call of the step is accepted, and is
+-- that step of f; and without its order at place j it, or one of some later calls, finds a wrong word. What the calls send are words.
 pub record Needed (b : Board) (st : State) (m : Cacheless) (f : ℕ) (r : FrameRecord) (a : Action) (j : ℕ) : Type 0 where
   pub before : List Call
   pub space : ℕ
   pub page : ℕ
   pub later : List Call
+  pub words : Sends before × Sends later
   pub reached : recordAt (stateAfter (perform b) st before .tables .records) f ≡ r
   pub makes : effectOf b (stateAfter (perform b) st before) (callOf f space page a) ≡ steps f (stepOf b a)
   pub accepted : isRefused (step b (stateAfter (perform b) st before) (callOf f space page a) .answer) ≡ false
@@ -58,7 +61,7 @@ NoOrderWithoutNeed = (b : Board) → Regular b → 2 ≤ b .page → Necessary b
 abbrev pub Board01 : Type 0
 Board01 = Necessary board01
 
--- ---- the same of calls: no order of any accepted call, whatever it is lent, is left out of the claim
+-- ---- the same of calls: the claim misses no order of any accepted call, in whatever state
 
 -- the call is a step of a frame with all its numbers, and its order at place j is needed on the record that the frame has
 pub record OrderNeeded (b : Board) (start : State) (m : Cacheless) (st : State) (call : Single) (j : ℕ) : Type 0 where
@@ -73,6 +76,10 @@ pub record OrderNeeded (b : Board) (start : State) (m : Cacheless) (st : State) 
 abbrev pub EveryOrder : Board → Type 0
 EveryOrder b = FromStart b (λ start m. (st : State) (call : Single) (j : ℕ) → j < length (ordersIn (step b st call .answer)) → OrderNeeded b start m st call j)
 
+-- a list of mappings orders nothing
+abbrev pub MapsOrderNothing : Type 0
+MapsOrderNothing = (b : Board) (st : State) (items : List Mapping) (answers : List ℕ) → ordersIn (perform b st (mapAll items answers) .answer) ≡ []
+
 -- ---- it says something
 
 -- leaving out an order that there is not leaves the call as it is
@@ -82,6 +89,28 @@ WithoutNone = (b : Board) (st : State) (call : Single) (j : ℕ) → length (ord
 -- and with all orders carried out no list of calls finds a wrong word (demand 3)
 abbrev pub NothingWrong : Type 0
 NothingWrong = (b : Board) → Regular b → FromStart b (λ st m. (calls : List Call) → FindsWrong b st m calls → ⊥)
+
+-- what is left out is this order and nothing else: the access is made in the store that the other order leaves
+abbrev pub LeavesOutOne : Type 0
+LeavesOutOne =
+    (b : Board) (st : State) (call : Single) → isRefused (step b st call .answer) ≡ false
+    → (withoutOrder b 0 st call ≡ acceptAfter b st call (operate b (secondOperation (step b st call .answer .outcome)) (st .store)))
+    × (withoutOrder b 1 st call ≡ acceptAfter b st call (operate b (firstOperation (step b st call .answer .outcome)) (st .store)))
+
+-- what finds a wrong word is against demand 3, in whatever state it begins
+abbrev pub WrongIsWrong : Type 0
+WrongIsWrong = (b : Board) (st : State) (m : Cacheless) (calls : List Call) → FindsWrong b st m calls → AllFind b (perform b) st m calls → ⊥
+
+-- the start is demand 3's
+abbrev pub SameStart : Type 0
+SameStart = (b : Board) → FromStart b (λ st m. (calls : List Call) → Holds b (perform b) st m calls) → Demand3 b
+
+-- and only where there is an order can it be needed
+abbrev pub OnlyOrders : Type 0
+OnlyOrders =
+    (b : Board) → Regular b
+    → FromStart b (λ st m.
+    (f : ℕ) (r : FrameRecord) (a : Action) (j : ℕ) → keepsRules (b .colours) r ≡ true → Needed b st m f r a j → j < length (operations (b .colours) (stepOf b a) r))
 
 -- and two words in a page are no more than it takes: with one a write through a stale colour overwrites all that is old, and its purge is not needed
 abbrev pub oneWord : Board
@@ -101,7 +130,7 @@ pub record CellNeeded (b : Board) (st : State) (m : Cacheless) (f : ℕ) (a : Ac
   pub ordered : getD (operations (b .colours) (stepOf b a) on) place None ≡ op
   pub needed : Needed b st m f on a place
 
--- each cell that has an order, for data and for instructions: a record has its colour in its state, and the order is needed
+-- for each cell with an order, for data and for instructions, some record has the cell's colour in the cell's state, and the step's order there is needed
 abbrev pub EachCell : Board → Type 0
 EachCell b =
     FromStart b (λ st m.

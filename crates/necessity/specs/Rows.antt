@@ -1,8 +1,8 @@
 -- Request N10 computed on a small board: for each kind of order a run of calls that finds another word if that order is left out.
+use mathlib.Core.Path.{_≡_}
 use mathlib.Core.Bool.{Bool, false, _||_}
 use mathlib.Core.List.{List, [], _∷_, _++_}
 use mathlib.Core.Option.{Option·getD}
-use mathlib.Core.Path.{_≡_}
 use Prim.Native.Nat.{ℕ}
 use lib.Dec.{eqb}
 use lib.ListN.{length, replicate, getD}
@@ -14,7 +14,7 @@ use Rattle.page_model.specs.Step.{firstTwo}
 use Rattle.mapping.specs.Entry.{capacity, readWrite, readFetch}
 use Rattle.manager.specs.Answers.{Outcome, accepted}
 use Rattle.manager.specs.Tables.{tabulate}
-use Rattle.machine.specs.State.{State, Single, map, read, write, deviceRead, deviceWrite, deviceWritePart, beginRead, beginWrite, bringWord, takeWord, endTransfer, fetch, single, Answer, Result}
+use Rattle.machine.specs.State.{State, Single, map, read, write, deviceRead, deviceWrite, deviceWritePart, evict, beginRead, beginWrite, bringWord, takeWord, endTransfer, fetch, single, Answer, Result}
 use Rattle.machine.specs.Step.{step}
 use Rattle.consistency.specs.Cacheless.{Cacheless, startCacheless, isRefused, fed}
 use Rattle.consistency.specs.Demand3.{startState}
@@ -178,3 +178,9 @@ pub record OrderRows : Type 0 where
   -- the order that is not left out is carried out: without the purge the device's read finds the word in memory, where the flush has put it
   pub other-carried-out :
       Shows (record { before = read 0 1 2 ∷ deviceWrite 0 sent ∷ write 0 0 2 22 ∷ []; call = read 0 1 2; orders = Flush 0 ∷ Purge 1 ∷ []; later = deviceRead 0 lent ∷ []; finds = 22; without = 32 ∷ 22 ∷ [] })
+  -- nothing is done in its place: without the flush the dirty line stays in, and a read through its colour still finds the word there
+  pub line-stays :
+      Shows (record { before = write 0 0 2 22 ∷ []; call = deviceRead 0 lent; orders = Flush 0 ∷ []; later = read 0 0 2 ∷ []; finds = 22; without = 22 ∷ [] })
+  -- without the purge the line stays dirty: once it is evicted, it is over the device's word in memory
+  pub dirty-line-stays :
+      ShowsWrong (record { before = write 0 0 2 22 ∷ []; call = deviceWrite 0 sent; orders = Purge 0 ∷ []; later = evict 1 ∷ deviceRead 0 lent ∷ []; finds = 32; without = 22 ∷ [] })

@@ -1,10 +1,10 @@
 -- Request N10: a call of the machine with one of its orders left out, and the reads that then find a wrong word.
+use mathlib.Core.Path.{_≡_}
 use mathlib.Core.Bool.{false}
 use mathlib.Core.List.{List, [], _∷_, _++_}
 use mathlib.Core.Logic.{_⊎_, _≢_}
 use mathlib.Core.Option.{Option, some}
-use mathlib.Core.Path.{_≡_}
-use Prim.Native.Nat.{ℕ, zero, suc, _<_}
+use Prim.Native.Nat.{ℕ, zero, suc, _^_, _<_}
 use lib.ListN.{getD}
 use Rattle.board.specs.declared.Board.{Board}
 use Rattle.page_model.specs.declared.Op.{Op}
@@ -34,10 +34,32 @@ abbrev pub lacking : ℕ → Outcome → Outcome
 lacking j (refused n) = refused n
 lacking j (accepted f ops) = accepted f (leaveOut j ops)
 
--- The call whose order at place j no cache is told. All else is `step`'s: the refusals, the answer's orders and the tables; the access is made in the
+-- The call with its order at place j answered and not carried out. All else is `step`'s: the refusals, the answer's orders and the tables; the access is made in the
 -- store that the other order leaves.
 unfoldable pub withoutOrder : Board → ℕ → State → Single → Result
 withoutOrder b j st call = unlessRefused b st call (acceptAfter b st call (carryOut b (lacking j (ordersOf b st call)) (st .store)))
+
+-- ---- words of 32 bits, as document 01 has them
+
+abbrev pub Words : List ℕ → Type 0
+Words [] = Unit {0}
+Words (w ∷ words) = (w < 2 ^ 32) × Words words
+
+-- the words that a call writes, sends or brings
+abbrev pub SendsBy : Use → Type 0
+SendsBy noUse = Unit {0}
+SendsBy (setsFrame space page frame) = Unit {0}
+SendsBy (loads space page offset) = Unit {0}
+SendsBy (stores space page offset word) = word < 2 ^ 32
+SendsBy (loadsPage frame) = Unit {0}
+SendsBy (sendsWords frame first buffer) = Words buffer
+SendsBy (takesWord frame offset) = Unit {0}
+SendsBy (bringsWord frame offset word) = word < 2 ^ 32
+
+abbrev pub Sends : List Call → Type 0
+Sends [] = Unit {0}
+Sends (single call ∷ calls) = SendsBy (useOf call) × Sends calls
+Sends (mapAll items answers ∷ calls) = Sends calls
 
 -- ---- a wrong word
 
