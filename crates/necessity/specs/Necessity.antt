@@ -28,7 +28,7 @@ use Rattle.necessity.specs.Action.{Action, stepOf, InRange, callOf}
 use Rattle.necessity.specs.Without.{ordersIn, withoutOrder, Sends, FindsWrong, WrongWithout}
 
 -- From st, with the cacheless memory m beside it, some calls reach a state in which frame f's record is r; there the call of the step is accepted, and is
--- that step of f; and without its order at place j it, or one of some later calls, finds a wrong word. What the calls send are words.
+-- that step of f; and without its order at place j it, or one of some later calls, finds a wrong word. What the calls send are words of 32 bits.
 pub record Needed (b : Board) (st : State) (m : Cacheless) (f : ℕ) (r : FrameRecord) (a : Action) (j : ℕ) : Type 0 where
   pub before : List Call
   pub space : ℕ

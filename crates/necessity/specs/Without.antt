@@ -34,8 +34,8 @@ abbrev pub lacking : ℕ → Outcome → Outcome
 lacking j (refused n) = refused n
 lacking j (accepted f ops) = accepted f (leaveOut j ops)
 
--- The call with its order at place j answered and not carried out. All else is `step`'s: the refusals, the answer's orders and the tables; the access is made in the
--- store that the other order leaves.
+-- The call with its order at place j answered and not carried out. All else is `step`'s: the refusals, the answer's orders and the tables; the access is
+-- made in the store that the other order leaves.
 unfoldable pub withoutOrder : Board → ℕ → State → Single → Result
 withoutOrder b j st call = unlessRefused b st call (acceptAfter b st call (carryOut b (lacking j (ordersOf b st call)) (st .store)))
 
