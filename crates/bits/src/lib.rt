@@ -1,4 +1,6 @@
 // Masks of 32 bits: whether a bit is set, a mask with a bit set, whether all stand below a place, the mask of all below a place.
+#![tactic(auto)]
+
 ghost use Rattle.std.specs.Prelude.{◌≡◌, true, ◌≤◌, ◌<◌, ◌^◌, ltb};
 ghost use Rattle.bits.specs.Mask.{width, bit, with_bit, mask_of};
 

@@ -1,5 +1,7 @@
 // The board's memory and cache: tags, one line's write-back, eviction and fill, the two operations, a processor's access, a device's transfer.
 // Memory, words and tags are lent slices of the board's lengths.
+#![tactic(auto)]
+
 pub mod access;
 pub mod copy;
 pub mod device;

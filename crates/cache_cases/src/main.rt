@@ -1,5 +1,7 @@
 // Runs the cache on cases worked out by hand, and writes what each leaves: a word, a line's tag, a word of memory.
 // Memory starts as 64 f + o at offset o of frame f, and the cache as empty lines of zeros.
+#![tactic(auto)]
+
 mod show;
 
 use libc::STDOUT_FILENO;

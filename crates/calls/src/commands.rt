@@ -70,7 +70,7 @@ pub const EVICT: usize = 30;
 
 pub const LOOK: usize = 31;
 
-#[derive(Drop)]
+#[derive(Clone, Copy)]
 pub struct Command {
     pub name: usize,
     pub numbers: Numbers,
@@ -149,7 +149,7 @@ pub fn up_to(text: &[u8], at: usize, stop: u8) -> usize
 
 // A row of a table is read byte by byte: how many rows went by, whether it is in its kinds, how many bytes of its word went by, whether these are the
 // line's, and, once the line's word was found, where its kinds start.
-#[derive(Drop)]
+#[derive(Clone, Copy)]
 struct Row {
     row: usize,
     in_kinds: bool,

@@ -19,7 +19,7 @@ pub const BUFFER: usize = 65;
 
 pub const ANSWERS: usize = 65;
 
-#[derive(Drop)]
+#[derive(Clone, Copy)]
 pub struct Lent {
     pub r: [u32; RECORDS],
     pub p: [u8; PROTECTIONS],

@@ -1,5 +1,7 @@
 // Runs scripts of calls of the manager, of the machine and of the position hold. Each line of a script is a setting or a call, and each call has a line of
 // text with its answer and with all that it changed in what was lent. README.md says what a script is.
+#![tactic(auto)]
+
 mod commands;
 mod lent;
 mod numbers;

@@ -11,7 +11,7 @@ const BEFORE_MOST: u64 = 1844674407370955160;
 pub const ARGS: usize = 12;
 
 // Numbers of a line, 0 past the last, and what is wrong with the line, or 0.
-#[derive(Drop)]
+#[derive(Clone, Copy)]
 pub struct Numbers {
     pub count: usize,
     pub args: [u64; ARGS],
@@ -27,7 +27,7 @@ pub fn none() -> Numbers {
 }
 
 // What is read of a number so far: whether it has begun, how, and its value; the numbers before it; and the numbers that `$` means.
-#[derive(Drop)]
+#[derive(Clone, Copy)]
 struct Scan {
     open: bool,
     how: u8,

@@ -6,7 +6,7 @@ use crate::numbers::{ARGS, Numbers};
 use crate::{commands, lent, numbers, slips};
 use mapping::{Batch, CAPACITY, Mapping, MappingList};
 
-#[derive(Drop)]
+#[derive(Clone, Copy)]
 pub struct State {
     pub lent: Lent,
     pub lengths: [u64; ARGS],

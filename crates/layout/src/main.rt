@@ -1,6 +1,8 @@
 // Lays out a program of 64 mappings, in one call or by one call each, for tests/measure to count what each costs. Two bytes on standard input say how
 // many mappings are listed before, and how the 64 are mapped: 0 not at all, 1 singly, 2 at once. Writes how many are listed then, and the sum of
 // the protections.
+#![tactic(auto)]
+
 ghost use Rattle.std.specs.Prelude.{◌≤◌};
 
 use libc::{STDIN_FILENO, STDOUT_FILENO};

@@ -1,5 +1,7 @@
 // Runs what is lent records where they lie, as a kernel has them, on cases worked out by hand from documents 01 and 02: lookups, a batch, and a list
 // of mappings in one call.
+#![tactic(auto)]
+
 mod lent;
 
 ghost use Rattle.std.specs.Prelude.{◌≤◌};

@@ -1,4 +1,6 @@
 // The machine: memory and cache as the hardware has them. Each call asks the manager, carries out its operations, then makes the access. Here are the calls that change the list.
+#![tactic(auto)]
+
 mod accesses;
 mod operations;
 mod plans;
@@ -25,7 +27,7 @@ pub use transfers::{
 };
 
 // The answer of a read: the refusal's number, or the operations and the word.
-#[derive(Drop)]
+#[derive(Clone, Copy)]
 pub enum Loaded {
     Refused(u8),
     Word(FrameOps, u32),

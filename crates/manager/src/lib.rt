@@ -1,4 +1,6 @@
 // The manager: keeps the page states of all frames and says which operations are due (document 01: orders). This file has the types of its answers and plans, and the names by which a kernel calls it.
+#![tactic(auto)]
+
 pub mod batch;
 mod calls;
 pub mod commits;
@@ -19,21 +21,21 @@ use mapping::MappingList;
 use page_model::{FrameRecord, Op, Ops};
 
 // The operations of a call, on one frame.
-#[derive(Drop)]
+#[derive(Clone, Copy)]
 pub struct FrameOps {
     pub frame: u8,
     pub ops: Ops,
 }
 
 // The answer of a call: the refusal's number, or the operations.
-#[derive(Drop)]
+#[derive(Clone, Copy)]
 pub enum Answer {
     Refused(u8),
     Accepted(FrameOps),
 }
 
 // The accesses of the processor.
-#[derive(Drop)]
+#[derive(Clone, Copy)]
 pub enum AccessKind {
     Read,
     Write,
@@ -41,7 +43,7 @@ pub enum AccessKind {
 }
 
 // What a step makes of one frame's record.
-#[derive(Drop)]
+#[derive(Clone, Copy)]
 pub struct Change {
     pub frame: u8,
     pub next: FrameRecord,
@@ -49,21 +51,21 @@ pub struct Change {
 }
 
 // What a step would do: nothing but a refusal, or a change.
-#[derive(Drop)]
+#[derive(Clone, Copy)]
 pub enum Plan {
     Refused(u8),
     Step(Change),
 }
 
 // Where a mapping goes, or which one goes.
-#[derive(Drop)]
+#[derive(Clone, Copy)]
 pub enum ListPlan {
     Refused(u8),
     Place(usize),
 }
 
 // The answer of a call that changes the list, and the list after it.
-#[derive(Drop)]
+#[derive(Clone, Copy)]
 pub struct Listed {
     pub answer: Answer,
     pub list: MappingList,

@@ -1,4 +1,6 @@
 // The mapping list: which frame stands behind a page of a space, and with which rights.
+#![tactic(auto)]
+
 pub mod lent;
 
 ghost use Rattle.std.specs.Prelude.{◌≡◌, true, ◌^◌, ◌≤◌, ◌<◌, eqb};
@@ -36,7 +38,7 @@ pub fn is_rights(rights: u8) -> bool
     (READ_ONLY <= rights) & (rights <= READ_FETCH)
 }
 
-#[derive(Drop)]
+#[derive(Clone, Copy)]
 pub struct Mapping {
     pub space: u8,
     pub page: u16,
@@ -45,21 +47,21 @@ pub struct Mapping {
 }
 
 // The first count records are listed, in rising order of space, then page; the others are zero.
-#[derive(Drop)]
+#[derive(Clone, Copy)]
 pub struct MappingList {
     pub items: [Mapping; CAPACITY],
     pub count: usize,
 }
 
 // The items of a call over many mappings: the first count records, in order. A count past BATCH is that of a list too long for it.
-#[derive(Drop)]
+#[derive(Clone, Copy)]
 pub struct Batch {
     pub items: [Mapping; BATCH],
     pub count: usize,
 }
 
 // What one look at the list tells of a page of a space.
-#[derive(Drop)]
+#[derive(Clone, Copy)]
 pub struct Seen {
     // Whether the list keeps its rules; where it does not, nothing else is told. True where that is not tested.
     pub kept: bool,
@@ -72,7 +74,7 @@ pub struct Seen {
 }
 
 // The place of a mapping in the list.
-#[derive(Drop)]
+#[derive(Clone, Copy)]
 pub enum Found {
     At(usize),
     Nothing,

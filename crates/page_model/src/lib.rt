@@ -1,4 +1,6 @@
 // The page model: a frame's record, and what each step makes of it.
+#![tactic(auto)]
+
 pub mod busy;
 pub mod masks;
 mod table;
@@ -17,7 +19,7 @@ ghost use Rattle.page_model.specs.Table.{Step, own_of, reach, read, write, devic
 use masks::{Classes, Masks, pick};
 
 // An operation that a cache is to carry out on one colour of a frame, the data cache but for PurgeInstructions: document 01's order.
-#[derive(Drop)]
+#[derive(Clone, Copy)]
 pub enum Op {
     None,
     Flush(usize),
@@ -26,7 +28,7 @@ pub enum Op {
 }
 
 // The operations of one step, in order; None stands last.
-#[derive(Drop)]
+#[derive(Clone, Copy)]
 pub struct Ops {
     pub first: Op,
     pub second: Op,
@@ -35,7 +37,7 @@ pub struct Ops {
 // What is known of a frame in the caches: the masks of its held and its stale colours, and dirty, 0 or 1. The mark busy is 0 where the frame is free,
 // 1 while a device reads it and 2 while a device writes it. The dirty colour is the number of colours where none is dirty. Request N8's masks say which
 // colours are held and stale in the instruction cache.
-#[derive(Drop)]
+#[derive(Clone, Copy)]
 pub struct FrameRecord {
     pub masks: Masks,
     pub dirty: u32,
@@ -45,7 +47,7 @@ pub struct FrameRecord {
 }
 
 // The record after a step, and the operations that come first.
-#[derive(Drop)]
+#[derive(Clone, Copy)]
 pub struct Stepped {
     pub next: FrameRecord,
     pub ops: Ops,

@@ -6,14 +6,14 @@ ghost use Rattle.page_model.specs.Masks.{masks_keep_rules, with_class, moved};
 use super::table::{DIRTY, PRESENT, STALE};
 
 // Bit c of a mask stands for colour c. Present and dirty colours are held.
-#[derive(Drop)]
+#[derive(Clone, Copy)]
 pub struct Masks {
     pub held: u32,
     pub stale: u32,
 }
 
 // The number of the state that each class of colours goes to: a step's own colour, and of the others those that are held, stale and empty.
-#[derive(Drop)]
+#[derive(Clone, Copy)]
 pub struct Classes {
     pub own: u8,
     pub held: u8,

@@ -37,7 +37,7 @@ pub const BEGIN_WRITE: u8 = 6;
 pub const FETCH: u8 = 7;
 
 // A cell of the tables: an operation, and the state after it.
-#[derive(Drop)]
+#[derive(Clone, Copy)]
 pub struct Case(pub u8, pub u8);
 
 // The cell of a step at a colour, its own or another, in a state. A number that stands for no step or no state gives no operation, and

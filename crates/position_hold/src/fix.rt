@@ -17,7 +17,7 @@ const MOST_LATITUDE: u32 = 90 * DEGREE;
 const MOST_LONGITUDE: u32 = 180 * DEGREE;
 
 // The words of a fix, in their order.
-#[derive(Drop)]
+#[derive(Clone, Copy)]
 pub struct Fix {
     pub number: u32,
     pub second: u32,

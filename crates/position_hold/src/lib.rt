@@ -1,4 +1,6 @@
 // Position hold: a look at the fix page through a mapping, which draws the position of the last fix, or blank.
+#![tactic(auto)]
+
 mod fix;
 
 ghost use Rattle.std.specs.Prelude.{◌≡◌};
@@ -20,7 +22,7 @@ pub const LONGEST_HOLD: u32 = 30;
 const FIX_WORDS: usize = 4;
 
 // The answer: the refusal's number, blank, or latitude and longitude as they were read.
-#[derive(Drop)]
+#[derive(Clone, Copy)]
 pub enum Drawn {
     Refused(u8),
     Blank,
@@ -28,7 +30,7 @@ pub enum Drawn {
 }
 
 // What the reads of a fix found.
-#[derive(Drop)]
+#[derive(Clone, Copy)]
 enum Found {
     Refused(u8),
     Fix(Fix),

@@ -1,4 +1,6 @@
 // The run sheet: bytes of a sheet in, bytes of text out.
+#![tactic(auto)]
+
 mod run;
 
 ghost use Rattle.std.specs.Prelude.{[], ◌∷◌, ◌≡◌, ◌+◌, length};
@@ -42,7 +44,7 @@ pub fn run_sheet(sheet: &[u8], text: &mut [u8]) -> usize
 }
 
 // How far a run has come: the list, the place after the text, and the flushes and purges of the answers.
-#[derive(Drop)]
+#[derive(Clone, Copy)]
 pub struct Progress {
     pub list: MappingList,
     pub at: usize,

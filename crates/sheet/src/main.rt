@@ -1,5 +1,7 @@
 // Runs the sheet on standard input and writes the text of its run to standard output.
 // A program has no exit status: where reading or writing fails, a line on standard error says why.
+#![tactic(auto)]
+
 use libc::{STDIN_FILENO, STDOUT_FILENO};
 use run_sheet::{INPUT_BYTES, TEXT_BYTES};
 

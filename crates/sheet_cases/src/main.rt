@@ -1,5 +1,7 @@
 // Runs the sheets in the files that the arguments name, each after its file's name, and then sheets at the limits of the counts.
 // A file ends with the text that it prints, worked out by hand from documents 01 and 02.
+#![tactic(auto)]
+
 mod hex;
 mod large;
 

@@ -1,10 +1,12 @@
 // The bytes of a sheet, read by position, and the lines of text that tell what came of it.
+#![tactic(auto)]
+
 pub mod answers;
 pub mod format;
 pub mod text;
 
 // The kind of a step.
-#[derive(Drop)]
+#[derive(Clone, Copy)]
 pub enum Kind {
     Read,
     Write,
@@ -23,7 +25,7 @@ pub enum Kind {
 }
 
 // A step's fields, as document 01 names them.
-#[derive(Drop)]
+#[derive(Clone, Copy)]
 pub struct Fields {
     pub kind: u8,
     pub s: u8,
@@ -33,7 +35,7 @@ pub struct Fields {
 }
 
 // The word that a step shows, if it has one.
-#[derive(Drop)]
+#[derive(Clone, Copy)]
 pub enum Shown {
     Absent,
     Word(u32),

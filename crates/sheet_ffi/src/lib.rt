@@ -1,4 +1,6 @@
 // The run of a sheet for programs in C or Rust: `rt staticlib sheet_ffi` makes the library that they link.
+#![tactic(auto)]
+
 ghost use Rattle.std.specs.Prelude.{length};
 ghost use Rattle.io.specs.Counts.{IsPrefixLen};
 ghost use Rattle.sheet_codec.specs.Put.{Put};

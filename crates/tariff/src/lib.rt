@@ -1,4 +1,6 @@
 // Request N11: what a step costs by the contract's tariff, in whole cycles, and the accounts that it goes to.
+#![tactic(auto)]
+
 ghost use Rattle.std.specs.Prelude.{◌≡◌, false, ◌||◌, ◌<◌, length};
 ghost use Rattle.tariff.specs.Accounts.{balance, overdrawn, charged};
 ghost use Rattle.tariff.specs.Tariff.{is_flush, is_purge, charge, set_of, order_set, kind_number, set_number};
@@ -6,7 +8,7 @@ ghost use Rattle.tariff.specs.Tariff.{is_flush, is_purge, charge, set_of, order_
 use page_model::{Op, Ops};
 
 // For what a step is charged: the rows of the tariff. A begin of a transfer is charged as the transfer is, and a part as a device's write.
-#[derive(Drop)]
+#[derive(Clone, Copy)]
 pub enum ChargeKind {
     Read,
     Write,
