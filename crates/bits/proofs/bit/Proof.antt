@@ -4,15 +4,15 @@ use Rattle.bits.specs.Mask.{bit}
 use Rattle.bits.proofs.bit.Statement.{statement}
 use Rattle.bits.proofs.bit.Tie as tie
 
-cast-result : tie.Need-overflow-cast-result
+cast-result : tie.Need-overflow_cast-result
 cast-result c = search rules
 
-shr-result : tie.Need-overflow-shr-result
+shr-result : tie.Need-overflow_shr-result
 shr-result c = search rules
 
 returns : tie.Need-returns
 unfolding bit
 returns c = search rules
 
-pub bit-spec : {M : Type 1} → statement M
-bit-spec = tie.close (tie.spec cast-result shr-result returns)
+pub bit_spec : {M : Type 1} → statement M
+bit_spec = tie.close (tie.spec cast-result shr-result returns)

@@ -7,11 +7,11 @@ use Rattle.bits.proofs.within.Tie as tie
 wide-requires : tie.Need-wide-requires
 wide-requires c κs = search rules
 
-shr-result : tie.Need-overflow-shr-result
+shr-result : tie.Need-overflow_shr-result
 shr-result c = search rules
 
 returns : tie.Need-returns
 returns c = rw c.wide.ensures (shr_none c.before.args.mask c.before.args.places)
 
-pub within-spec : {M : Type 1} → statement M
-within-spec = tie.close (tie.spec wide-requires shr-result returns)
+pub within_spec : {M : Type 1} → statement M
+within_spec = tie.close (tie.spec wide-requires shr-result returns)

@@ -5,16 +5,16 @@ use Rattle.board.proofs.Geometry.{cache_words_small}
 use Rattle.board.proofs.cache_words.Statement.{statement}
 use Rattle.board.proofs.cache_words.Tie as tie
 
-cache-pages-requires : tie.Need-cache-pages-requires
-cache-pages-requires c κs = search rules
+cache_pages-requires : tie.Need-cache_pages-requires
+cache_pages-requires c κs = search rules
 
-mul-result : tie.Need-overflow-mul-result
+mul-result : tie.Need-overflow_mul-result
 unfolding cache_words
-mul-result c = rw c.before.cache-pages.ensures (let small = cache_words_small _ c.before.before.requires in search rules)
+mul-result c = rw c.before.cache_pages.ensures (let small = cache_words_small _ c.before.before.requires in search rules)
 
 returns : tie.Need-returns
 unfolding cache_words
-returns c = rw c.before.cache-pages.ensures
+returns c = rw c.before.cache_pages.ensures
 
-pub cache-words-spec : {M : Type 1} → statement M
-cache-words-spec = tie.close (tie.spec cache-pages-requires mul-result returns)
+pub cache_words_spec : {M : Type 1} → statement M
+cache_words_spec = tie.close (tie.spec cache_pages-requires mul-result returns)

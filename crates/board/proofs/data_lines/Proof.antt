@@ -5,16 +5,16 @@ use Rattle.board.proofs.Geometry.{data_lines_small}
 use Rattle.board.proofs.data_lines.Statement.{statement}
 use Rattle.board.proofs.data_lines.Tie as tie
 
-page-lines-requires : tie.Need-page-lines-requires
-page-lines-requires c κs = search rules
+page_lines-requires : tie.Need-page_lines-requires
+page_lines-requires c κs = search rules
 
-mul-result : tie.Need-overflow-mul-result
+mul-result : tie.Need-overflow_mul-result
 unfolding data_lines
-mul-result c = rw c.before.page-lines.ensures.0 (let small = data_lines_small _ c.before.before.requires in search rules)
+mul-result c = rw c.before.page_lines.ensures.0 (let small = data_lines_small _ c.before.before.requires in search rules)
 
 returns : tie.Need-returns
 unfolding data_lines
-returns c = rw c.before.page-lines.ensures.0
+returns c = rw c.before.page_lines.ensures.0
 
-pub data-lines-spec : {M : Type 1} → statement M
-data-lines-spec = tie.close (tie.spec page-lines-requires mul-result returns)
+pub data_lines_spec : {M : Type 1} → statement M
+data_lines_spec = tie.close (tie.spec page_lines-requires mul-result returns)

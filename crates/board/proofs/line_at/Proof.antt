@@ -5,7 +5,7 @@ use Rattle.board.proofs.Geometry.{line_at_end, cache_words_small, line_at_small}
 use Rattle.board.proofs.line_at.Statement.{statement}
 use Rattle.board.proofs.line_at.Tie as tie
 
-mul-result : tie.Need-overflow-mul-result
+mul-result : tie.Need-overflow_mul-result
 unfolding line_at
 mul-result c = let small = line_at_small _ c.before.requires.0 _ c.before.requires.1 in search rules
 
@@ -15,5 +15,5 @@ returns c =
     let end = line_at_end _ c.before.requires.0 _ c.before.requires.1 in
     let small = cache_words_small _ c.before.requires.0 in search rules
 
-pub line-at-spec : {M : Type 1} → statement M
-line-at-spec = tie.close (tie.spec mul-result returns)
+pub line_at_spec : {M : Type 1} → statement M
+line_at_spec = tie.close (tie.spec mul-result returns)

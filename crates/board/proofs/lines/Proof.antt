@@ -5,21 +5,21 @@ use Rattle.board.proofs.Geometry.{lines_small}
 use Rattle.board.proofs.lines.Statement.{statement}
 use Rattle.board.proofs.lines.Tie as tie
 
-cache-pages-requires : tie.Need-cache-pages-requires
-cache-pages-requires c κs = search rules
+cache_pages-requires : tie.Need-cache_pages-requires
+cache_pages-requires c κs = search rules
 
-page-lines-requires : tie.Need-page-lines-requires
-page-lines-requires c κs = search rules
+page_lines-requires : tie.Need-page_lines-requires
+page_lines-requires c κs = search rules
 
-mul-result : tie.Need-overflow-mul-result
+mul-result : tie.Need-overflow_mul-result
 unfolding lines
 mul-result c =
-    let pages = c.before.cache-pages.ensures in
-    let small = lines_small _ c.before.before.requires in rw (pages, c.page-lines.ensures.0) (search rules)
+    let pages = c.before.cache_pages.ensures in
+    let small = lines_small _ c.before.before.requires in rw (pages, c.page_lines.ensures.0) (search rules)
 
 returns : tie.Need-returns
 unfolding lines
-returns c = rw (c.before.cache-pages.ensures, c.page-lines.ensures.0)
+returns c = rw (c.before.cache_pages.ensures, c.page_lines.ensures.0)
 
-pub lines-spec : {M : Type 1} → statement M
-lines-spec = tie.close (tie.spec cache-pages-requires page-lines-requires mul-result returns)
+pub lines_spec : {M : Type 1} → statement M
+lines_spec = tie.close (tie.spec cache_pages-requires page_lines-requires mul-result returns)

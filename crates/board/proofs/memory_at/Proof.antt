@@ -5,11 +5,11 @@ use Rattle.board.proofs.Geometry.{frame_at_end, memory_words_small, memory_at_sm
 use Rattle.board.proofs.memory_at.Statement.{statement}
 use Rattle.board.proofs.memory_at.Tie as tie
 
-mul-result : tie.Need-overflow-mul-result
+mul-result : tie.Need-overflow_mul-result
 unfolding memory_at frame_at
 mul-result c = let small = memory_at_small _ c.before.requires.0 _ _ c.before.requires.1 c.before.requires.2 in search rules
 
-add-result : tie.Need-overflow-add-result
+add-result : tie.Need-overflow_add-result
 unfolding memory_at frame_at
 add-result c = let small = memory_at_small _ c.before.requires.0 _ _ c.before.requires.1 c.before.requires.2 in search rules
 
@@ -20,5 +20,5 @@ returns c =
     let end = frame_at_end _ s.requires.0 _ s.requires.1 in
     let small = memory_words_small _ s.requires.0 in search rules
 
-pub memory-at-spec : {M : Type 1} → statement M
-memory-at-spec = tie.close (tie.spec mul-result add-result returns)
+pub memory_at_spec : {M : Type 1} → statement M
+memory_at_spec = tie.close (tie.spec mul-result add-result returns)

@@ -5,7 +5,7 @@ use Rattle.board.proofs.Geometry.{memory_words_small}
 use Rattle.board.proofs.memory_words.Statement.{statement}
 use Rattle.board.proofs.memory_words.Tie as tie
 
-mul-result : tie.Need-overflow-mul-result
+mul-result : tie.Need-overflow_mul-result
 unfolding memory_words
 mul-result c = let small = memory_words_small _ c.before.requires in search rules
 
@@ -13,5 +13,5 @@ returns : tie.Need-returns
 unfolding memory_words
 returns c = search rules
 
-pub memory-words-spec : {M : Type 1} → statement M
-memory-words-spec = tie.close (tie.spec mul-result returns)
+pub memory_words_spec : {M : Type 1} → statement M
+memory_words_spec = tie.close (tie.spec mul-result returns)
