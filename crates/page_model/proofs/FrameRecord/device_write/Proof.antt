@@ -1,8 +1,0 @@
--- `page_model::FrameRecord::device_write` meets its contract.
-use mathlib.Core.Path.{refl}
-use borrow.Author.Rules.{rules}
-use Rattle.page_model.proofs.FrameRecord.device_write.Statement.{statement}
-use Rattle.page_model.proofs.FrameRecord.device_write.Tie as tie
-
-pub device-write-spec : {M : Type 1} → statement M
-device-write-spec = tie.close (tie.spec (λ c κs. search rules) (λ c. c.step.ensures _ refl refl (search rules)))

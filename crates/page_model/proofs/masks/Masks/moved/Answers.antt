@@ -1,0 +1,10 @@
+-- `page_model::masks::Masks::moved` meets its contract.
+use borrow.Author.Rules.{rules}
+use Rattle.page_model.proofs.Moving.{moved_is}
+use Rattle.page_model.proofs.masks.Masks.moved.Goals as goal
+
+pub returns : goal.returns
+returns c =
+    let a = c.args in
+    rw (c.with.ensures, c.with-after-3.ensures, c.with-after-2.ensures, c.with-after.ensures, c.with_bit.ensures, c.below-every.ensures)
+    (moved_is a.colours a.colour a.to a.self)

@@ -1,0 +1,6 @@
+-- `page_model::masks::Masks::with` meets its contract.
+use borrow.Author.Rules.{rules}
+use Rattle.page_model.proofs.masks.Masks.with.Goals as goal
+
+pub returns : goal.returns
+returns c = rw (c.pick.ensures, c.pick-2.ensures)
