@@ -1,0 +1,19 @@
+-- `cache::tag::tags_keep_rules` meets its contract.
+use Prim.Native.Nat.{ℕ, ◌≤◌, ◌<◌, ◌-◌}
+use mathlib.Core.Path.{◌≡◌, sym, ◌∙◌}
+use mathlib.Core.Bool.{true}
+use native.Mathlib.Omega.{arith}
+use borrow.Author.Count.{below_none, below_more}
+use borrow.Author.Rules.{rules}
+use borrow.Author.Tests.{not-true, not-false}
+use lib.ListN.{length, get_or}
+use Rattle.cache.proofs.Laws.Tag.{rules_all, rules_break}
+use Rattle.cache.specs.Tag.{line_keeps_rules}
+use Rattle.cache.proofs.tag.tags_keep_rules.Given as goal
+
+abbrev pub invariant-loop-i : goal.invariant-loop-i
+invariant-loop-i l =
+    (l.i ≤ length l.tags) × ((k : ℕ) → k < l.i → line_keeps_rules l.board k (get_or l.tags k 0) ≡ true)
+
+abbrev pub decreases-loop-i : goal.decreases-loop-i
+decreases-loop-i l = length l.tags - l.i
