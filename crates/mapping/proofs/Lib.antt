@@ -1,7 +1,6 @@
 -- The laws of the mapping list and of batches: Laws has those for callers, the others what leads to them and what the functions' proofs cite.
 pub mod Tests
 pub mod Records
-pub mod Walk
 pub mod Entry
 pub mod Order
 pub mod Rules

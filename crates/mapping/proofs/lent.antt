@@ -1,3 +1,3 @@
--- What the walks over lent records share.
-pub mod Slice
-mod Read
+-- What the proofs on lent records share.
+pub mod Fill
+pub mod Search

@@ -8,8 +8,7 @@ use borrow.Author.Tests.{ne_eqb}
 use borrow.Author.Rules.{rules}
 use Rattle.mapping.specs.Entry.{is_zero}
 use Rattle.mapping.proofs.Entry.{sum_zero}
-use Rattle.mapping.proofs.Mapping.content.Statement.{statement}
-use Rattle.mapping.proofs.Mapping.content.Tie as tie
+use Rattle.mapping.proofs.Mapping.content.Goals as goal
 
 -- a multiple is 0 if what is multiplied is
 frame_zero : (a : ℕ) → eqb (a * 65536) 0 ≡ eqb a 0
@@ -20,22 +19,6 @@ rights_zero : (a : ℕ) → eqb (a * 16777216) 0 ≡ eqb a 0
 rights_zero zero = refl
 rights_zero (suc a) = rw (ne_eqb (suc a * 16777216) 0 (λ e. absurd (omega arith)), ne_eqb (suc a) 0 (λ e. absurd (omega arith)))
 
-returns : tie.Need-returns
+pub returns : goal.returns
 unfolding is_zero
 returns c = (simp (sum_zero, frame_zero, rights_zero, and_assoc), search rules)
-
-pub content-spec : {M : Type 1} → statement M
-content-spec =
-    tie.close
-    (tie.spec
-    (λ c. search rules)
-    (λ c. search rules)
-    (λ c. search rules)
-    (λ c. search rules)
-    (λ c. search rules)
-    (λ c. search rules)
-    (λ c. search rules)
-    (λ c. search rules)
-    (λ c. search rules)
-    (λ c. search rules)
-    returns)
