@@ -10,7 +10,7 @@ use Rattle.manager.specs.Theorems.{First}
 use Rattle.manager.proofs.Theorems.{first_refusal_lem}
 use Rattle.machine.specs.Call.{call_causes, perform}
 use Rattle.machine.specs.State.{State, Call, single, map_all, Result}
-use Rattle.machine.proofs.StepLaws as machine-laws
+use Rattle.machine.proofs.StepLaws as machine_laws
 use Rattle.machine.proofs.CallLaws.{perform_cases, perform_accepted, perform_refused, accept_accepted}
 use Rattle.consistency.specs.Cacheless.{is_refused}
 use Rattle.demands.specs.Demands.{Clear, NoCause, FirstCause, Demand1}
@@ -18,7 +18,7 @@ use Rattle.demands.specs.Demands.{Clear, NoCause, FirstCause, Demand1}
 module _ (b : Board) (st : State) where
   causes_in_order : (call : Call) → in_order 0 (call_causes b st call) ≡ true
   unfolding call_causes in_order refusal_place place_in
-  causes_in_order (single call) = machine-laws.causes_in_order b st call
+  causes_in_order (single call) = machine_laws.causes_in_order b st call
   causes_in_order (map_all items answers) = refl
 
   pub no_cause : (call : Call) → first_refusal (call_causes b st call) ≡ 0 → Clear (call_causes b st call)

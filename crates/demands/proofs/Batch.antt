@@ -21,7 +21,7 @@ use Rattle.cache.specs.Store.{WellFormedStore}
 use Rattle.machine.specs.Call.{map_of, after_items, item_answer, call_causes, perform}
 use Rattle.machine.specs.Refusals.{store_lengths}
 use Rattle.machine.specs.State.{State, single, map_all}
-use Rattle.machine.specs.State as state-of
+use Rattle.machine.specs.State as state_of
 use Rattle.machine.specs.Step.{step}
 use Rattle.machine.proofs.CallLaws.{perform_cases, perform_refused, map_store}
 use Rattle.machine.proofs.StoreLaws.{lengths_right_lem}
@@ -69,7 +69,7 @@ module _ (b : Board) (st : State) (wf : WellFormedStore b st.store) (items : Lis
     unfolding map_all_call
     batch_agrees =
         perform_cases b st (map_all items answers)
-        (λ (r : state-of.Result). map_all_call b st.tables items answers ≡ batch_result r.answer.outcome r.answer.buffer r.after.tables)
+        (λ (r : state_of.Result). map_all_call b st.tables items answers ≡ batch_result r.answer.outcome r.answer.buffer r.after.tables)
         (λ e. ap (λ (n : ℕ). whole_result n answers st.tables (made b st.tables items)) (refusal_agrees ∙ e) ∙ (λ i. batch_result (accepted 0 no_ops) (answers_agree i) ((in_step (length items)).0 i)))
         (λ n e. ap (λ (n : ℕ). whole_result n answers st.tables (made b st.tables items)) (refusal_agrees ∙ e))
 

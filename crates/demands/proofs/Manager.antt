@@ -19,7 +19,7 @@ use Rattle.cache.specs.Store.{WellFormedStore}
 use Rattle.machine.specs.Scaffold.Plans.{store_causes, earlier}
 use Rattle.machine.specs.Refusals.{buffer_right, own_causes, causes}
 use Rattle.machine.specs.State.{State, page_frame, Single, map, unmap, read, write, device_read, device_write, device_write_part, evict, begin_read, begin_write, bring_word, take_word, end_transfer, fetch, single}
-use Rattle.machine.specs.State as state-of
+use Rattle.machine.specs.State as state_of
 use Rattle.machine.specs.Step.{accept}
 use Rattle.machine.proofs.MergeLaws.{own_place, merge, causes_merged}
 use Rattle.machine.proofs.StepLaws.{step_refused, step_accepted}
@@ -30,9 +30,9 @@ module _ (b : Board) (st : State) (call : Single) where
   -- a call that is its refusal, which leaves the tables, or what the machine's accepted call answers and leaves in them
   agrees : (r : ℕ → Result) → r 0 ≡ call_result (accept b st call).answer.outcome (accept b st call).after.tables
       → ((n : ℕ) → r (suc n) ≡ call_result (refused (suc n)) st.tables) → (n : ℕ) → first_refusal (causes b st call) ≡ n → Agrees b st call (r n)
-  agrees r taken left zero e = taken ∙ ap (λ (x : state-of.Result). call_result x.answer.outcome x.after.tables) (step_accepted b st call e)
+  agrees r taken left zero e = taken ∙ ap (λ (x : state_of.Result). call_result x.answer.outcome x.after.tables) (step_accepted b st call e)
   agrees r taken left (suc n) e =
-      left n ∙ ap (λ (x : state-of.Result). call_result x.answer.outcome x.after.tables) (step_refused b st call (suc n) (e, λ z. omega arith))
+      left n ∙ ap (λ (x : state_of.Result). call_result x.answer.outcome x.after.tables) (step_refused b st call (suc n) (e, λ z. omega arith))
 
   -- Where no cause of the machine's own, `mine`, applies, the first is the manager's, of which the first two are those of the tables.
   managers_first : WellFormedStore b st.store → buffer_right b call ≡ true → (mine managers : List Cause) → in_order own_place mine ≡ true → in_order own_place (drop 2 managers) ≡ true

@@ -20,7 +20,7 @@ use Rattle.manager.specs.Refusals.{Cause}
 use Rattle.manager.specs.Tables.{Tables, tables, record_at, protection_at, data_part, tabulate}
 use Rattle.manager.specs.Theorems.{First, WellFormedTables}
 use Rattle.cache.specs.Cache as hardware
-use Rattle.cache.specs.Store as hardware-store
+use Rattle.cache.specs.Store as hardware_store
 use Rattle.cache.specs.Store.{tag_at, word_at}
 use Rattle.cache.specs.Tag.{empty_tag, clean_tag, names}
 use Rattle.machine.specs.Call.{map_of, call_causes, call_buffer, perform}
@@ -108,7 +108,7 @@ pub record InstructionCache (b : Board) (st : State) (call : Single) (after : St
 -- what an accepted single call leaves, and answers
 pub record Left (b : Board) (st : State) (call : Single) (after : State) (a : Answer) : Type 0 where
   pub tables_kept : WellFormedTables b after.tables
-  pub store_kept : hardware-store.WellFormedStore b after.store
+  pub store_kept : hardware_store.WellFormedStore b after.store
   pub modelled : Modelled b st.tables after.tables a.outcome (effect_of b st call)
   pub list_left : after.tables.list ≡ list_after st.tables.list call
   pub made : accessed a.word a.buffer after.store ≡ access_of b st call (carry_out b a.outcome st.store)

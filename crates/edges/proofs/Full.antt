@@ -24,13 +24,13 @@ use Rattle.machine.specs.Refusals.{buffer_right, lent_causes, own_causes, causes
 use Rattle.machine.proofs.StepLaws.{step_refused, step_accepted}
 use Rattle.bits.specs.Mask as mask
 use Rattle.board.specs.Board as board
-use Rattle.page_model.specs.Record as frame-record
+use Rattle.page_model.specs.Record as frame_record
 use Rattle.mapping.specs.Entry as entry
-use Rattle.mapping.specs.Lookup as list-lookup
-use Rattle.manager.specs.Tables as manager-tables
+use Rattle.mapping.specs.Lookup as list_lookup
+use Rattle.manager.specs.Tables as manager_tables
 use Rattle.cache.specs.Tag as tag
-use Rattle.machine.specs.Refusals as machine-refusals
-use Rattle.machine.specs.Step as machine-step
+use Rattle.machine.specs.Refusals as machine_refusals
+use Rattle.machine.specs.Step as machine_step
 use Rattle.run_sheet.specs.Run as run
 use Rattle.edges.proofs.Items.{refusals_of, list_with, in_turn, in_turn_lem}
 use Rattle.edges.proofs.Opened.{opened}
@@ -72,8 +72,8 @@ module _ (n : ℕ) (room : n ≤ capacity) where
 -- ---- the refusal of a call, where nothing that is lent gives one
 
 module _ (b : Board) (st : State) (call : Single) where
-  lent_clear : (manager-tables.lengths_right b st.tables && machine-refusals.store_lengths b st.store && buffer_right b call) ≡ true
-      → (manager-tables.rules_kept b st.tables && tag.tags_keep_rules b st.store.tags) ≡ true
+  lent_clear : (manager_tables.lengths_right b st.tables && machine_refusals.store_lengths b st.store && buffer_right b call) ≡ true
+      → (manager_tables.rules_kept b st.tables && tag.tags_keep_rules b st.store.tags) ≡ true
       → first_refusal (lent_causes b st call) ≡ 0
   unfolding lent_causes first_refusal
   lent_clear e f = rw (e, f)
@@ -82,27 +82,27 @@ module _ (b : Board) (st : State) (call : Single) where
   unfolding causes
   own_first e = sym (refusal_rest (lent_causes b st call) (own_causes b st call) refl e)
 
-lent_rules : (n : ℕ) → n ≤ capacity → (manager-tables.rules_kept board01 (listing n).tables && tag.tags_keep_rules board01 (listing n).store.tags) ≡ true
-unfolding manager-tables.rules_kept manager-tables.records_keep_rules manager-tables.record_at manager-tables.start_records mask.all mask.bit mask.count_of mask.first_of frame-record.colours_keep_rules frame-record.dirty_colour_of frame-record.keeps_rules run.start_with run.sheet_start board.lines board.page_lines tag.tags_keep_rules
+lent_rules : (n : ℕ) → n ≤ capacity → (manager_tables.rules_kept board01 (listing n).tables && tag.tags_keep_rules board01 (listing n).store.tags) ≡ true
+unfolding manager_tables.rules_kept manager_tables.records_keep_rules manager_tables.record_at manager_tables.start_records mask.all mask.bit mask.count_of mask.first_of frame_record.colours_keep_rules frame_record.dirty_colour_of frame_record.keeps_rules run.start_with run.sheet_start board.lines board.page_lines tag.tags_keep_rules
 lent_rules n room = rw (rules_keeps_rules board01 (pages_mapped n) (pages_rules n room))
 
 lent_none : (n : ℕ) → n ≤ capacity → (call : Single) → buffer_right board01 call ≡ true → first_refusal (lent_causes board01 (listing n) call) ≡ 0
-unfolding manager-tables.lengths_right machine-refusals.store_lengths run.start_with run.sheet_start board.lines board.page_lines board.memory_words board.cache_words mappings_by
+unfolding manager_tables.lengths_right machine_refusals.store_lengths run.start_with run.sheet_start board.lines board.page_lines board.memory_words board.cache_words mappings_by
 lent_none n room call e = lent_clear board01 (listing n) call e (lent_rules n room)
 
 first_of_lem : (n : ℕ) → n ≤ capacity → (call : Single) → buffer_right board01 call ≡ true → first_refusal (causes board01 (listing n) call) ≡ first_refusal (own_causes board01 (listing n) call)
 first_of_lem n room call e = own_first board01 (listing n) call (lent_none n room call e)
 
 own_255 : first_refusal (own_causes board01 (listing 255) (map 1 0 0 1)) ≡ 0
-unfolding own_causes first_refusal list-lookup.lookup list-lookup.first_found entry.is_at mappings_by
+unfolding own_causes first_refusal list_lookup.lookup list_lookup.first_found entry.is_at mappings_by
 own_255 = refl
 
 own_fresh : first_refusal (own_causes board01 (listing 256) (map 1 0 0 1)) ≡ 9
-unfolding own_causes first_refusal list-lookup.lookup list-lookup.first_found entry.is_at mappings_by
+unfolding own_causes first_refusal list_lookup.lookup list_lookup.first_found entry.is_at mappings_by
 own_fresh = refl
 
 own_mapped : first_refusal (own_causes board01 (listing 256) (map 0 255 0 1)) ≡ 7
-unfolding own_causes first_refusal list-lookup.lookup list-lookup.first_found entry.is_at mappings_by
+unfolding own_causes first_refusal list_lookup.lookup list_lookup.first_found entry.is_at mappings_by
 own_mapped = refl
 
 -- ---- the rows
@@ -112,7 +112,7 @@ one : Result → Seen
 one got = answers (got.answer ∷ [])
 
 pub room_for_one_lem : Holds room_for_one
-unfolding ask one machine-step.accept
+unfolding ask one machine_step.accept
 room_for_one_lem = sym (ap one (step_accepted board01 (listing 255) (map 1 0 0 1) (first_of_lem 255 (omega arith) (map 1 0 0 1) refl ∙ own_255)))
 
 pub fresh_pair_lem : Holds fresh_pair

@@ -10,9 +10,9 @@ use lib.Dec.{leb}
 use Rattle.board.specs.declared.Board.{Board}
 use Rattle.manager.specs.declared.Change.{Change}
 use Rattle.manager.specs.declared.Plan.{Plan}
-use Rattle.manager.specs.declared.Plan.TheVariants as step-plan
+use Rattle.manager.specs.declared.Plan.TheVariants as step_plan
 use Rattle.manager.specs.declared.ListPlan.{ListPlan}
-use Rattle.manager.specs.declared.ListPlan.TheVariants as list-plan
+use Rattle.manager.specs.declared.ListPlan.TheVariants as list_plan
 use Rattle.manager.specs.Calls.{planned, placed}
 use Rattle.manager.specs.Refusals.{Cause, first_refusal, refusal_place, in_order, table_causes}
 use Rattle.manager.proofs.FirstRefusal.{from_here, rest_in_order, is_numbered}
@@ -57,12 +57,12 @@ earlier_none zero = refl
 earlier_none (suc m) = refl
 
 -- a refusal of the machine's own beside a plan that is none
-pub with_step_own : (own : ℕ) (change : Change) → (own ≡ 0 → ⊥) → step-plan.Refused own ≡ with_step own (step-plan.Step change)
+pub with_step_own : (own : ℕ) (change : Change) → (own ≡ 0 → ⊥) → step_plan.Refused own ≡ with_step own (step_plan.Step change)
 unfolding with_step
 with_step_own zero change h = absurd (h refl)
 with_step_own (suc own) change h = refl
 
-pub with_place_own : (own place : ℕ) → (own ≡ 0 → ⊥) → list-plan.Refused own ≡ with_place own (list-plan.Place place)
+pub with_place_own : (own place : ℕ) → (own ≡ 0 → ⊥) → list_plan.Refused own ≡ with_place own (list_plan.Place place)
 unfolding with_place
 with_place_own zero place h = absurd (h refl)
 with_place_own (suc own) place h = refl
@@ -75,7 +75,7 @@ with_step_earlier zero (suc n) change = refl
 with_step_earlier (suc m) zero change = refl
 with_step_earlier (suc m) (suc n) change = go (leb (refusal_place (suc m)) (refusal_place (suc n)))
   where
-    go : (t : Bool) → step-plan.Refused (cond t (suc m) (suc n)) ≡ planned (cond t (suc m) (suc n)) change
+    go : (t : Bool) → step_plan.Refused (cond t (suc m) (suc n)) ≡ planned (cond t (suc m) (suc n)) change
     go true = refl
     go false = refl
 
@@ -86,7 +86,7 @@ with_place_earlier zero (suc n) place = refl
 with_place_earlier (suc m) zero place = refl
 with_place_earlier (suc m) (suc n) place = go (leb (refusal_place (suc m)) (refusal_place (suc n)))
   where
-    go : (t : Bool) → list-plan.Refused (cond t (suc m) (suc n)) ≡ placed (cond t (suc m) (suc n)) place
+    go : (t : Bool) → list_plan.Refused (cond t (suc m) (suc n)) ≡ placed (cond t (suc m) (suc n)) place
     go true = refl
     go false = refl
 

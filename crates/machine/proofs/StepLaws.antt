@@ -18,9 +18,9 @@ use Rattle.page_model.proofs.Theorems.{operations_below}
 use Rattle.mapping.specs.declared.MappingList.{MappingList}
 use Rattle.manager.specs.declared.Change.{Change}
 use Rattle.manager.specs.declared.Plan.{Plan}
-use Rattle.manager.specs.declared.Plan.TheVariants as step-plan
+use Rattle.manager.specs.declared.Plan.TheVariants as step_plan
 use Rattle.manager.specs.declared.ListPlan.{ListPlan}
-use Rattle.manager.specs.declared.ListPlan.TheVariants as list-plan
+use Rattle.manager.specs.declared.ListPlan.TheVariants as list_plan
 use Rattle.manager.specs.Answers.{Outcome, refused, accepted}
 use Rattle.manager.specs.Calls.{no_ops, planned, placed, change_of, write_step, commit_change}
 use Rattle.manager.specs.Refusals.{first_refusal, place_in, refusal_place, in_order, out_of_page}
@@ -40,19 +40,19 @@ use Rattle.machine.proofs.StoreLaws.{lengths_right_lem, well_formed}
 
 -- ---- a plan that was made
 
-planned_step : (n : ℕ) (change made : Change) → planned n change ≡ step-plan.Step made → (n ≡ 0) × (change ≡ made)
+planned_step : (n : ℕ) (change made : Change) → planned n change ≡ step_plan.Step made → (n ≡ 0) × (change ≡ made)
 planned_step zero change made e = (refl, cc)
 planned_step (suc n) change made e = absurd (let z : ◌≡◌ {A = ℕ} 0 1 = cc in omega arith)
 
-planned_refusal : (n k : ℕ) (change : Change) → planned n change ≡ step-plan.Refused k → (n ≡ k) × (n ≡ 0 → ⊥)
+planned_refusal : (n k : ℕ) (change : Change) → planned n change ≡ step_plan.Refused k → (n ≡ k) × (n ≡ 0 → ⊥)
 planned_refusal zero k change e = absurd (let z : ◌≡◌ {A = ℕ} 0 1 = cc in omega arith)
 planned_refusal (suc n) k change e = (cc, λ z. omega arith)
 
-placed_place : (n place made : ℕ) → placed n place ≡ list-plan.Place made → (n ≡ 0) × (place ≡ made)
+placed_place : (n place made : ℕ) → placed n place ≡ list_plan.Place made → (n ≡ 0) × (place ≡ made)
 placed_place zero place made e = (refl, cc)
 placed_place (suc n) place made e = absurd (let z : ◌≡◌ {A = ℕ} 0 1 = cc in omega arith)
 
-placed_refusal : (n k place : ℕ) → placed n place ≡ list-plan.Refused k → (n ≡ k) × (n ≡ 0 → ⊥)
+placed_refusal : (n k place : ℕ) → placed n place ≡ list_plan.Refused k → (n ≡ k) × (n ≡ 0 → ⊥)
 placed_refusal zero k place e = absurd (let z : ◌≡◌ {A = ℕ} 0 1 = cc in omega arith)
 placed_refusal (suc n) k place e = (cc, λ z. omega arith)
 
@@ -170,7 +170,7 @@ module _ (b : Board) (st : State) where
 
 module _ (b : Board) (st : State) (call : Single) (f : ℕ) (s : table.Step) (is : effect_of b st call ≡ steps f s) where
   -- the change that is told is what `carry_out` requires
-  pub step_requires : {change : Change} → Regular b → plan_step b st call (change_of b st.tables f s) ≡ step-plan.Step change
+  pub step_requires : {change : Change} → Regular b → plan_step b st call (change_of b st.tables f s) ≡ step_plan.Step change
       → OperationsReady b st.store change.frame change.ops
   step_requires {change} reg p =
       let q = planned_step _ _ change p in
@@ -180,7 +180,7 @@ module _ (b : Board) (st : State) (call : Single) (f : ℕ) (s : table.Step) (is
       (store_clear b st call q.0, tested.0, below.1, below.2, reg)
 
   -- with an offset and a page of the caches, what `load` and `put` require
-  pub access_requires : {change : Change} {colour : ℕ} (offset : ℕ) → Regular b → plan_step b st call (change_of b st.tables f s) ≡ step-plan.Step change
+  pub access_requires : {change : Change} {colour : ℕ} (offset : ℕ) → Regular b → plan_step b st call (change_of b st.tables f s) ≡ step_plan.Step change
       → applies_in 6 (causes b st call) ≡ leb b.page offset → colour < cache_pages b
       → AccessReady b st.store change.frame change.ops colour offset
   access_requires {change} offset reg p o below =
@@ -189,7 +189,7 @@ module _ (b : Board) (st : State) (call : Single) (f : ℕ) (s : table.Step) (is
       (r.0, r.1, r.2, r.3, below, h, reg)
 
   -- with a buffer of a page's words, what `send` requires
-  pub transfer_requires : {change : Change} (buffer : List ℕ) → Regular b → plan_step b st call (change_of b st.tables f s) ≡ step-plan.Step change
+  pub transfer_requires : {change : Change} (buffer : List ℕ) → Regular b → plan_step b st call (change_of b st.tables f s) ≡ step_plan.Step change
       → buffer_right b call ≡ eqb (length buffer) b.page
       → TransferReady b st.store change.frame change.ops buffer
   transfer_requires {change} buffer reg p tested =
@@ -220,7 +220,7 @@ module _ (b : Board) (st : State) (frame first number : ℕ) (buffer : List ℕ)
 
   -- so the change that its plan told is what `receive` requires
   pub part_requires : {change : Change} → Regular b
-      → plan_step b st (device_write_part frame first number buffer) (change_of b st.tables frame (write_step b number)) ≡ step-plan.Step change
+      → plan_step b st (device_write_part frame first number buffer) (change_of b st.tables frame (write_step b number)) ≡ step_plan.Step change
       → PartReady b st.store change.frame change.ops first buffer
   part_requires {change} reg p =
       let made = part_ready (planned_step _ _ change p).0 in
@@ -247,13 +247,13 @@ after_ops b st change = carry_out b (accepted change.frame change.ops) st.store
 
 module _ (b : Board) (st : State) (call : Single) where
   -- the plan that was told is a refusal, of this number
-  pub planned_refused : (change : Change) {told : Plan} {n k : ℕ} → told ≡ plan_step b st call change → told ≡ step-plan.Refused n → k ≡ refusal_of told
+  pub planned_refused : (change : Change) {told : Plan} {n k : ℕ} → told ≡ plan_step b st call change → told ≡ step_plan.Refused n → k ≡ refusal_of told
       → result_of (answer (refused k) none (lent_buffer call)) st ≡ step b st call
   planned_refused change {k = k} p e ek =
-      step_refused b st call k (planned_refusal _ k change (sym p ∙ e ∙ ap step-plan.Refused (sym (ek ∙ ap refusal_of e))))
+      step_refused b st call k (planned_refusal _ k change (sym p ∙ e ∙ ap step_plan.Refused (sym (ek ∙ ap refusal_of e))))
 
   -- the plan was a change, of a call that is a step of a frame's record
-  pub stepped_made : (change : Change) {told : Change} → plan_step b st call change ≡ step-plan.Step told
+  pub stepped_made : (change : Change) {told : Change} → plan_step b st call change ≡ step_plan.Step told
       → (word : ℕ → Store → Option ℕ) (buffer : ℕ → Store → List ℕ) (access : ℕ → Store → Store)
       → accept b st call ≡ stepped_call b st change (word change.frame) (buffer change.frame) (access change.frame)
       → {w : Option ℕ} {l : List ℕ} {t : Tables} {s : Store}
@@ -270,7 +270,7 @@ module _ (b : Board) (st : State) (call : Single) where
       ∙ step_accepted b st call q.0
 
   -- and makes an access through a page's colour
-  pub access_made : (change : Change) {told : Change} → plan_step b st call change ≡ step-plan.Step told
+  pub access_made : (change : Change) {told : Change} → plan_step b st call change ≡ step_plan.Step told
       → (colour : ℕ) (word : ℕ → ℕ → Store → Option ℕ) (access : ℕ → ℕ → Store → Store)
       → accept b st call ≡ stepped_call b st change (word change.frame colour) (λ s. []) (access change.frame colour)
       → {k : ℕ} {w : Option ℕ} {t : Tables} {s : Store}
@@ -285,12 +285,12 @@ module _ (b : Board) (st : State) (call : Single) where
       (es ∙ ap (λ (k : ℕ). access told.frame k (after_ops b st told)) ek)
 
   -- the same for a plan of the list
-  pub placed_refused : (place : ℕ) {told : ListPlan} {n k : ℕ} → told ≡ plan_place b st call place → told ≡ list-plan.Refused n → k ≡ place_refusal told
+  pub placed_refused : (place : ℕ) {told : ListPlan} {n k : ℕ} → told ≡ plan_place b st call place → told ≡ list_plan.Refused n → k ≡ place_refusal told
       → {o : Outcome} {l : MappingList} → o ≡ refused k → l ≡ st.tables.list
       → result_of (answer o none (lent_buffer call)) (state (tables l st.tables.records st.tables.protections) st.store) ≡ step b st call
   placed_refused place {k = k} p e ek eo el =
       made eo refl refl (ap (λ (l : MappingList). tables l st.tables.records st.tables.protections) el) refl
-      ∙ step_refused b st call k (placed_refusal _ k place (sym p ∙ e ∙ ap list-plan.Refused (sym (ek ∙ ap place_refusal e))))
+      ∙ step_refused b st call k (placed_refusal _ k place (sym p ∙ e ∙ ap list_plan.Refused (sym (ek ∙ ap place_refusal e))))
 
   -- an accepted call without orders: its access is made in the store as it was
   pub plain_made : first_refusal (causes b st call) ≡ 0 → outcome_of b st.tables.records (effect_of b st call) ≡ accepted 0 no_ops
@@ -310,7 +310,7 @@ module _ (b : Board) (st : State) (call : Single) where
           result_of (answer o a.word a.buffer) (state (tables_left b st call) a.store)
 
   -- the plan of the list was a place, at which the tables change
-  pub placed_made : (place : ℕ) {told : ℕ} → plan_place b st call place ≡ list-plan.Place told
+  pub placed_made : (place : ℕ) {told : ℕ} → plan_place b st call place ≡ list_plan.Place told
       → (commit : ℕ → Tables) → commit place ≡ tables_left b st call
       → outcome_of b st.tables.records (effect_of b st call) ≡ accepted 0 no_ops → access_of b st call st.store ≡ accessed none [] st.store
       → {o : Outcome} {l l' : MappingList} {records protections : List ℕ} → o ≡ accepted 0 no_ops → l ≡ l' → tables l' records protections ≡ commit told

@@ -11,7 +11,7 @@ use lib.ListN.{length}
 use Rattle.bits.proofs.Mask.{all_at}
 use Rattle.bits.proofs.Tautology.{and_left, and_right}
 use Rattle.board.specs.declared.Board.{Board}
-use Rattle.page_model.specs.Record as record_of
+use Rattle.page_model.specs.Record as frame_record
 use Rattle.mapping.specs.declared.MappingList.{MappingList}
 use Rattle.mapping.specs.Entry.{capacity}
 use Rattle.mapping.specs.declared.Found.{Found}
@@ -129,9 +129,9 @@ module _ (b : Board) (t : Tables) (kept : rules_kept b t ≡ true) where
   unfolding rules_kept
   list_rules = keeps_rules_true b t.list (and_left _ (records_keep_rules b t.records) kept)
 
-  pub record_rules : (f : ℕ) → f < b.frames → record_of.keeps_rules b.colours (record_at t.records f) ≡ true
+  pub record_rules : (f : ℕ) → f < b.frames → frame_record.keeps_rules b.colours (record_at t.records f) ≡ true
   unfolding rules_kept records_keep_rules
-  record_rules = all_at b.frames (λ f. record_of.keeps_rules b.colours (record_at t.records f)) (and_right (list_of.keeps_rules b t.list) _ kept)
+  record_rules = all_at b.frames (λ f. frame_record.keeps_rules b.colours (record_at t.records f)) (and_right (list_of.keeps_rules b t.list) _ kept)
 
   -- the place of a page that is mapped
   pub mapped_found : (space page : ℕ) → is_mapped t.list space page ≡ true → FoundAt t.list space page (place_of (lookup t.list space page))
@@ -146,7 +146,7 @@ module _ (b : Board) (t : Tables) (kept : rules_kept b t ≡ true) where
 
   -- so the record of its frame keeps the rules
   pub mapped_rules : (space page : ℕ) → is_mapped t.list space page ≡ true
-      → record_of.keeps_rules b.colours (record_at t.records (listed_mapping t.list space page).frame) ≡ true
+      → frame_record.keeps_rules b.colours (record_at t.records (listed_mapping t.list space page).frame) ≡ true
   mapped_rules space page e = record_rules _ (mapped_range space page e).frame_lt
 
 -- ---- what a look at the list tells
@@ -203,14 +203,14 @@ told_own b l rs ps own long e = rw (eq-eqb _ _ long, e)
 
 module _ (b : Board) (t : Tables) (space page : ℕ) where
   pub page_rules : (rest : List Cause) → numbered rest ≡ true → first_refusal (page_causes b t space page ++ rest) ≡ 0
-      → record_of.keeps_rules b.colours (record_at t.records (listed_mapping t.list space page).frame) ≡ true
+      → frame_record.keeps_rules b.colours (record_at t.records (listed_mapping t.list space page).frame) ≡ true
   unfolding page_causes
   page_rules rest z e =
       let cs = page_causes b t space page ++ rest in
       mapped_rules b t (not-false _ (cleared_in cs 2 z e)) space page (not-false _ (cleared_in cs 8 z e))
 
 pub transfer_rules : (b : Board) (t : Tables) (f : ℕ) (rest : List Cause) → numbered rest ≡ true → first_refusal (table_causes b t ++ frame_cause b f ∷ rest) ≡ 0
-    → record_of.keeps_rules b.colours (record_at t.records f) ≡ true
+    → frame_record.keeps_rules b.colours (record_at t.records f) ≡ true
 unfolding table_causes
 transfer_rules b t f rest z e =
     let cs = table_causes b t ++ frame_cause b f ∷ rest in

@@ -52,7 +52,7 @@ pub in_order_numbered : (n : ℕ) (cs : List Cause) → in_order n cs ≡ true �
 in_order_numbered n [] o = refl
 in_order_numbered n (c ∷ cs) o =
     let z = is_numbered n c cs o in
-    ap₂ ◌&&◌ (lt-ltb 0 c.number (omega arith)) (in_order_numbered _ cs (rest_in_order n c cs o))
+    ap₂ ◌&&◌ (lt-ltb 0 c.number (omega arith)) (in_order_numbered (suc (refusal_place c.number)) cs (rest_in_order n c cs o))
 
 -- each stands no earlier than the place that they start from
 from_place : (n : ℕ) (cs : List Cause) → in_order n cs ≡ true → (c : Cause) → Memᴰ c cs → n ≤ refusal_place c.number
@@ -60,7 +60,7 @@ from_place n [] o c m = absurd (Memᴰ.not-nil m)
 from_place n (d ∷ ds) o c m =
     let first = from_here n d ds o in
     ⊎_elim (λ e. let z = ap (λ (x : Cause). refusal_place x.number) e in omega arith)
-    (λ k. let more = from_place _ ds (rest_in_order n d ds o) c k in omega arith)
+    (λ k. let more = from_place (suc (refusal_place d.number)) ds (rest_in_order n d ds o) c k in omega arith)
     (Memᴰ.cases_cons m)
 
 -- ---- the refusal, by whether the first applies
@@ -71,7 +71,7 @@ refusal_if c cs z = ap (λ (t : Bool). cond t c.number (first_refusal cs)) (sym 
 
 none_of : (n : ℕ) (cs : List Cause) → in_order n cs ≡ true → first_refusal cs ≡ 0 → (c : Cause) → Memᴰ c cs → c.applies ≡ false
 none_of n [] o e c m = absurd (Memᴰ.not-nil m)
-none_of n (d ∷ ds) o e c m = go d.applies refl (λ f k. none_of _ ds (rest_in_order n d ds o) f c k)
+none_of n (d ∷ ds) o e c m = go d.applies refl (λ f k. none_of (suc (refusal_place d.number)) ds (rest_in_order n d ds o) f c k)
   where
     go : (t : Bool) → d.applies ≡ t → (first_refusal ds ≡ 0 → Memᴰ c ds → c.applies ≡ false) → c.applies ≡ false
     go true z rest = absurd (is_numbered n d ds o (refusal_if d ds z ∙ e))
@@ -90,7 +90,7 @@ first_of_lem m (d ∷ ds) o n e h = go d.applies refl (λ f. first_of_lem _ ds (
           applies = Memᴰ.head {x = d} (rw (sym given, sym z));
           earliest = λ c k a.
               ⊎_elim (λ q. let s = ap (λ (x : Cause). refusal_place x.number) q in omega arith)
-              (λ q. let s = from_place _ ds (rest_in_order m d ds o) c q in omega arith)
+              (λ q. let s = from_place (suc (refusal_place d.number)) ds (rest_in_order m d ds o) c q in omega arith)
               (Memᴰ.cases_cons k);
         }
     go false z rest =

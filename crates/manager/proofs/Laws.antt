@@ -19,7 +19,7 @@ use Rattle.page_model.specs.Record.{state_of, instruction_state_of, is_held, is_
 use Rattle.page_model.specs.Table.{ColourState, empty, present, dirty, stale}
 use Rattle.mapping.specs.declared.Mapping.{Mapping}
 use Rattle.mapping.specs.Entry.{read_write, read_fetch}
-use Rattle.manager.specs.declared.ListPlan.TheVariants as list-plan
+use Rattle.manager.specs.declared.ListPlan.TheVariants as list_plan
 use Rattle.manager.specs.Calls.{placed}
 use Rattle.manager.specs.Tables.{record_at, protection, mapping_state, instructions_of, tabulate}
 
@@ -82,6 +82,6 @@ instructions_at b rs m er ek = ap₂ instruction_state_of er ek
 -- ---- plans of the list
 
 -- a refusal's number is not 0
-pub placed_refused : (n place : ℕ) → (n ≡ 0 → ⊥) → list-plan.Refused n ≡ placed n place
+pub placed_refused : (n place : ℕ) → (n ≡ 0 → ⊥) → list_plan.Refused n ≡ placed n place
 placed_refused zero place h = absurd (h refl)
 placed_refused (suc n) place h = refl

@@ -21,7 +21,7 @@ use Rattle.mapping.specs.Lookup.{listed_mapping}
 use Rattle.manager.specs.declared.AccessKind.{AccessKind}
 use Rattle.manager.specs.declared.AccessKind.TheVariants.{Read, Write, Fetch}
 use Rattle.manager.specs.declared.Change.{Change}
-use Rattle.manager.specs.declared.Plan.TheVariants as step-plan
+use Rattle.manager.specs.declared.Plan.TheVariants as step_plan
 use Rattle.manager.specs.Calls.{planned, change_of, plan_access, call_result, no_ops, plain_result}
 use Rattle.manager.specs.Answers as answer
 use Rattle.manager.specs.Answers.{Outcome, accepted}
@@ -30,12 +30,12 @@ use Rattle.manager.specs.Scaffold.Told.{told_tables, told_rights, told_access}
 use Rattle.manager.specs.Tables.{Tables, tables, record_at}
 use Rattle.manager.proofs.CauseLaws.{numbered, refusal_prefix, refusal_rest, told_found, told_rest, call_list_keeps, page_rules}
 
-refused : (n : ℕ) (change : Change) → (n ≡ 0 → ⊥) → step-plan.Refused n ≡ planned n change
+refused : (n : ℕ) (change : Change) → (n ≡ 0 → ⊥) → step_plan.Refused n ≡ planned n change
 refused zero change h = absurd (h refl)
 refused (suc n) change h = refl
 
 -- the causes that are tested first give a refusal
-pub planned_first : (cs ds : List Cause) (change : Change) {n : ℕ} → n ≡ first_refusal cs → (n ≡ 0 → ⊥) → step-plan.Refused n ≡ planned (first_refusal (cs ++ ds)) change
+pub planned_first : (cs ds : List Cause) (change : Change) {n : ℕ} → n ≡ first_refusal cs → (n ≡ 0 → ⊥) → step_plan.Refused n ≡ planned (first_refusal (cs ++ ds)) change
 planned_first cs ds change {n} e h =
     refused n change h ∙ ap (λ (k : ℕ). planned k change) (e ∙ refusal_prefix cs ds (λ z. h (e ∙ z)))
 
@@ -84,7 +84,7 @@ module _ (b : Board) (l : MappingList) (rs ps : List ℕ) (space page : ℕ) (ki
   refusal : n ≡ first_refusal (before_mark b (tables l rs ps) space page kind)
   refusal = told ∙ told_rest b l _ _ looked rs ps (told_access kind space page) long
 
-  pub access_refused : (n ≡ 0 → ⊥) → step-plan.Refused n ≡ plan_access b (tables l rs ps) space page kind
+  pub access_refused : (n ≡ 0 → ⊥) → step_plan.Refused n ≡ plan_access b (tables l rs ps) space page kind
   access_refused h = planned_first (before_mark b (tables l rs ps) space page kind) _ _ refusal h ∙ access_plan b (tables l rs ps) space page kind
 
   -- past these refusals: the record that was read is that of the page's frame, it keeps the rules, and its mark decides

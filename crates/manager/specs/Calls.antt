@@ -16,9 +16,9 @@ use Rattle.manager.specs.declared.AccessKind.{AccessKind}
 use Rattle.manager.specs.declared.AccessKind.TheVariants as access
 use Rattle.manager.specs.declared.Change.{Change}
 use Rattle.manager.specs.declared.Plan.{Plan}
-use Rattle.manager.specs.declared.Plan.TheVariants as step-plan
+use Rattle.manager.specs.declared.Plan.TheVariants as step_plan
 use Rattle.manager.specs.declared.ListPlan.{ListPlan}
-use Rattle.manager.specs.declared.ListPlan.TheVariants as list-plan
+use Rattle.manager.specs.declared.ListPlan.TheVariants as list_plan
 use Rattle.manager.specs.Answers.{Outcome, refused, accepted}
 use Rattle.manager.specs.Refusals.{first_refusal, map_causes, page_causes, read_causes, write_causes, fetch_causes, transfer_causes, part_causes, word_causes, end_causes}
 use Rattle.manager.specs.Tables.{Tables, tables, record_at, put_record, refill}
@@ -32,8 +32,8 @@ change_of b t frame s =
 
 -- the refusal of a number that is not 0, else the change
 abbrev pub planned : ℕ → Change → Plan
-planned zero change = step-plan.Step change
-planned (suc n) change = step-plan.Refused (suc n)
+planned zero change = step_plan.Step change
+planned (suc n) change = step_plan.Refused (suc n)
 
 abbrev pub plan_read : Board → Tables → ℕ → ℕ → Plan
 plan_read b t space page =
@@ -75,8 +75,8 @@ commit_change b t frame next = refill b (tables t.list (put_record t.records fra
 -- ---- the mapping list
 
 abbrev pub placed : ℕ → ℕ → ListPlan
-placed zero place = list-plan.Place place
-placed (suc n) place = list-plan.Refused (suc n)
+placed zero place = list_plan.Place place
+placed (suc n) place = list_plan.Refused (suc n)
 
 -- the place where the mapping goes
 abbrev pub plan_map : Board → Tables → ℕ → ℕ → ℕ → ℕ → ListPlan
@@ -107,12 +107,12 @@ no_ops = record { first = None; second = None }
 
 -- a refusal leaves the tables as they were
 abbrev pub step_result : Board → Tables → Plan → Result
-step_result b t (step-plan.Refused n) = call_result (refused n) t
-step_result b t (step-plan.Step change) = call_result (accepted change.frame change.ops) (commit_change b t change.frame change.next)
+step_result b t (step_plan.Refused n) = call_result (refused n) t
+step_result b t (step_plan.Step change) = call_result (accepted change.frame change.ops) (commit_change b t change.frame change.next)
 
 abbrev pub list_result : Tables → (ℕ → Tables) → ListPlan → Result
-list_result t next (list-plan.Refused n) = call_result (refused n) t
-list_result t next (list-plan.Place place) = call_result (accepted 0 no_ops) (next place)
+list_result t next (list_plan.Refused n) = call_result (refused n) t
+list_result t next (list_plan.Place place) = call_result (accepted 0 no_ops) (next place)
 
 abbrev pub read_call : Board → Tables → ℕ → ℕ → Result
 read_call b t space page = step_result b t (plan_read b t space page)

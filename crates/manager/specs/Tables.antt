@@ -5,7 +5,7 @@ use Rattle.board.specs.declared.Board.{Board}
 use Rattle.board.specs.Board.{colour_of}
 use Rattle.page_model.specs.declared.FrameRecord.{FrameRecord}
 use Rattle.page_model.specs.Instructions.{InstructionState}
-use Rattle.page_model.specs.Record as record_of
+use Rattle.page_model.specs.Record as frame_record
 use Rattle.page_model.specs.Table.{ColourState}
 use Rattle.mapping.specs.declared.Mapping.{Mapping}
 use Rattle.mapping.specs.declared.MappingList.{MappingList}
@@ -57,14 +57,14 @@ put_record rs f r = put_words rs (f * record_words) 0 (words_of r)
 -- the records of so many frames at the start, where there are n colours: nothing is cached, and none is dirty
 unfoldable pub start_records : ℕ → ℕ → List ℕ
 start_records zero n = []
-start_records (suc frames) n = words_of (record_of.start_record n) ++ start_records frames n
+start_records (suc frames) n = words_of (frame_record.start_record n) ++ start_records frames n
 
 -- and the word at place i of them
 abbrev pub start_word : ℕ → ℕ → ℕ
 start_word n i = cond (eqb (i % record_words) 4) n 0
 
 unfoldable pub records_keep_rules : Board → List ℕ → Bool
-records_keep_rules b rs = all b.frames (λ f. record_of.keeps_rules b.colours (record_at rs f))
+records_keep_rules b rs = all b.frames (λ f. frame_record.keeps_rules b.colours (record_at rs f))
 
 -- ---- lengths and rules
 
@@ -81,7 +81,7 @@ rules_kept b t = list_of.keeps_rules b t.list && records_keep_rules b t.records
 -- instructions and the rights are to read and fetch.
 unfoldable pub protection : ColourState → InstructionState → ℕ → ℕ
 protection s i rights =
-    cond (record_of.is_dirty s && eqb rights read_write) 2 (digit (record_of.is_held s)) + cond (record_of.is_fetched i && eqb rights read_fetch) 4 0
+    cond (frame_record.is_dirty s && eqb rights read_write) 2 (digit (frame_record.is_held s)) + cond (frame_record.is_fetched i && eqb rights read_fetch) 4 0
 
 -- how a protection is read: read passes by its part below 4 if that is 1 or 2, write if it is 2, and fetch by the 4
 abbrev pub data_part : ℕ → ℕ
@@ -89,10 +89,10 @@ data_part protection = protection % 4
 
 -- the state of the colour through which a mapping goes, for its words and for instructions
 unfoldable pub mapping_state : Board → List ℕ → Mapping → ColourState
-mapping_state b rs m = record_of.state_of (record_at rs m.frame) (colour_of b m.page)
+mapping_state b rs m = frame_record.state_of (record_at rs m.frame) (colour_of b m.page)
 
 unfoldable pub instructions_of : Board → List ℕ → Mapping → InstructionState
-instructions_of b rs m = record_of.instruction_state_of (record_at rs m.frame) (colour_of b m.page)
+instructions_of b rs m = frame_record.instruction_state_of (record_at rs m.frame) (colour_of b m.page)
 
 -- the protection at place i, 0 past the count
 unfoldable pub protection_at : Board → MappingList → List ℕ → ℕ → ℕ

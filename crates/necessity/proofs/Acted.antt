@@ -19,7 +19,7 @@ use Rattle.manager.specs.Calls.{commit_change}
 use Rattle.manager.specs.Refusals.{first_refusal}
 use Rattle.manager.specs.Tables.{tables, record_at, refill}
 use Rattle.cache.specs.Cache as hardware
-use Rattle.cache.specs.Store as hardware-store
+use Rattle.cache.specs.Store as hardware_store
 use Rattle.cache.specs.Store.{Store}
 use Rattle.machine.specs.Parts.{steps, effect_of, outcome_of, records_after, list_after, accessed, access_of}
 use Rattle.machine.specs.Refusals.{causes}
@@ -102,7 +102,7 @@ list_same l b f begin_read = refl
 list_same l b f begin_write = refl
 
 module _ (b : Board) (reg : Regular b) (f : ℕ) (hf : f < b.frames) (states : ℕ → ColourState) (mark : ℕ) (st : State) (m : Cacheless)
-    (now : In b f states mark st.tables m) (kept : hardware-store.WellFormedStore b st.store) where
+    (now : In b f states mark st.tables m) (kept : hardware_store.WellFormedStore b st.store) where
   frame_is : (k : ℕ) → k < b.colours → page_frame st 0 k ≡ f
   frame_is k h = page_frame_lem b reg f hf states mark st m now kept k (data_page b reg k h)
 

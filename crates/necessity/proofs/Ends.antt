@@ -14,7 +14,7 @@ use Rattle.page_model.specs.Busy.{free, writing, bars}
 use Rattle.page_model.specs.Table.{ColourState, dirty, stale}
 use Rattle.manager.specs.Refusals.{first_refusal}
 use Rattle.cache.specs.Cache.{read_word}
-use Rattle.cache.specs.Store as hardware-store
+use Rattle.cache.specs.Store as hardware_store
 use Rattle.cache.specs.Store.{Store, memory_word}
 use Rattle.cache.proofs.Laws.Device.{device_read_word}
 use Rattle.cache.proofs.Laws.Loads.{read_word_same}
@@ -43,7 +43,7 @@ pub record Later (b : Board) (st : State) (m : Cacheless) : Type 0 where
 module _ (b : Board) (reg : Regular b) (f : ℕ) (hf : f < b.frames) (states : ℕ → ColourState) where
   -- ---- a load through a page that is not stale, where no other is dirty
 
-  module _ (mark : ℕ) (st : State) (m : Cacheless) (now : In b f states mark st.tables m) (kept : hardware-store.WellFormedStore b st.store) (x p : ℕ) (hx : x < cache_pages b)
+  module _ (mark : ℕ) (st : State) (m : Cacheless) (now : In b f states mark st.tables m) (kept : hardware_store.WellFormedStore b st.store) (x p : ℕ) (hx : x < cache_pages b)
       (hp : p < b.page) (fresh : states x ≢ stale) (alone : (k : ℕ) → x ≢ k → states k ≢ dirty) (open-mark : eqb mark writing ≡ false)
       (wrong : read_word b f x p st.store ≢ m.word f p) where
     abbrev finds : Action
@@ -97,7 +97,7 @@ module _ (b : Board) (reg : Regular b) (f : ℕ) (hf : f < b.frames) (states : �
     long : length (replicate {A = ℕ} b.page 0) ≡ b.page
     long = length-replicate b.page 0
 
-    module _ (st : State) (m : Cacheless) (now : In b f states free st.tables m) (kept : hardware-store.WellFormedStore b st.store) (off : memory_word b st.store f o ≢ m.word f o) where
+    module _ (st : State) (m : Cacheless) (now : In b f states free st.tables m) (kept : hardware_store.WellFormedStore b st.store) (off : memory_word b st.store f o ≢ m.word f o) where
       device_clear : first_refusal (causes b st (made b f reads)) ≡ 0
       device_clear = clear b reg f hf states free st m now kept reads long refl
 
@@ -117,7 +117,7 @@ module _ (b : Board) (reg : Regular b) (f : ℕ) (hf : f < b.frames) (states : �
       memory_calls = inl (not_refused b st (made b f reads) device_clear, (o, ho, λ e. off (sym memory_answered ∙ e)))
 
     -- after the end of a transfer, if there is one
-    module _ (mark : ℕ) (st : State) (m : Cacheless) (now : In b f states mark st.tables m) (kept : hardware-store.WellFormedStore b st.store)
+    module _ (mark : ℕ) (st : State) (m : Cacheless) (now : In b f states mark st.tables m) (kept : hardware_store.WellFormedStore b st.store)
         (off : memory_word b st.store f o ≢ m.word f o) where
       ended : FindsWrong b (accept b st (call.end_transfer f)).after (after_accepted m (call.end_transfer f)) (single (made b f reads) ∷ [])
       unfolding accept after_accepted carry_out_by

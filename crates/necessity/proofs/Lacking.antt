@@ -21,7 +21,7 @@ use Rattle.page_model.specs.Table.{ColourState, empty, dirty}
 use Rattle.manager.specs.Tables.{record_at}
 use Rattle.cache.specs.Cache as hardware
 use Rattle.cache.specs.Cache.{leaving}
-use Rattle.cache.specs.Store as hardware-store
+use Rattle.cache.specs.Store as hardware_store
 use Rattle.cache.specs.Store.{Store, tag_at, word_at, memory_word}
 use Rattle.cache.specs.Tag.{names}
 use Rattle.cache.proofs.Laws.Access.{read_word_hit, read_word_miss}
@@ -93,7 +93,7 @@ mark_open p mark e = ap (λ (x : ℕ). eqb x writing) (processor_mark p mark) �
 
 -- it leaves what a load finds at another offset, in its store and in the cacheless memory
 module _ (b : Board) (reg : Regular b) (f : ℕ) (hf : f < b.frames) (o p : ℕ) (ho : o < b.page) (hp : p < b.page) (apart : o ≢ p) where
-  finds_same : {x : ℕ} {a : Action} → Processor b o x a → x < cache_pages b → (s : Store) → hardware-store.WellFormedStore b s
+  finds_same : {x : ℕ} {a : Action} → Processor b o x a → x < cache_pages b → (s : Store) → hardware_store.WellFormedStore b s
       → hardware.read_word b f x p (store_of b f a s) ≡ hardware.read_word b f x p s
   finds_same (loads_at x a l) hx s wf = ap (hardware.read_word b f x p) (load_store l f s) ∙ read_word_load b reg f x p hf hx hp o ho s wf
   finds_same (writes_at c h v) hx s wf = read_word_write b reg f c p hf hx hp o ho s wf h v apart
@@ -103,7 +103,7 @@ module _ (b : Board) (reg : Regular b) (f : ℕ) (hf : f < b.frames) (o p : ℕ)
   word_same (writes_at c h v) m framed = write_word_other m b f c o v framed p apart
 
 module _ (b : Board) (reg : Regular b) (f : ℕ) (hf : f < b.frames) (states : ℕ → ColourState) (mark : ℕ) (st : State) (m : Cacheless)
-    (now : In b f states mark st.tables m) (kept : hardware-store.WellFormedStore b st.store) (a : Action) (h : InRange b a) (unbarred : bars mark (step_of b a) ≡ false) (rest : Op)
+    (now : In b f states mark st.tables m) (kept : hardware_store.WellFormedStore b st.store) (a : Action) (h : InRange b a) (unbarred : bars mark (step_of b a) ≡ false) (rest : Op)
     (rest_below : OpBelow b.colours rest) where
   -- the store after the order that is not left out, and the state after the access
   abbrev pub left : Store
@@ -112,10 +112,10 @@ module _ (b : Board) (reg : Regular b) (f : ℕ) (hf : f < b.frames) (states : �
   abbrev pub lacked : State
   lacked = (acted b st f a left).after
 
-  left_kept : hardware-store.WellFormedStore b left
+  left_kept : hardware_store.WellFormedStore b left
   left_kept = carry_out_kept b reg leaving f hf (record { first = rest; second = None }) rest_below tt st.store kept
 
-  lacked_kept : hardware-store.WellFormedStore b lacked.store
+  lacked_kept : hardware_store.WellFormedStore b lacked.store
   lacked_kept = act_kept b reg f hf left left_kept a h
 
   abbrev after : Cacheless
@@ -163,7 +163,7 @@ module _ (b : Board) (reg : Regular b) (f : ℕ) (hf : f < b.frames) (states : �
   -- ---- transfers
 
   -- the flush of the dirty colour is left out, where memory's word is wrong at an offset that is not sent
-  pub transfer_lacked : Flushing (step_of b a) → NoFlush rest → (o : ℕ) → o < b.page → ((s : Store) → hardware-store.WellFormedStore b s → memory_word b (store_of b f a s) f o ≡ memory_word b s f o)
+  pub transfer_lacked : Flushing (step_of b a) → NoFlush rest → (o : ℕ) → o < b.page → ((s : Store) → hardware_store.WellFormedStore b s → memory_word b (store_of b f a s) f o ≡ memory_word b s f o)
       → after.word f o ≡ m.word f o
       → memory_word b st.store f o ≢ m.word f o → Later b lacked after
   transfer_lacked flushing quiet o ho same_memory same_word off =

@@ -15,7 +15,7 @@ use Rattle.page_model.specs.Busy.{free}
 use Rattle.page_model.specs.Record.{state_of, keeps_rules, is_held, is_dirty, is_stale}
 use Rattle.page_model.specs.Table as table
 use Rattle.page_model.specs.Table.{ColourState, empty, present, dirty, stale}
-use Rattle.cache.specs.Store as hardware-store
+use Rattle.cache.specs.Store as hardware_store
 use Rattle.cache.specs.Store.{Store, tag_at, word_at, memory_word}
 use Rattle.cache.specs.Tag.{names}
 use Rattle.cache.proofs.Laws.Access.{access_memory_other, write_word_tag_same, write_word_word_same, write_word_memory}
@@ -138,7 +138,7 @@ module _ (b : Board) (reg : Regular b) (f : ℕ) (hf : f < b.frames) (r : FrameR
       pub written_here : Here b f (page_states b.colours r) free written (after_accepted m (made b f writes))
       written_here = here_states b f _ (page_states b.colours r) free _ _ written_next (here_after b reg f hf (stale_only b.colours r) free st m here writes (hd, hp) refl)
 
-      between : hardware-store.WellFormedStore b (ordered b st f (change b st f writes).ops)
+      between : hardware_store.WellFormedStore b (ordered b st f (change b st f writes).ops)
       between = ordered_kept b reg f hf (stale_only b.colours r) free st m here.tables_in here.inv.kept writes (hd, hp) refl
 
       -- the memory is as it was

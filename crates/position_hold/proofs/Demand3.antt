@@ -12,7 +12,7 @@ use Rattle.consistency.proofs.Invariant.{Invariant}
 use Rattle.consistency.proofs.Start.{start_invariant}
 use Rattle.consistency.proofs.Theorem.{serves, evicted_here}
 use Rattle.position_hold.specs.Demand3.{LookFinds, AllFind, cacheless_after, Demand3, EveryBoard, Board01}
-use Rattle.position_hold.specs.Look as position-hold
+use Rattle.position_hold.specs.Look as position_hold
 use Rattle.position_hold.specs.Look.{Words, stopped, words, fix_words, fix_reads}
 use Rattle.position_hold.specs.Theorems.{Act, call, look, state_after}
 use Rattle.position_hold.proofs.Reading.{FoundIn, first_reads_lem, look_kept}
@@ -31,14 +31,14 @@ module _ (b : Board) (reg : Regular b) where
   all_find st m inv (call c ∷ acts) =
       let s = serves b reg st m inv c in (s.0, all_find (perform b st c).after (fed m c (perform b st c).answer) s.1 acts)
   all_find st m inv (look space page clock hold ∷ acts) =
-      (look_finds st m inv space page, all_find (position-hold.look b st space page clock hold).after m (look_kept b reg m space page st inv clock hold) acts)
+      (look_finds st m inv space page, all_find (position_hold.look b st space page clock hold).after m (look_kept b reg m space page st inv clock hold) acts)
 
   pub invariant_after : (st : State) (m : Cacheless) → Invariant b st m → (acts : List Act) → Invariant b (state_after b st acts) (cacheless_after b st m acts)
   invariant_after st m inv [] = inv
   invariant_after st m inv (call c ∷ acts) =
       invariant_after (perform b st c).after (fed m c (perform b st c).answer) (serves b reg st m inv c).1 acts
   invariant_after st m inv (look space page clock hold ∷ acts) =
-      invariant_after (position-hold.look b st space page clock hold).after m (look_kept b reg m space page st inv clock hold) acts
+      invariant_after (position_hold.look b st space page clock hold).after m (look_kept b reg m space page st inv clock hold) acts
 
   demand3 : Demand3 b
   demand3 memory cache protections acts full wide long =

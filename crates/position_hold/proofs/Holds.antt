@@ -11,7 +11,7 @@ use Rattle.board.specs.declared.Board.{Board}
 use Rattle.manager.proofs.AcceptedLaws.{or_neither}
 use Rattle.machine.specs.State.{State}
 use Rattle.position_hold.specs.declared.Found.{Found}
-use Rattle.position_hold.specs.declared.Found.TheVariants as found-by
+use Rattle.position_hold.specs.declared.Found.TheVariants as found_by
 use Rattle.position_hold.specs.Fix.{Fix, Display, refused, blank, position, shortest_hold, longest_hold, hold_refused, is_outside, is_blank, judged}
 use Rattle.position_hold.specs.Theorems.{SameButBlank}
 use Rattle.position_hold.specs.Look.{Words, stopped, words, Reads, reads, fix_reads, fix_of, Look, looked, drawn_from, look, words_found}
@@ -47,10 +47,10 @@ module _ (b : Board) (st : State) (space page clock hold : ℕ) where
 
   -- by what the code has found
   module _ (e : hold_refused hold ≡ false) {found : Found} {after : State} (reads_are : reads (words_found found) after ≡ fix_reads b st space page) where
-    pub look_handed_on : {number : ℕ} → found ≡ found-by.Refused number → looked (refused number) after ≡ look b st space page clock hold
+    pub look_handed_on : {number : ℕ} → found ≡ found_by.Refused number → looked (refused number) after ≡ look b st space page clock hold
     look_handed_on known = ap (λ (f : Found). looked (drawn_from clock hold (words_found f)) after) (sym known) ∙ look_accepted e reads_are
 
-    pub look_judged : {fix : Fix} {display : Display} → found ≡ found-by.Fix fix → display ≡ judged clock hold fix → looked display after ≡ look b st space page clock hold
+    pub look_judged : {fix : Fix} {display : Display} → found ≡ found_by.Fix fix → display ≡ judged clock hold fix → looked display after ≡ look b st space page clock hold
     look_judged known shown =
         ap (λ (d : Display). looked d after) shown ∙ ap (λ (f : Found). looked (drawn_from clock hold (words_found f)) after) (sym known) ∙ look_accepted e reads_are
 

@@ -2,20 +2,20 @@
 use mathlib.Core.Path.{refl}
 use mathlib.Core.Logic.{inl, inr}
 use Rattle.machine.proofs.Opened.{opened}
-use Rattle.position_hold.specs.Look as position-hold
+use Rattle.position_hold.specs.Look as position_hold
 use Rattle.position_hold.specs.Fix as fix
 use Rattle.position_hold.specs.Rows.{EveryRowHolds, part_rows, beside_rows, begun_rows, LastSentRows}
 
 in-one-step : EveryRowHolds part_rows
-unfolding opened position-hold.look
+unfolding opened position_hold.look
 in-one-step = (refl, (refl, (refl, (refl, (refl, (refl, (refl, (refl, (refl, (refl, (refl, (refl, tt))))))))))))
 
 beside_others : EveryRowHolds beside_rows
-unfolding opened position-hold.look
+unfolding opened position_hold.look
 beside_others = (refl, (refl, (refl, (refl, (refl, (refl, (refl, (refl, (refl, (refl, (refl, (refl, tt))))))))))))
 
 word_by_word : EveryRowHolds begun_rows
-unfolding opened position-hold.look
+unfolding opened position_hold.look
 word_by_word = (refl, (refl, (refl, (refl, (refl, (refl, (refl, (refl, (refl, (refl, (refl, tt)))))))))))
 
 pub last_sent_rows : LastSentRows

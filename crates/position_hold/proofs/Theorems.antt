@@ -18,7 +18,7 @@ use Rattle.consistency.proofs.Invariant.{Invariant}
 use Rattle.consistency.proofs.Start.{start_invariant}
 use Rattle.position_hold.specs.Demand3.{LookFinds, cacheless_after}
 use Rattle.position_hold.specs.Fix.{blank}
-use Rattle.position_hold.specs.Look as position-hold
+use Rattle.position_hold.specs.Look as position_hold
 use Rattle.position_hold.specs.Look.{words, fix_words, fix_reads, Look}
 use Rattle.position_hold.specs.Sent.{mapped_frame, last_sent}
 use Rattle.position_hold.specs.Theorems.{Act, call, look, state_after, shown_at, accepted_in, Delivered, DeliveredThrough, LastDelivered, OneTransfer, SameButBlank, Shorter, InRange, with_holds, WholeRuns, DrawnDelivered, SameOnlyShorter, EveryBoard, Board01}
@@ -37,7 +37,7 @@ told_after : (b : Board) (st : State) (m : Cacheless) (calls : List Single) → 
 told_after b st m calls t [] = t
 told_after b st m calls t (call c ∷ acts) =
     told_after b (perform b st c).after (fed m c (perform b st c).answer) _ (told_call m calls t c (perform b st c).answer) acts
-told_after b st m calls t (look space page clock hold ∷ acts) = told_after b (position-hold.look b st space page clock hold).after m calls t acts
+told_after b st m calls t (look space page clock hold ∷ acts) = told_after b (position_hold.look b st space page clock hold).after m calls t acts
 
 -- where each of a look's words is found in a frame, the accepted calls have mapped the page to it, and the words are those last sent there
 delivered_in : (m : Cacheless) (calls : List Single) → Told m calls → (ws : List ℕ) (frame : Option ℕ)
@@ -97,7 +97,7 @@ module _ (b : Board) (reg : Regular b) where
   -- ---- two holds
 
   two_holds : (st : State) (space page clock one other : ℕ) → InRange one → InRange other
-      → let at : ℕ → Look = position-hold.look b st space page clock in
+      → let at : ℕ → Look = position_hold.look b st space page clock in
       (one ≤ other → SameButBlank (at one).display (at other).display) × ((at one).after ≡ (at other).after)
   two_holds st space page clock one other r s =
       let e₁ = look_accepted b st space page clock one (hold_accepted one r.0 r.1) refl in
@@ -112,7 +112,7 @@ module _ (b : Board) (reg : Regular b) where
   whole_runs st [] one other r = (refl, λ n h. same_as blank)
   whole_runs st (call c ∷ acts) one other r = whole_runs (perform b st c).after acts one other r
   whole_runs st (look space page clock hold ∷ acts) one other r =
-      let at : ℕ → Look = position-hold.look b st space page clock in
+      let at : ℕ → Look = position_hold.look b st space page clock in
       let rest-one : List Act = with_holds (λ n. one (suc n)) acts in
       let rest-other : List Act = with_holds (λ n. other (suc n)) acts in
       let t = two_holds st space page clock (one 0) (other 0) (r 0).0 (r 0).1 in

@@ -9,7 +9,7 @@ use Rattle.machine.specs.State.{State}
 use Rattle.consistency.specs.Cacheless.{Cacheless, start_cacheless, is_refused, fed}
 use Rattle.consistency.specs.Demand3 as of_calls
 use Rattle.consistency.specs.Demand3.{start_state, page_word, Finds, evictions, Occurs, NoneRefused, MemoryIs}
-use Rattle.position_hold.specs.Look as position-hold
+use Rattle.position_hold.specs.Look as position_hold
 use Rattle.position_hold.specs.Look.{Words, stopped, words, fix_words, fix_reads}
 use Rattle.position_hold.specs.Theorems.{Act, call, look, state_after}
 
@@ -25,12 +25,12 @@ AllFind b st m (call c ∷ acts) =
     (is_refused (perform b st c).answer ≡ false → Finds b m c (perform b st c).answer)
     × AllFind b (perform b st c).after (fed m c (perform b st c).answer) acts
 AllFind b st m (look space page clock hold ∷ acts) =
-    LookFinds m space page (fix_reads b st space page).words × AllFind b (position-hold.look b st space page clock hold).after m acts
+    LookFinds m space page (fix_reads b st space page).words × AllFind b (position_hold.look b st space page clock hold).after m acts
 
 abbrev pub cacheless_after : Board → State → Cacheless → List Act → Cacheless
 cacheless_after b st m [] = m
 cacheless_after b st m (call c ∷ acts) = cacheless_after b (perform b st c).after (fed m c (perform b st c).answer) acts
-cacheless_after b st m (look space page clock hold ∷ acts) = cacheless_after b (position-hold.look b st space page clock hold).after m acts
+cacheless_after b st m (look space page clock hold ∷ acts) = cacheless_after b (position_hold.look b st space page clock hold).after m acts
 
 pub record Holds (b : Board) (st : State) (m : Cacheless) (acts : List Act) : Type 0 where
   pub finds : AllFind b st m acts

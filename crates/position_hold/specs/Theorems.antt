@@ -11,7 +11,7 @@ use Rattle.machine.specs.State.{State, Single, Call}
 use Rattle.consistency.specs.Demand3.{start_state}
 use Rattle.position_hold.specs.Drawing.{Valid, Drawn}
 use Rattle.position_hold.specs.Fix.{Display, blank, position, shortest_hold, longest_hold}
-use Rattle.position_hold.specs.Look as position-hold
+use Rattle.position_hold.specs.Look as position_hold
 use Rattle.position_hold.specs.Look.{words, fix_words, fix_reads, fix_of, Look}
 use Rattle.position_hold.specs.Sent.{mapped_frame, last_sent, LeftBy, SentBy, accepted_and}
 
@@ -25,14 +25,14 @@ pub data Act : Type 0 where
 abbrev pub state_after : Board → State → List Act → State
 state_after b st [] = st
 state_after b st (call c ∷ acts) = state_after b (perform b st c).after acts
-state_after b st (look space page clock hold ∷ acts) = state_after b (position-hold.look b st space page clock hold).after acts
+state_after b st (look space page clock hold ∷ acts) = state_after b (position_hold.look b st space page clock hold).after acts
 
 -- what their looks display, in order
 abbrev pub displays : Board → State → List Act → List Display
 displays b st [] = []
 displays b st (call c ∷ acts) = displays b (perform b st c).after acts
 displays b st (look space page clock hold ∷ acts) =
-    let l : Look = position-hold.look b st space page clock hold in l.display ∷ displays b l.after acts
+    let l : Look = position_hold.look b st space page clock hold in l.display ∷ displays b l.after acts
 
 -- and what look n of them does, from 0; blank, where there are fewer
 abbrev pub shown_at : Board → State → List Act → ℕ → Display
@@ -42,7 +42,7 @@ shown_at b st acts n = get_or (displays b st acts) n blank
 abbrev pub accepted_in : Board → State → List Act → List Single → List Single
 accepted_in b st [] earlier = earlier
 accepted_in b st (call c ∷ acts) earlier = accepted_in b (perform b st c).after acts (accepted_and c (perform b st c).answer earlier)
-accepted_in b st (look space page clock hold ∷ acts) earlier = accepted_in b (position-hold.look b st space page clock hold).after acts earlier
+accepted_in b st (look space page clock hold ∷ acts) earlier = accepted_in b (position_hold.look b st space page clock hold).after acts earlier
 
 -- from the start, with any words in memory, cache and protections: a state, and the calls accepted up to it
 abbrev pub FromStart : Board → (State → List Single → Type 0) → Type 0
@@ -84,7 +84,7 @@ pub record SameButBlank (short long : Display) : Type 0 where
 abbrev pub Shorter : Board → Type 0
 Shorter b =
     (st : State) (space page clock short long : ℕ) → shortest_hold ≤ short → short ≤ long → long ≤ longest_hold
-    → let at : ℕ → Look = position-hold.look b st space page clock in
+    → let at : ℕ → Look = position_hold.look b st space page clock in
     SameButBlank (at short).display (at long).display × ((at short).after ≡ (at long).after)
 
 abbrev pub InRange : ℕ → Type 0
@@ -95,7 +95,7 @@ InRange hold = (shortest_hold ≤ hold) × (hold ≤ longest_hold)
 abbrev pub HeldFor : Board → Type 0
 HeldFor b =
     (st : State) (space page number second latitude longitude clock hold : ℕ) → InRange hold → Valid b st space page number second latitude longitude
-    → let shown : Display = (position-hold.look b st space page clock hold).display in
+    → let shown : Display = (position_hold.look b st space page clock hold).display in
     ((shown ≡ position latitude longitude) ↔ ((second ≤ clock) × (clock ≤ second + hold))) × ((shown ≡ blank) ↔ ((clock < second) ⊎ (second + hold < clock)))
 
 -- and over a whole run: the same acts with other holds, that of look n, from 0, being holds n
@@ -115,7 +115,7 @@ WholeRuns b =
 abbrev pub DrawnDelivered : Board → Type 0
 DrawnDelivered b =
     FromStart b
-    (λ st calls. (space page clock hold latitude longitude : ℕ) → (position-hold.look b st space page clock hold).display ≡ position latitude longitude
+    (λ st calls. (space page clock hold latitude longitude : ℕ) → (position_hold.look b st space page clock hold).display ≡ position latitude longitude
     → (ws : List ℕ)
     × ((fix_reads b st space page).words ≡ words ws)
     × ((fix_of ws).latitude ≡ latitude)

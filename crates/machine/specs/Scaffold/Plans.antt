@@ -2,9 +2,9 @@
 use Rattle.std.specs.Prelude.{Bool, true, false, not, cond, ◌&&◌, List, [], ◌∷◌, ◌++◌, ℕ, zero, suc, leb}
 use Rattle.board.specs.declared.Board.{Board}
 use Rattle.manager.specs.declared.Plan.{Plan}
-use Rattle.manager.specs.declared.Plan.TheVariants as step-plan
+use Rattle.manager.specs.declared.Plan.TheVariants as step_plan
 use Rattle.manager.specs.declared.ListPlan.{ListPlan}
-use Rattle.manager.specs.declared.ListPlan.TheVariants as list-plan
+use Rattle.manager.specs.declared.ListPlan.TheVariants as list_plan
 use Rattle.manager.specs.declared.Change.{Change}
 use Rattle.manager.specs.Calls.{planned, placed}
 use Rattle.manager.specs.Refusals.{Cause, ◌if◌, first_refusal, offset_cause, refusal_place}
@@ -31,15 +31,15 @@ earlier (suc m) (suc n) = cond (leb (refusal_place (suc m)) (refusal_place (suc 
 -- the manager's plan, with the machine's own refusal (0 for none): the earlier of two refusals, and a step or a place only where there is none
 unfoldable pub with_step : ℕ → Plan → Plan
 unfolding earlier
-with_step own (step-plan.Refused n) = step-plan.Refused (earlier own n)
-with_step zero (step-plan.Step change) = step-plan.Step change
-with_step (suc own) (step-plan.Step change) = step-plan.Refused (suc own)
+with_step own (step_plan.Refused n) = step_plan.Refused (earlier own n)
+with_step zero (step_plan.Step change) = step_plan.Step change
+with_step (suc own) (step_plan.Step change) = step_plan.Refused (suc own)
 
 unfoldable pub with_place : ℕ → ListPlan → ListPlan
 unfolding earlier
-with_place own (list-plan.Refused n) = list-plan.Refused (earlier own n)
-with_place zero (list-plan.Place place) = list-plan.Place place
-with_place (suc own) (list-plan.Place place) = list-plan.Refused (suc own)
+with_place own (list_plan.Refused n) = list_plan.Refused (earlier own n)
+with_place zero (list_plan.Place place) = list_plan.Place place
+with_place (suc own) (list_plan.Place place) = list_plan.Refused (suc own)
 
 -- a call's plan: the refusal of the first cause that applies, else the change, or the place
 abbrev pub plan_step : Board → State → Single → Change → Plan
@@ -55,9 +55,9 @@ begins false frame = begin_read frame
 
 -- the number of a plan that is a refusal, else 0
 abbrev pub refusal_of : Plan → ℕ
-refusal_of (step-plan.Refused n) = n
-refusal_of (step-plan.Step change) = 0
+refusal_of (step_plan.Refused n) = n
+refusal_of (step_plan.Step change) = 0
 
 abbrev pub place_refusal : ListPlan → ℕ
-place_refusal (list-plan.Refused n) = n
-place_refusal (list-plan.Place place) = 0
+place_refusal (list_plan.Refused n) = n
+place_refusal (list_plan.Place place) = 0

@@ -41,9 +41,9 @@ use Rattle.mapping.specs.contracts.Mapping as T
 use Rattle.mapping.proofs.Mapping.TheLaws as T'
 use Rattle.mapping.proofs.lent.Slice.{slice_of, Own}
 use Rattle.mapping.specs.contracts.lent.at as lent
-use Rattle.mapping.proofs.lent.at.Symbol as lent-def
+use Rattle.mapping.proofs.lent.at.Symbol as lent_def
 use Rattle.mapping.proofs.lent.at.Symbol.{name as #mapping·lent·at}
-use Rattle.mapping.proofs.lent.at.Met as lent-thm
+use Rattle.mapping.proofs.lent.at.Met as lent_thm
 use Rattle.lent_cases.proofs.lent.Lending.{Records, at_start_lem, lends, comes_back, calls_lent}
 use Rattle.lent_cases.specs.contracts.lent.at.Key.{name as #lent-cases·lent·at}
 use Rattle.lent_cases.specs.contracts.lent.at as at'
@@ -158,4 +158,4 @@ at-spec 𝓤 𝓛 𝓜 𝓡 =
     entered 𝓤 𝓛.H (triple_of 𝓛 at'.signature (at'.spec 𝓛 𝓜.mem 𝓡.run))
     (tables 𝓤 𝓛.H 𝓜 𝓡 code.env).C (tables 𝓤 𝓛.H 𝓜 𝓡 code.env).Λ #lent-cases·lent·at code.function (code.unfolded 𝓤 𝓛.H 𝓜 𝓡)
     (at_meets 𝓛 𝓜.mem 𝓡.run (tables_of 𝓤 𝓛.H 𝓜 (tables 𝓤 𝓛.H 𝓜 𝓡 code.env))
-    (cited 𝓤 𝓛.H (Lent 𝓛 𝓜.mem 𝓡.run) 𝓜 𝓡 code.env #mapping·lent·at lent-def.routine code.calls-mapping::lent::at (lent-thm.met 𝓤 𝓛 𝓜 𝓡)))
+    (cited 𝓤 𝓛.H (Lent 𝓛 𝓜.mem 𝓡.run) 𝓜 𝓡 code.env #mapping·lent·at lent_def.routine code.calls-mapping::lent::at (lent_thm.met 𝓤 𝓛 𝓜 𝓡)))

@@ -42,9 +42,9 @@ use Rattle.mapping.specs.contracts.Batch as R
 use Rattle.mapping.proofs.Batch.TheLaws as R'
 use Rattle.mapping.proofs.lent.Slice.{slice_of, Own}
 use Rattle.mapping.specs.contracts.lent.batch as lent
-use Rattle.mapping.proofs.lent.batch.Symbol as lent-def
+use Rattle.mapping.proofs.lent.batch.Symbol as lent_def
 use Rattle.mapping.proofs.lent.batch.Symbol.{name as #mapping·lent·batch}
-use Rattle.mapping.proofs.lent.batch.Met as lent-thm
+use Rattle.mapping.proofs.lent.batch.Met as lent_thm
 use Rattle.lent_cases.proofs.lent.Lending.{Records, at_start_lem, lends, comes_back, calls_lent}
 use Rattle.lent_cases.specs.contracts.lent.batch.Key.{name as #lent-cases·lent·batch}
 use Rattle.lent_cases.specs.contracts.lent.batch as batch'
@@ -159,4 +159,4 @@ batch-spec 𝓤 𝓛 𝓜 𝓡 =
     entered 𝓤 𝓛.H (triple_of 𝓛 batch'.signature (batch'.spec 𝓛 𝓜.mem 𝓡.run))
     (tables 𝓤 𝓛.H 𝓜 𝓡 code.env).C (tables 𝓤 𝓛.H 𝓜 𝓡 code.env).Λ #lent-cases·lent·batch code.function (code.unfolded 𝓤 𝓛.H 𝓜 𝓡)
     (batch_meets 𝓛 𝓜.mem 𝓡.run (tables_of 𝓤 𝓛.H 𝓜 (tables 𝓤 𝓛.H 𝓜 𝓡 code.env))
-    (cited 𝓤 𝓛.H (Lent 𝓛 𝓜.mem 𝓡.run) 𝓜 𝓡 code.env #mapping·lent·batch lent-def.routine code.calls-mapping::lent::batch (lent-thm.met 𝓤 𝓛 𝓜 𝓡)))
+    (cited 𝓤 𝓛.H (Lent 𝓛 𝓜.mem 𝓡.run) 𝓜 𝓡 code.env #mapping·lent·batch lent_def.routine code.calls-mapping::lent::batch (lent_thm.met 𝓤 𝓛 𝓜 𝓡)))

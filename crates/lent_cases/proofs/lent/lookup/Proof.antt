@@ -45,9 +45,9 @@ use Rattle.mapping.specs.contracts.Found as R
 use Rattle.mapping.proofs.Found.TheLaws as R'
 use Rattle.mapping.proofs.lent.Slice.{slice_of, Own}
 use Rattle.mapping.specs.contracts.lent.lookup as lent
-use Rattle.mapping.proofs.lent.lookup.Symbol as lent-def
+use Rattle.mapping.proofs.lent.lookup.Symbol as lent_def
 use Rattle.mapping.proofs.lent.lookup.Symbol.{name as #mapping·lent·lookup}
-use Rattle.mapping.proofs.lent.lookup.Met as lent-thm
+use Rattle.mapping.proofs.lent.lookup.Met as lent_thm
 use Rattle.lent_cases.proofs.lent.Lending.{Records, at_start_lem, lends, comes_back, calls_lent}
 use Rattle.lent_cases.specs.contracts.lent.lookup.Key.{name as #lent-cases·lent·lookup}
 use Rattle.lent_cases.specs.contracts.lent.lookup as lookup'
@@ -162,4 +162,4 @@ lookup-spec 𝓤 𝓛 𝓜 𝓡 =
     entered 𝓤 𝓛.H (triple_of 𝓛 lookup'.signature (lookup'.spec 𝓛 𝓜.mem 𝓡.run))
     (tables 𝓤 𝓛.H 𝓜 𝓡 code.env).C (tables 𝓤 𝓛.H 𝓜 𝓡 code.env).Λ #lent-cases·lent·lookup code.function (code.unfolded 𝓤 𝓛.H 𝓜 𝓡)
     (lookup_meets 𝓛 𝓜.mem 𝓡.run (tables_of 𝓤 𝓛.H 𝓜 (tables 𝓤 𝓛.H 𝓜 𝓡 code.env))
-    (cited 𝓤 𝓛.H (Lent 𝓛 𝓜.mem 𝓡.run) 𝓜 𝓡 code.env #mapping·lent·lookup lent-def.routine code.calls-mapping::lent::lookup (lent-thm.met 𝓤 𝓛 𝓜 𝓡)))
+    (cited 𝓤 𝓛.H (Lent 𝓛 𝓜.mem 𝓡.run) 𝓜 𝓡 code.env #mapping·lent·lookup lent_def.routine code.calls-mapping::lent::lookup (lent_thm.met 𝓤 𝓛 𝓜 𝓡)))

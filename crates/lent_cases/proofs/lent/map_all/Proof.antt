@@ -52,9 +52,9 @@ use Rattle.manager.specs.declared.Listed.{Listed}
 use Rattle.manager.specs.contracts.Listed as R
 use Rattle.manager.proofs.Listed.TheLaws as R'
 use Rattle.manager.specs.contracts.lent.map_all as lent
-use Rattle.manager.proofs.lent.map_all.Symbol as lent-def
+use Rattle.manager.proofs.lent.map_all.Symbol as lent_def
 use Rattle.manager.proofs.lent.map_all.Symbol.{name as #manager·lent·map-all}
-use Rattle.manager.proofs.lent.map_all.Met as lent-thm
+use Rattle.manager.proofs.lent.map_all.Met as lent_thm
 use Rattle.lent_cases.proofs.lent.Lending.{Records, at_start_lem, lends, comes_back}
 use Rattle.lent_cases.specs.contracts.lent.map_all.Key.{name as #lent-cases·lent·map-all}
 use Rattle.lent_cases.specs.contracts.lent.map_all as map-all'
@@ -253,4 +253,4 @@ map-all-spec 𝓤 𝓛 𝓜 𝓡 =
     entered 𝓤 𝓛.H (triple_of 𝓛 map-all'.signature (map-all'.spec 𝓛 𝓜.mem 𝓡.run))
     (tables 𝓤 𝓛.H 𝓜 𝓡 code.env).C (tables 𝓤 𝓛.H 𝓜 𝓡 code.env).Λ #lent-cases·lent·map-all code.function (code.unfolded 𝓤 𝓛.H 𝓜 𝓡)
     (map_all_meets 𝓛 𝓜.mem 𝓡.run (tables_of 𝓤 𝓛.H 𝓜 (tables 𝓤 𝓛.H 𝓜 𝓡 code.env))
-    (cited 𝓤 𝓛.H (Lent 𝓛 𝓜.mem 𝓡.run) 𝓜 𝓡 code.env #manager·lent·map-all lent-def.routine code.calls-manager::lent::map_all_lem (lent-thm.met 𝓤 𝓛 𝓜 𝓡)))
+    (cited 𝓤 𝓛.H (Lent 𝓛 𝓜.mem 𝓡.run) 𝓜 𝓡 code.env #manager·lent·map-all lent_def.routine code.calls-manager::lent::map_all_lem (lent_thm.met 𝓤 𝓛 𝓜 𝓡)))

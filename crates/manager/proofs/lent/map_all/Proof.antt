@@ -49,9 +49,9 @@ use Rattle.mapping.specs.contracts.Batch as B
 use Rattle.mapping.proofs.Batch.TheLaws as B'
 use Rattle.mapping.proofs.lent.Slice.{slice_of, Own}
 use Rattle.mapping.specs.contracts.lent.batch as batch'
-use Rattle.mapping.proofs.lent.batch.Symbol as batch-def
+use Rattle.mapping.proofs.lent.batch.Symbol as batch_def
 use Rattle.mapping.proofs.lent.batch.Symbol.{name as #mapping·lent·batch}
-use Rattle.mapping.proofs.lent.batch.Met as batch-thm
+use Rattle.mapping.proofs.lent.batch.Met as batch_thm
 use Rattle.manager.specs.declared.Listed.{Listed}
 use Rattle.manager.specs.Answers.{outcome}
 use Rattle.manager.specs.Batch.{batch_result, map_all_call}
@@ -60,9 +60,9 @@ use Rattle.manager.proofs.LentItems.{lent_items}
 use Rattle.manager.specs.contracts.Listed as R
 use Rattle.manager.proofs.Listed.TheLaws as R'
 use Rattle.manager.specs.contracts.calls.map_all as all
-use Rattle.manager.proofs.calls.map_all.Symbol as all-def
+use Rattle.manager.proofs.calls.map_all.Symbol as all_def
 use Rattle.manager.proofs.calls.map_all.Symbol.{name as #manager·calls·map-all}
-use Rattle.manager.proofs.calls.map_all.Met as all-thm
+use Rattle.manager.proofs.calls.map_all.Met as all_thm
 use Rattle.manager.specs.contracts.lent.map_all.Key.{name as #manager·lent·map-all}
 use Rattle.manager.specs.contracts.lent.map_all as lent
 use Rattle.manager.proofs.lent.map_all.Statement as stated
@@ -263,5 +263,5 @@ map-all-spec 𝓤 𝓛 𝓜 𝓡 =
     entered 𝓤 𝓛.H (triple_of 𝓛 lent.signature (lent.spec 𝓛 𝓜.mem 𝓡.run))
     (tables 𝓤 𝓛.H 𝓜 𝓡 code.env).C (tables 𝓤 𝓛.H 𝓜 𝓡 code.env).Λ #manager·lent·map-all code.function (code.unfolded 𝓤 𝓛.H 𝓜 𝓡)
     (map_all_meets 𝓛 𝓜.mem 𝓡.run (tables_of 𝓤 𝓛.H 𝓜 (tables 𝓤 𝓛.H 𝓜 𝓡 code.env))
-    (cited 𝓤 𝓛.H (Batched 𝓛 𝓜.mem 𝓡.run) 𝓜 𝓡 code.env #mapping·lent·batch batch-def.routine code.calls-mapping::lent::batch (batch-thm.met 𝓤 𝓛 𝓜 𝓡))
-    (cited 𝓤 𝓛.H (All 𝓛 𝓜.mem 𝓡.run) 𝓜 𝓡 code.env #manager·calls·map-all all-def.routine code.calls-manager::calls::map_all_lem (all-thm.met 𝓤 𝓛 𝓜 𝓡)))
+    (cited 𝓤 𝓛.H (Batched 𝓛 𝓜.mem 𝓡.run) 𝓜 𝓡 code.env #mapping·lent·batch batch_def.routine code.calls-mapping::lent::batch (batch_thm.met 𝓤 𝓛 𝓜 𝓡))
+    (cited 𝓤 𝓛.H (All 𝓛 𝓜.mem 𝓡.run) 𝓜 𝓡 code.env #manager·calls·map-all all_def.routine code.calls-manager::calls::map_all_lem (all_thm.met 𝓤 𝓛 𝓜 𝓡)))

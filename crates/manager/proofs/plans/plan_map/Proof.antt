@@ -3,7 +3,7 @@ use mathlib.Core.Path.{refl, sym, ap, ap₂, ◌∙◌}
 use borrow.Author.Rules.{rules}
 use Rattle.mapping.specs.declared.Seen.{Seen}
 use Rattle.mapping.proofs.Laws.{items_length}
-use Rattle.manager.specs.declared.ListPlan.TheVariants as list-plan
+use Rattle.manager.specs.declared.ListPlan.TheVariants as list_plan
 use Rattle.manager.specs.Calls.{placed}
 use Rattle.mapping.specs.Look.{find}
 use Rattle.manager.specs.Refusals.{map_causes}
@@ -21,7 +21,7 @@ returns c =
     let s = looked.before.before.before in
     let a = s.args in
     let refusal = c.before.map-refusal.ensures ∙ told_rest a.board a.list _ _ looked.look.ensures _ _ (told_mapping a.board a.m.space a.m.page a.m.frame a.m.rights) (items_length a.list _ s.well-formed.1.0) in
-    ap list-plan.Refused refusal ∙ placed_refused _ _ (λ z. c.if1.true (refusal ∙ z))
+    ap list_plan.Refused refusal ∙ placed_refused _ _ (λ z. c.if1.true (refusal ∙ z))
 
 returns-2 : tie.Need-returns-2
 unfolding map_causes
