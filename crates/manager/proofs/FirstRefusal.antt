@@ -80,7 +80,7 @@ none_of n (d ∷ ds) o e c m = go d.applies refl (λ f k. none_of (suc (refusal_
 first_of_lem : (m : ℕ) (cs : List Cause) → in_order m cs ≡ true → (n : ℕ) → first_refusal cs ≡ n → (n ≡ 0 → ⊥) → First cs n
 unfolding first_refusal
 first_of_lem m [] o n e h = absurd (h (sym e))
-first_of_lem m (d ∷ ds) o n e h = go d.applies refl (λ f. first_of_lem _ ds (rest_in_order m d ds o) n f h)
+first_of_lem m (d ∷ ds) o n e h = go d.applies refl (λ f. first_of_lem (suc (refusal_place d.number)) ds (rest_in_order m d ds o) n f h)
   where
     go : (t : Bool) → d.applies ≡ t → (first_refusal ds ≡ n → First ds n) → First (d ∷ ds) n
     go true z rest =

@@ -115,16 +115,16 @@ module _ (b : Board) (lent : Tables → ℕ) (items : List Mapping) (after : ℕ
         item = item_at items k
 
         list_is : (after k).list ≡ list
-        list_is = ap (λ (t : Tables). t.list) h.tables-are ∙ relisted_list b (after 0) list
+        list_is = ap (λ (t : Tables). t.list) h.tables_are ∙ relisted_list b (after 0) list
 
         records_are : (after k).records ≡ (after 0).records
-        records_are = ap (λ (t : Tables). t.records) h.tables-are ∙ relisted_records b (after 0) list
+        records_are = ap (λ (t : Tables). t.records) h.tables_are ∙ relisted_records b (after 0) list
 
         protections_long : length (after k).protections ≡ length (after 0).protections
-        protections_long = ap (λ (t : Tables). length t.protections) h.tables-are ∙ relisted_length b (after 0) list
+        protections_long = ap (λ (t : Tables). length t.protections) h.tables_are ∙ relisted_length b (after 0) list
 
         refusal_is : answer k ≡ mapping_refusal b (after k).list item
-        refusal_is = answered k ∙ ap (λ (x : ℕ). refusal_by x (mapping_refusal b (after k).list item)) h.still-clear
+        refusal_is = answered k ∙ ap (λ (x : ℕ). refusal_by x (mapping_refusal b (after k).list item)) h.still_clear
 
         pub answer_is : answer k ≡ refusal_at b (after 0).list items k
         unfolding refusal_at
@@ -134,27 +134,27 @@ module _ (b : Board) (lent : Tables → ℕ) (items : List Mapping) (after : ℕ
         unfolding list_after_items refusal_at refill
         more zero e =
             let taken = next k ∙ ap (λ (x : ℕ). taken_by b x (after k) item) e in
-            let w = kept (after k) h.still-clear in
+            let w = kept (after k) h.still_clear in
             let free = sym refusal_is ∙ e in
             let list-next : insert list item ≡ list_after_items b (after 0).list items (suc k) = ap (λ (x : ℕ). listed_by x list item) (sym e ∙ answer_is) in
             let count = subst (λ (l : MappingList). (insert l item).count ≡ suc l.count) list_is (one_count b (after k) w item free) in
-            let most = h.no-fewer in
+            let most = h.no_fewer in
             record {
               tables_are =
                   taken
                   ∙ (λ i. tables (insert (list_is i) item) (records_are i) (tabulate (protections_long i) (protection_at b (insert (list_is i) item) (records_are i))))
                   ∙ relisted_more b (after 0) (insert list item) (λ z. omega arith) refl
                   ∙ ap (relisted b (after 0)) list-next;
-              still_clear = again (after k) (after (suc k)) h.still-clear (subst⁻¹ (WellFormedTables b) taken (one_keeps b (after k) w item free));
+              still_clear = again (after k) (after (suc k)) h.still_clear (subst⁻¹ (WellFormedTables b) taken (one_keeps b (after k) w item free));
               no_fewer = subst (λ (l : MappingList). (after 0).list.count ≤ l.count) list-next (omega arith);
             }
         more (suc n) e =
             let taken = next k ∙ ap (λ (x : ℕ). taken_by b x (after k) item) e in
             let list-next : list ≡ list_after_items b (after 0).list items (suc k) = ap (λ (x : ℕ). listed_by x list item) (sym e ∙ answer_is) in
             record {
-              tables_are = taken ∙ h.tables-are ∙ ap (relisted b (after 0)) list-next;
-              still_clear = ap lent taken ∙ h.still-clear;
-              no_fewer = subst (λ (l : MappingList). (after 0).list.count ≤ l.count) list-next h.no-fewer;
+              tables_are = taken ∙ h.tables_are ∙ ap (relisted b (after 0)) list-next;
+              still_clear = ap lent taken ∙ h.still_clear;
+              no_fewer = subst (λ (l : MappingList). (after 0).list.count ≤ l.count) list-next h.no_fewer;
             }
 
       pub listed : (k : ℕ) → Listed k
@@ -172,7 +172,7 @@ module _ (b : Board) (lent : Tables → ℕ) (items : List Mapping) (after : ℕ
     singly = go (lent (after 0)) refl
       where
         go : (n : ℕ) → lent (after 0) ≡ n → listed_all b n (after 0) items ≡ batch_result (accepted 0 no_ops) (tabulate (length items) answer) (after (length items))
-        go zero e = sym (λ i. batch_result (accepted 0 no_ops) (tabulate (length items) (λ k. listed_answer e k i)) ((listed e (length items)).tables-are i))
+        go zero e = sym (λ i. batch_result (accepted 0 no_ops) (tabulate (length items) (λ k. listed_answer e k i)) ((listed e (length items)).tables_are i))
         go (suc n) e = sym (λ i. batch_result (accepted 0 no_ops) (tabulate (length items) (λ k. broken_answer n e k i)) (broken_after n e (length items) i))
 
 -- ---- the manager's calls

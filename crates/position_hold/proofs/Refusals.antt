@@ -46,7 +46,7 @@ module _ (b : Board) (reg : Regular b) (space page : ℕ) where
   unfolding causes first_refusal
   read_clear st k r h =
       let w = r.store_kept in
-      rw (r.tables_kept.0, store.lengths_right_lem b st.store w.memory_length w.words_length w.tags_length, r.tables_kept.1, w.tags_rules, r.in-space, lt-leb b.page k h, r.mapped, r.unbarred)
+      rw (r.tables_kept.0, store.lengths_right_lem b st.store w.memory_length w.words_length w.tags_length, r.tables_kept.1, w.tags_rules, r.in_space, lt-leb b.page k h, r.mapped, r.unbarred)
 
   first_ready : (st : State) (k : ℕ) → first_refusal (causes b st (read space page k)) ≡ 0 → Ready st
   unfolding causes
@@ -61,7 +61,7 @@ module _ (b : Board) (reg : Regular b) (space page : ℕ) where
       record {
         tables_kept = l.tables_kept;
         store_kept = l.store_kept;
-        in_space = r.in-space;
+        in_space = r.in_space;
         mapped = subst⁻¹ (λ (list : MappingList). (unmapped_cause list space page).applies ≡ false) l.list_left r.mapped;
         unbarred =
             subst⁻¹ (λ (list : MappingList). (busy_cause (accept b st (read space page k)).after.tables.records (listed_mapping list space page).frame (table.read (colour_of b page))).applies ≡ false)
@@ -85,7 +85,7 @@ module _ (b : Board) (reg : Regular b) (space page : ℕ) where
       record {
         found = _;
         after = _;
-        reads_are = reads_next b st space page k before.reads-are (step_accepted b before.after (read space page k) e);
+        reads_are = reads_next b st space page k before.reads_are (step_accepted b before.after (read space page k) e);
         ready = next_ready before.after k before.ready e;
       }
 
@@ -119,5 +119,5 @@ look_refusals b reg room st space page clock hold = go (hold_refused hold) (firs
         inr (inr (
           et,
           no_cause b st (single (read space page 0)) en,
-          (a.found, a.after, sym a.reads-are, sym (look_accepted b st space page clock hold et a.reads-are)),
+          (a.found, a.after, sym a.reads_are, sym (look_accepted b st space page clock hold et a.reads_are)),
         ))
