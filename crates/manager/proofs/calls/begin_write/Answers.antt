@@ -1,0 +1,14 @@
+-- `manager::begin_write` meets its contract.
+use mathlib.Core.Path.{refl, ap, ◌∙◌}
+use borrow.Author.Rules.{rules}
+use Rattle.board.specs.Board.{board01}
+use Rattle.board.proofs.Geometry.{board01_regular}
+use Rattle.manager.specs.Calls.{step_result}
+use Rattle.manager.proofs.calls.begin_write.Goals as goal
+
+pub plan_begin-plan-requires : goal.plan_begin-plan-requires
+plan_begin-plan-requires c = board01_regular
+
+pub returns : goal.returns
+returns c =
+    c.carry_out.ensures board01 refl ∙ ap (step_result board01 _) c.plan_begin-plan.ensures

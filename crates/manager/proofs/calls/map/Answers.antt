@@ -1,0 +1,20 @@
+-- `manager::map` meets its contract.
+use mathlib.Core.Path.{refl, sym, ap, ◌∙◌}
+use borrow.Author.Rules.{rules}
+use Rattle.board.specs.Board.{board01}
+use Rattle.board.proofs.Geometry.{board01_regular}
+use Rattle.manager.specs.Answers.{accepted}
+use Rattle.manager.specs.Calls.{no_ops, call_result}
+use Rattle.manager.proofs.calls.map.Goals as goal
+
+pub plan_map-plan-requires : goal.plan_map-plan-requires
+plan_map-plan-requires c = board01_regular
+
+pub returns-in-Refused : goal.returns-in-Refused
+returns-in-Refused c =
+    rw (c.refused_as.ensures.0, c.refused_as.ensures.1, sym c.plan_map-plan.ensures ∙ c.in-Refused.is)
+
+pub returns-in-Place : goal.returns-in-Place
+returns-in-Place c =
+    rw (c.listed_as.ensures.0, c.listed_as.ensures.1, sym c.plan_map-plan.ensures ∙ c.in-Place.is)
+    (ap (call_result (accepted 0 no_ops)) (c.commit_map.ensures board01 refl))

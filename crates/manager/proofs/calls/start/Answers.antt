@@ -1,0 +1,6 @@
+-- `manager::start` meets its contract.
+use borrow.Author.Rules.{rules}
+use Rattle.manager.proofs.calls.start.Goals as goal
+
+pub returns : goal.returns
+returns c = c.start.ensures

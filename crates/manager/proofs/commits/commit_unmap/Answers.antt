@@ -1,0 +1,8 @@
+-- `manager::commits::commit_unmap` meets its contract.
+use borrow.Author.Rules.{rules}
+use Rattle.manager.specs.Tables.{refill}
+use Rattle.manager.proofs.commits.commit_unmap.Goals as goal
+
+pub returns : goal.returns
+unfolding refill
+returns c b e = rw (c.refill.ensures b e, c.remove-next.ensures)

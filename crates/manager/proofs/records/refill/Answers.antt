@@ -1,0 +1,70 @@
+-- `records.refill` meets its contract.
+use mathlib.Core.Path.{◌≡◌, refl, sym, ◌∙◌}
+use mathlib.Core.Bool.{cond}
+use mathlib.Core.Logic.{⊎_elim}
+use mathlib.Core.List.{List}
+use Prim.Native.Nat.{ℕ, ◌≤◌, ◌<◌, ◌-◌}
+use native.Mathlib.Omega.{arith}
+use lib.ListN.{length, get_or, length-set, get_or-eq_default}
+use lib.Dec.{ltb}
+use borrow.Author.Rules.{rules}
+use borrow.Author.Tests.{ltb-true, ltb-false, lt-ltb, le-ltb}
+use Rattle.board.specs.declared.Board.{Board}
+use Rattle.mapping.specs.declared.Mapping.{Mapping}
+use Rattle.mapping.specs.declared.MappingList.{MappingList}
+use Rattle.mapping.specs.Entry.{zero_mapping, mapping_at}
+use Rattle.mapping.proofs.Laws.{items_length}
+use Rattle.mapping.proofs.Tests.{lt_or_le}
+use Rattle.manager.specs.Tables.{protection, mapping_state, instructions_of, protection_at}
+use Rattle.manager.proofs.Laws.{set_more, is_tabulate}
+use Rattle.manager.proofs.records.refill.Invariants.{Filled, cleared}
+use Rattle.manager.proofs.records.refill.Goals as goal
+
+-- the protection of the mapping at a listed place, and of no mapping
+listed : (b : Board) (l : MappingList) (rs : List ℕ) (i p : ℕ) (m : Mapping) → i < l.count → m ≡ mapping_at l i → p ≡ protection (mapping_state b rs m) (instructions_of b rs m) m.rights
+    → p ≡ protection_at b l rs i
+unfolding protection_at
+listed b l rs i p m lt at e = rw (lt-ltb _ _ lt, ← at) e
+
+unlisted : (b : Board) (l : MappingList) (rs : List ℕ) (i : ℕ) → l.count ≤ i → 0 ≡ protection_at b l rs i
+unfolding protection_at
+unlisted b l rs i le = rw (le-ltb _ _ le)
+
+cleared_below : (ps : List ℕ) (i k : ℕ) → k < i → cleared ps i k ≡ get_or ps k 0
+unfolding cleared
+cleared_below ps i k h = rw (lt-ltb k i h)
+
+cleared_from : (ps : List ℕ) (i k : ℕ) → i ≤ k → cleared ps i k ≡ 0
+unfolding cleared
+cleared_from ps i k h = rw (le-ltb k i h)
+
+pub loop-i-init : goal.loop-i-init
+loop-i-init c = (refl, λ b e k l. absurd (omega arith))
+
+pub loop-i-preserved : goal.loop-i-preserved
+loop-i-preserved c =
+    let long = items_length c.args.list _ c.well_formed.1.0 in (
+      simp length-set c.loop-i.invariant.0,
+      λ b e. set_more c.loop-i.protections c.loop-i.i _ _ (omega arith) (c.loop-i.invariant.1 b e)
+          (listed b c.args.list _ _ _ _ (ltb-true _ _ c.if-i-count.true-raw)
+          (⊎_elim (λ w. w.2) (λ w. w.2 ∙ w.1.ensures ∙ sym (get_or-eq_default c.args.list.items zero_mapping (omega arith))) c.if-i-lt-CAPACITY.branch)
+          (c.protection_of.ensures b e)),
+    )
+
+pub loop-i-2-init : goal.loop-i-2-init
+loop-i-2-init c = (refl, omega arith, λ k h. sym (cleared_below _ _ k h))
+
+pub loop-i-2-preserved : goal.loop-i-2-preserved
+loop-i-2-preserved c =
+    (simp length-set c.loop-i-2.invariant.0, omega arith, set_more c.loop-i-2.protections c.loop-i-2.i 0 _ (omega arith) c.loop-i-2.invariant.2 (sym (cleared_from _ _ _ c.loop-i-2.invariant.1)))
+
+pub shape_of-protections : goal.shape_of-protections
+shape_of-protections c = c.loop-i-2.invariant.0 ∙ c.loop-i.invariant.0
+
+pub returns : goal.returns
+returns c b e =
+    is_tabulate _ _ _ (c.loop-i-2.invariant.0 ∙ c.loop-i.invariant.0)
+    (λ k h. c.loop-i-2.invariant.2 k (omega arith)
+    ∙ ⊎_elim (λ o. cleared_below _ _ k o ∙ c.loop-i.invariant.1 b e k o)
+    (λ o. cleared_from _ _ k o ∙ unlisted b _ _ k (⊎_elim (λ w. let n : c.args.list.count ≤ c.loop-i.i = ltb-false _ _ w.1.left in omega arith) (λ w. absurd (omega arith)) c.loop-i-test.branch))
+    (lt_or_le k c.loop-i.i))

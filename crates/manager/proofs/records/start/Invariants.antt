@@ -1,0 +1,15 @@
+-- `manager::records::start` meets its contract.
+use mathlib.Core.Path.{◌≡◌, refl}
+use Prim.Native.Nat.{ℕ, ◌<◌, ◌-◌}
+use native.Mathlib.Omega.{arith}
+use borrow.Author.Rules.{rules}
+use lib.ListN.{length, get_or, length-set}
+use Rattle.manager.specs.Tables.{start_word}
+use Rattle.manager.proofs.Laws.{set_more, is_tabulate}
+use Rattle.manager.proofs.records.start.Given as goal
+
+abbrev pub invariant-loop-at : goal.invariant-loop-at
+invariant-loop-at l = (length l.records ≡ length l.initial.records) × ((k : ℕ) → k < l.at → get_or l.records k 0 ≡ start_word l.colours k)
+
+abbrev pub decreases-loop-at : goal.decreases-loop-at
+decreases-loop-at l = length l.initial.records - l.at

@@ -1,0 +1,16 @@
+-- `manager::refusals::place` meets its contract.
+use mathlib.Core.Path.{◌≡◌, ◌∙◌}
+use Prim.Native.Nat.{ℕ, ◌≤◌, ◌<◌, ◌-◌}
+use borrow.Author.Count.{below_more}
+use borrow.Author.Rules.{rules}
+use native.Mathlib.Omega.{arith}
+use lib.ListN.{length, get_or}
+use Rattle.manager.specs.Refusals.{refusal_order, refusal_place}
+use Rattle.manager.proofs.FirstRefusal.{place_in_at, place_in_none}
+use Rattle.manager.proofs.refusals.place.Given as goal
+
+abbrev pub invariant-loop-i : goal.invariant-loop-i
+invariant-loop-i l = (l.i ≤ length refusal_order) × ((k : ℕ) → k < l.i → get_or refusal_order k 0 ≡ l.number → ⊥)
+
+abbrev pub decreases-loop-i : goal.decreases-loop-i
+decreases-loop-i l = length refusal_order - l.i
