@@ -23,6 +23,7 @@ use Rattle.manager.proofs.BatchLaws.{listed_accepted, listed_refused, refusal_mo
 use Rattle.manager.proofs.Laws.{set_more, is_tabulate}
 use Rattle.manager.proofs.batch.insert_all.Invariants.{Kept}
 use Rattle.manager.proofs.batch.insert_all.Goals as goal
+use Rattle.manager.proofs.batch.insert_all.Goals.{then-refusal-eq0, else-refusal-eq0}
 
 -- so does the list with a mapping that it does not refuse
 kept_more : (b : Board) (l : MappingList) (m : Mapping) → Kept b l → mapping_refusal b l m ≡ 0 → Kept b (insert l m)
@@ -50,10 +51,9 @@ loop-i-preserved c =
     let place = ap (λ (x : Seen). insert_at l.next x.place m) told in (
       simp length-set l.invariant.0,
       omega arith,
-      list_more _ _ _ l.i l.invariant.2 item refusal (let h = c.if-refusal-eq0.branch in ?),
+      list_more _ _ _ l.i l.invariant.2 item refusal (elim c.if-refusal-eq0.branch [ then-refusal-eq0 w ↦ w.next-is ∙ w.insert_at-next.ensures ∙ place ∙ listed_accepted _ _ _ w.if-refusal-eq0.true | else-refusal-eq0 w ↦ w.next-is ∙ listed_refused _ _ _ w.if-refusal-eq0.false ]),
       set_more l.answers l.i _ _ (omega arith) l.invariant.3 (refusal_more _ _ _ l.i l.invariant.2 item refusal),
-      ⊎_elim (λ w. subst⁻¹ (Kept c.args.board) (w.2 ∙ w.1.ensures ∙ place) (kept_more c.args.board l.next m l.invariant.4 (sym refusal ∙ w.0.taken)))
-          (λ w. subst⁻¹ (Kept c.args.board) w.1 l.invariant.4) c.if-refusal-eq0.branch,
+      elim c.if-refusal-eq0.branch [ then-refusal-eq0 w ↦ subst⁻¹ (Kept c.args.board) (w.next-is ∙ w.insert_at-next.ensures ∙ place) (kept_more c.args.board l.next m l.invariant.4 (sym refusal ∙ w.if-refusal-eq0.true)) | else-refusal-eq0 w ↦ subst⁻¹ (Kept c.args.board) w.next-is l.invariant.4 ],
     )
 
 pub shape_of-answers : goal.shape_of-answers

@@ -14,6 +14,7 @@ use Rattle.manager.specs.Tables.{tables, tabulate}
 use Rattle.manager.proofs.BatchLaws.{whole_clear, relisted_same, relisted_more, made_refused, made_lent, made_listed}
 use Rattle.manager.proofs.Laws.{length_tabulate}
 use Rattle.manager.proofs.batch.map_batch.Goals as goal
+use Rattle.manager.proofs.batch.map_batch.Goals.{then-next-list, else-next-list}
 
 -- the whole is not refused, by the items as they are counted
 accepted-whole : (c : goal.After-listed_as) → let a = c.args in whole_refusal a.lent (length (items_of a.batch)) (length a.answers.now) ≡ 0
@@ -52,7 +53,7 @@ insert_all-next-requires c =
     (fits.2 ∙ count, omega arith, c.requires.1 c.if-lent-ne0.false)
 
 pub shape_of-protections : goal.shape_of-protections
-shape_of-protections c = ⊎_elim (λ w. ap length w.5 ∙ ap length (w.2.ensures c.args.board refl) ∙ length_tabulate _ _) (λ w. ap length w.1) c.if-next-list.branch
+shape_of-protections c = elim c.if-next-list.branch [ then-next-list w ↦ ap length w.protections-is ∙ ap length (w.refill.ensures c.args.board refl) ∙ length_tabulate _ _ | else-next-list w ↦ ap length w.protections-is ]
 
 pub returns : goal.returns
 returns c =
@@ -63,8 +64,8 @@ returns c =
     let t = tables a.list a.records.now a.protections.now in
     let next = c.insert_all-next.result in
     made_listed _ _ _ _ _ (accepted-whole-3 c) c.if-lent-ne0.false c.listed_as-2.ensures.0 given
-    (⊎_elim
-    (λ w. ap₂ (λ (l : MappingList) (ps : List ℕ). tables l a.records.now ps) c.listed_as-2.ensures.1 w.5 ∙ relisted_more a.board t next w.0.taken (w.2.ensures a.board refl))
-    (λ w. ap₂ (λ (l : MappingList) (ps : List ℕ). tables l a.records.now ps) c.listed_as-2.ensures.1 w.1 ∙ relisted_same a.board t next w.0.left)
-    c.if-next-list.branch
+    (elim c.if-next-list.branch [
+      | then-next-list w ↦ ap₂ (λ (l : MappingList) (ps : List ℕ). tables l a.records.now ps) c.listed_as-2.ensures.1 w.protections-is ∙ relisted_more a.board t next w.if-next-list.true (w.refill.ensures a.board refl)
+      | else-next-list w ↦ ap₂ (λ (l : MappingList) (ps : List ℕ). tables l a.records.now ps) c.listed_as-2.ensures.1 w.protections-is ∙ relisted_same a.board t next w.if-next-list.false
+    ]
     ∙ ap (relisted a.board t) list)

@@ -13,22 +13,19 @@ use Rattle.manager.proofs.CauseLaws.{list_keeps, told_tables_lem, tables_clear}
 use Rattle.manager.proofs.Singly.{map_all_made}
 use Rattle.manager.proofs.calls.map_all.Goals as goal
 
--- the refusal in it
-lent : (c : goal.After-map_batch-arg-2-1) → c.tables_refusal-lent.result ≡ first_refusal (table_causes board01 ((tables c.args.list c.args.records.now c.args.protections.now)))
-lent c =
-    c.tables_refusal-lent.ensures ∙ told_tables_lem _ c.args.list _ _ (items_length c.args.list _ c.well_formed.0) c.keeps_rules-kept.ensures
-
 pub tables_refusal-lent-requires : goal.tables_refusal-lent-requires
 tables_refusal-lent-requires c = board01_regular
 
 pub map_batch-requires : goal.map_batch-requires
 map_batch-requires c =
-    let t = (tables c.args.list c.args.records.now c.args.protections.now) in
-    (board01_regular, λ z. list_keeps board01 t (tables_clear board01 t (sym (lent c) ∙ z)).1)
+    let t = tables c.args.list c.args.records.now c.args.protections.now in
+    let lent : c.tables_refusal-lent.result ≡ first_refusal (table_causes board01 (tables c.args.list c.args.records.now c.args.protections.now)) = c.tables_refusal-lent.ensures ∙ told_tables_lem _ c.args.list _ _ (items_length c.args.list _ c.well_formed.0) c.keeps_rules-kept.ensures in
+    (board01_regular, λ z. list_keeps board01 t (tables_clear board01 t (sym lent ∙ z)).1)
 
 pub returns : goal.returns
 returns c =
     let a = c.args in
+    let lent : c.tables_refusal-lent.result ≡ first_refusal (table_causes board01 (tables c.args.list c.args.records.now c.args.protections.now)) = c.tables_refusal-lent.ensures ∙ told_tables_lem _ c.args.list _ _ (items_length c.args.list _ c.well_formed.0) c.keeps_rules-kept.ensures in
     c.map_batch.ensures
-    ∙ ap (λ (n : ℕ). batch_made board01 n ((tables c.args.list c.args.records.now c.args.protections.now)) (items_of a.batch) a.answers.now) (lent c.before.before.before.before.before)
-    ∙ map_all_made board01 ((tables c.args.list c.args.records.now c.args.protections.now)) (items_of a.batch) a.answers.now
+    ∙ ap (λ (n : ℕ). batch_made board01 n (tables c.args.list c.args.records.now c.args.protections.now) (items_of a.batch) a.answers.now) lent
+    ∙ map_all_made board01 (tables c.args.list c.args.records.now c.args.protections.now) (items_of a.batch) a.answers.now

@@ -19,6 +19,7 @@ use Rattle.manager.specs.Tables.{protection, mapping_state, instructions_of, pro
 use Rattle.manager.proofs.Laws.{set_more, is_tabulate}
 use Rattle.manager.proofs.records.refill.Invariants.{Filled, cleared}
 use Rattle.manager.proofs.records.refill.Goals as goal
+use Rattle.manager.proofs.records.refill.Goals.{then-i-lt-CAPACITY, else-i-lt-CAPACITY, then-loop-i-test+else-i-count, else-loop-i-test}
 
 -- the protection of the mapping at a listed place, and of no mapping
 listed : (b : Board) (l : MappingList) (rs : List ℕ) (i p : ℕ) (m : Mapping) → i < l.count → m ≡ mapping_at l i → p ≡ protection (mapping_state b rs m) (instructions_of b rs m) m.rights
@@ -47,7 +48,7 @@ loop-i-preserved c =
       simp length-set c.loop-i.invariant.0,
       λ b e. set_more c.loop-i.protections c.loop-i.i _ _ (omega arith) (c.loop-i.invariant.1 b e)
           (listed b c.args.list _ _ _ _ (ltb-true _ _ c.if-i-count.true-raw)
-          (⊎_elim (λ w. w.2) (λ w. w.2 ∙ w.1.ensures ∙ sym (get_or-eq_default c.args.list.items zero_mapping (omega arith))) c.if-i-lt-CAPACITY.branch)
+          (elim c.if-i-lt-CAPACITY.branch [ then-i-lt-CAPACITY w ↦ w.m-is | else-i-lt-CAPACITY w ↦ w.m-is ∙ w.zero-m.ensures ∙ sym (get_or-eq_default c.args.list.items zero_mapping (omega arith)) ])
           (c.protection_of.ensures b e)),
     )
 
@@ -66,5 +67,5 @@ returns c b e =
     is_tabulate _ _ _ (c.loop-i-2.invariant.0 ∙ c.loop-i.invariant.0)
     (λ k h. c.loop-i-2.invariant.2 k (omega arith)
     ∙ ⊎_elim (λ o. cleared_below _ _ k o ∙ c.loop-i.invariant.1 b e k o)
-    (λ o. cleared_from _ _ k o ∙ unlisted b _ _ k (⊎_elim (λ w. let n : c.args.list.count ≤ c.loop-i.i = ltb-false _ _ w.1.left in omega arith) (λ w. absurd (omega arith)) c.loop-i-test.branch))
+    (λ o. cleared_from _ _ k o ∙ unlisted b _ _ k (elim c.loop-i-test.branch [ then-loop-i-test+else-i-count w ↦ omega arith | else-loop-i-test w ↦ absurd (omega arith) ]))
     (lt_or_le k c.loop-i.i))
