@@ -99,12 +99,12 @@ at_least k n false rest l h = h
 later : (j k : ℕ) {n : ℕ} → j ≤ k → AtLeast k n → AtLeast j n
 later j k l h z = let q = h z in omega arith
 
-in-order-least : (n : ℕ) (cs : List Cause) → in_order n cs ≡ true → AtLeast n (first_refusal cs)
+in_order_least : (n : ℕ) (cs : List Cause) → in_order n cs ≡ true → AtLeast n (first_refusal cs)
 unfolding first_refusal
-in-order-least n [] o = λ z. absurd (z refl)
-in-order-least n (c ∷ cs) o =
+in_order_least n [] o = λ z. absurd (z refl)
+in_order_least n (c ∷ cs) o =
     let l : n ≤ refusal_place c.number = from_here n c cs o in
-    at_least n c.number c.applies _ l (later n (suc (refusal_place c.number)) (omega arith) (in-order-least _ cs (rest_in_order n c cs o)))
+    at_least n c.number c.applies _ l (later n (suc (refusal_place c.number)) (omega arith) (in_order_least (suc (refusal_place c.number)) cs (rest_in_order n c cs o)))
 
 -- two lists in one, in the order of their places: a cause with those after it among others, then each
 abbrev insert : Cause → List Cause → (List Cause → List Cause) → List Cause → List Cause
@@ -137,7 +137,7 @@ inserted : (c : Cause) (cs : List Cause) (rest : List Cause → List Cause) (m :
 unfolding first_refusal
 inserted c cs rest m oc ih n [] od = earlier_none (first_refusal (c ∷ cs))
 inserted c cs rest m oc ih n (d ∷ ds) od =
-    test (leb (refusal_place c.number) (refusal_place d.number)) refl (ih n (d ∷ ds) od) (inserted c cs rest m oc ih _ ds (rest_in_order n d ds od))
+    test (leb (refusal_place c.number) (refusal_place d.number)) refl (ih n (d ∷ ds) od) (inserted c cs rest m oc ih (suc (refusal_place d.number)) ds (rest_in_order n d ds od))
   where
     test : (t : Bool) → leb (refusal_place c.number) (refusal_place d.number) ≡ t
         → first_refusal (rest (d ∷ ds)) ≡ earlier (first_refusal cs) (first_refusal (d ∷ ds))
@@ -145,12 +145,12 @@ inserted c cs rest m oc ih n (d ∷ ds) od =
         → first_refusal (cond t (c ∷ rest (d ∷ ds)) (d ∷ insert c cs rest ds)) ≡ earlier (first_refusal (c ∷ cs)) (first_refusal (d ∷ ds))
     test true e first second =
         let l = leb-true (refusal_place c.number) (refusal_place d.number) e in
-        let after = later (refusal_place c.number) _ (omega arith) (in-order-least _ ds (rest_in_order n d ds od)) in
+        let after = later (refusal_place c.number) _ (omega arith) (in_order_least _ ds (rest_in_order n d ds od)) in
         ap (λ (k : ℕ). cond c.applies c.number k) first
         ∙ cause_first c.number c.applies _ _ (is_numbered m c cs oc) (at_least _ d.number d.applies _ l after)
     test false e first second =
         let l : refusal_place d.number < refusal_place c.number = leb-false (refusal_place c.number) (refusal_place d.number) e in
-        let after = later (suc (refusal_place d.number)) _ (omega arith) (in-order-least _ cs (rest_in_order m c cs oc)) in
+        let after = later (suc (refusal_place d.number)) _ (omega arith) (in_order_least (suc (refusal_place c.number)) cs (rest_in_order m c cs oc)) in
         ap (λ (k : ℕ). cond d.applies d.number k) second
         ∙ cause_second d.number d.applies _ _ (is_numbered n d ds od) (at_least _ c.number c.applies _ l after)
 
@@ -159,7 +159,7 @@ merged : (m n : ℕ) (cs ds : List Cause) → in_order m cs ≡ true → in_orde
     → first_refusal (merge cs ds) ≡ earlier (first_refusal cs) (first_refusal ds)
 unfolding first_refusal earlier
 merged m n [] ds oc od = refl
-merged m n (c ∷ cs) ds oc od = inserted c cs (merge cs) m oc (λ k es oe. merged _ k cs es (rest_in_order m c cs oc) oe) n ds od
+merged m n (c ∷ cs) ds oc od = inserted c cs (merge cs) m oc (λ k es oe. merged (suc (refusal_place c.number)) k cs es (rest_in_order m c cs oc) oe) n ds od
 
 -- ---- a call's refusal
 
@@ -195,7 +195,7 @@ module _ (b : Board) (st : State) (call : Single) (mine managers : List Cause) (
   unfolding first_refusal causes store_causes table_causes
   causes_merged =
       lent (lengths_right b st.tables) (rules_kept b st.tables) (store_lengths b st.store) (buffer_right b call) (tags_keep_rules b st.store.tags) _ _ _
-      (ap first_refusal own ∙ merged own_place own_place mine managers om on) (in-order-least own_place mine om) (in-order-least own_place managers on)
+      (ap first_refusal own ∙ merged own_place own_place mine managers om on) (in_order_least own_place mine om) (in_order_least own_place managers on)
 
   -- a plan that stands beside the machine's own refusal is the call's
   pub step_merged : (change : Change) {refusal : ℕ} {plan with : Plan} → with ≡ with_step refusal plan

@@ -6,9 +6,9 @@ use Rattle.position_hold.specs.Look as position_hold
 use Rattle.position_hold.specs.Fix as fix
 use Rattle.position_hold.specs.Rows.{EveryRowHolds, part_rows, beside_rows, begun_rows, LastSentRows}
 
-in-one-step : EveryRowHolds part_rows
+in_one_step : EveryRowHolds part_rows
 unfolding opened position_hold.look
-in-one-step = (refl, (refl, (refl, (refl, (refl, (refl, (refl, (refl, (refl, (refl, (refl, (refl, tt))))))))))))
+in_one_step = (refl, (refl, (refl, (refl, (refl, (refl, (refl, (refl, (refl, (refl, (refl, (refl, tt))))))))))))
 
 beside_others : EveryRowHolds beside_rows
 unfolding opened position_hold.look
@@ -19,4 +19,4 @@ unfolding opened position_hold.look
 word_by_word = (refl, (refl, (refl, (refl, (refl, (refl, (refl, (refl, (refl, (refl, (refl, tt)))))))))))
 
 pub last_sent_rows : LastSentRows
-last_sent_rows = (in-one-step, beside_others, word_by_word, (inl refl, inr (refl, inr (refl, inl refl)), (refl, (refl, tt))))
+last_sent_rows = (in_one_step, beside_others, word_by_word, (inl refl, inr (refl, inr (refl, inl refl)), (refl, (refl, tt))))

@@ -7,14 +7,10 @@ use Rattle.manager.specs.Refusals.{first_refusal, offset_cause}
 use Rattle.manager.proofs.CauseLaws.{or_else_is}
 use Rattle.cache.specs.Store.{store}
 use Rattle.machine.specs.Scaffold.Plans.{store_causes, access_causes}
-use Rattle.machine.proofs.plans.access_refusal.Statement.{statement}
-use Rattle.machine.proofs.plans.access_refusal.Tie as tie
+use Rattle.machine.proofs.plans.access_refusal.Goals as goal
 
-returns : tie.Need-returns
+pub returns : goal.returns
 unfolding first_refusal access_causes
 returns c =
-    let a = c.before.before.before.before.before.before.args in
+    let a = c.args in
     cc (or_else_is (store_causes a.board (store a.memory.now a.words.now a.tags.now) true) (offset_cause a.limit a.offset ∷ []) refl)
-
-pub access-refusal-spec : {M : Type 1} → statement M
-access-refusal-spec = tie.close (tie.spec (λ c κs. search rules) (λ c κs. search rules) (λ c κs. search rules) returns)
