@@ -1,0 +1,19 @@
+-- `sheet_codec::steps_keep` meets its contract.
+use borrow.Author.Rules.{rules}
+use Prim.Native.Nat.{ℕ, ◌≤◌, ◌<◌, ◌-◌}
+use mathlib.Core.Path.{◌≡◌, sym, ◌∙◌}
+use mathlib.Core.Bool.{true}
+use native.Mathlib.Omega.{arith}
+use borrow.Author.Count.{below_none, below_more}
+use borrow.Author.Tests.{not-true, not-false}
+use Rattle.bits.proofs.Mask.{all_of}
+use Rattle.mapping.proofs.Tests.{all_not}
+use Rattle.sheet_codec.specs.Format.{step_keeps}
+use Rattle.sheet_codec.proofs.Sheet.{keeps_at}
+use Rattle.sheet_codec.proofs.format.steps_keep.Given as goal
+
+abbrev pub invariant-loop-i : goal.invariant-loop-i
+invariant-loop-i l = (l.i ≤ l.count) × ((k : ℕ) → k < l.i → step_keeps l.sheet k ≡ true)
+
+abbrev pub decreases-loop-i : goal.decreases-loop-i
+decreases-loop-i l = l.count - l.i

@@ -1,0 +1,18 @@
+-- `sheet_codec::end_line` meets its contract.
+use Rattle.sheet_codec.proofs.Written.{put_both, put_within}
+use Rattle.sheet_codec.specs.Text.{end_line}
+use native.Mathlib.Omega.{arith}
+use borrow.Author.Rules.{rules}
+use Rattle.sheet_codec.proofs.text.end_line.Goals as goal
+
+slice-aggregate-put-bytes : tie.Need-slice-aggregate-put-bytes
+slice-aggregate-put-bytes c = search rules
+
+pub returns : goal.returns
+unfolding end_line
+returns c =
+    put_within (omega arith)
+    (put_both c.put_bytes-a.ensures
+    (put_both c.put_number-b.ensures
+    (put_both c.put_byte-c.ensures
+    (put_both c.put_number-d.ensures c.put_byte.ensures))))

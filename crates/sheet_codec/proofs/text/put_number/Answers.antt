@@ -1,0 +1,17 @@
+-- `sheet_codec::put_number` meets its contract.
+use mathlib.Core.Path.{◌∙◌}
+use Rattle.sheet_codec.proofs.Written.{put_as}
+use Rattle.sheet_codec.proofs.Digits.{decimal_digits, few_digits}
+use native.Mathlib.Omega.{arith}
+use borrow.Author.Rules.{rules}
+use Rattle.sheet_codec.proofs.text.put_number.Goals as goal
+
+pub put_bytes-requires : goal.put_bytes-requires
+put_bytes-requires c =
+    let d = c.decimal-k.ensures in
+    omega (arith, d.0.1, few_digits _ _ (omega arith) d.1.0)
+
+pub returns : goal.returns
+returns c =
+    let d = c.decimal-k.ensures in
+    put_as (d.1.1 ∙ decimal_digits c.args.n _ (omega arith) d.1.0) (omega (arith, d.0.1, few_digits c.args.n _ (omega arith) d.1.0)) c.put_bytes.ensures
