@@ -20,39 +20,33 @@ returns-then-steps-gt-MOST_STEPS c =
 pub overflow_add-length : goal.overflow_add-length
 overflow_add-length c = search rules
 
-module _ (c : tie.After-first-step) where
-  abbrev steps : tie.After-step-count
-  steps = c.before.before
-
-  abbrev mappings : tie.After-mapping-count
-  mappings = steps.before.before
-
-  abbrev sheet : List ℕ
-  sheet = mappings.before.before.args.sheet.now
-
-  few_mappings : mapping_count sheet ≤ most_mappings
-  few_mappings = omega (arith, mappings.mapping-count.ensures)
-
-  few_steps : step_count sheet ≤ most_steps
-  few_steps = omega (arith, steps.step_count.ensures)
-
-  first_is : c.first_step-first.result ≡ step_place sheet 0
-  first_is = c.first_step-first.ensures.0 ∙ first_place sheet _ mappings.mapping-count.ensures
-
-  length_of : c.first_step-first.result + step_bytes * steps.step_count.result ≡ sheet_length sheet
-  length_of = place_length sheet _ _ first_is steps.step_count.ensures
-
 -- once both counts fit
 pub returns-then-sheet-length : goal.returns-then-sheet-length
-returns-then-sheet-length c = ends_early (sheet c.before) (few_mappings c.before) (few_steps c.before) (omega (arith, length_of c.before))
+returns-then-sheet-length c =
+    let few_mappings : mapping_count c.args.sheet.now ≤ most_mappings = omega (arith, c.mapping_count-mappings.ensures) in
+    let few_steps : step_count c.args.sheet.now ≤ most_steps = omega (arith, c.step_count-steps.ensures) in
+    let first_is : c.first_step-first.result ≡ step_place c.args.sheet.now 0 = c.first_step-first.ensures.0 ∙ first_place c.args.sheet.now _ c.mapping_count-mappings.ensures in
+    let length_of : c.first_step-first.result + step_bytes * c.step_count-steps.result ≡ sheet_length c.args.sheet.now = place_length c.args.sheet.now _ _ first_is c.step_count-steps.ensures in
+    ends_early c.args.sheet.now few_mappings few_steps (omega (arith, length_of))
 
 pub returns-then-length-sheet : goal.returns-then-length-sheet
-returns-then-length-sheet c = goes_on (sheet c.before.before) (few_mappings c.before.before) (few_steps c.before.before) (omega (arith, length_of c.before.before))
+returns-then-length-sheet c =
+    let few_mappings : mapping_count c.args.sheet.now ≤ most_mappings = omega (arith, c.mapping_count-mappings.ensures) in
+    let few_steps : step_count c.args.sheet.now ≤ most_steps = omega (arith, c.step_count-steps.ensures) in
+    let first_is : c.first_step-first.result ≡ step_place c.args.sheet.now 0 = c.first_step-first.ensures.0 ∙ first_place c.args.sheet.now _ c.mapping_count-mappings.ensures in
+    let length_of : c.first_step-first.result + step_bytes * c.step_count-steps.result ≡ sheet_length c.args.sheet.now = place_length c.args.sheet.now _ _ first_is c.step_count-steps.ensures in
+    goes_on c.args.sheet.now few_mappings few_steps (omega (arith, length_of))
 
 pub steps_keep-requires : goal.steps_keep-requires
-steps_keep-requires c = (first_is c.before.before, omega (arith, c.first_step-first.ensures.1))
+steps_keep-requires c =
+    let first_is : c.first_step-first.result ≡ step_place c.args.sheet.now 0 = c.first_step-first.ensures.0 ∙ first_place c.args.sheet.now _ c.mapping_count-mappings.ensures in
+    (first_is, omega (arith, c.first_step-first.ensures.1))
 
 pub returns : goal.returns
 returns c =
-    let e = c.steps_keep.ensures ∙ ap (λ (n : ℕ). all n (step_keeps (sheet c.before.before.before))) (steps c.before.before.before).step_count.ensures in
-    ap not e ∙ step_breaks (sheet c.before.before.before) (few_mappings c.before.before.before) (few_steps c.before.before.before) (omega (arith, length_of c.before.before.before))
+    let few_mappings : mapping_count c.args.sheet.now ≤ most_mappings = omega (arith, c.mapping_count-mappings.ensures) in
+    let few_steps : step_count c.args.sheet.now ≤ most_steps = omega (arith, c.step_count-steps.ensures) in
+    let first_is : c.first_step-first.result ≡ step_place c.args.sheet.now 0 = c.first_step-first.ensures.0 ∙ first_place c.args.sheet.now _ c.mapping_count-mappings.ensures in
+    let length_of : c.first_step-first.result + step_bytes * c.step_count-steps.result ≡ sheet_length c.args.sheet.now = place_length c.args.sheet.now _ _ first_is c.step_count-steps.ensures in
+    let e = c.steps_keep.ensures ∙ ap (λ (n : ℕ). all n (step_keeps c.args.sheet.now)) c.step_count-steps.ensures in
+    ap not e ∙ step_breaks c.args.sheet.now few_mappings few_steps (omega (arith, length_of))

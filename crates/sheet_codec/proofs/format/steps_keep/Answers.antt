@@ -18,27 +18,16 @@ loop-i-init c = (search rules, below_none _)
 pub keeps-requires : goal.keeps-requires
 keeps-requires c = search rules
 
-module _ (c : tie.After-keeps invariant-loop decreases-loop) where
-  abbrev turn : tie.At-loop invariant-loop decreases-loop
-  turn = c.before.before.before.before
-
-  abbrev start : tie.Start invariant-loop decreases-loop
-  start = turn.before.before
-
-  tested : c.keeps.result ≡ step_keeps start.args.sheet.now turn.loop.i
-  tested =
-      let fields = c.fields_at-f.ensures in
-      keeps_at start.args.sheet.now start.args.first turn.loop.i start.pre.0 _ fields _ _ c.kind_of.ensures c.keeps.ensures
-
 -- where a step is tested
 pub returns-then-not-keeps : goal.returns-then-not-keeps
 returns-then-not-keeps c =
-    let i = (turn c.before).loop.i in
-    sym (all_not _ _ i (search rules) (sym (tested c.before) ∙ not-true _ c.if-not-keeps.true-raw))
+    let tested : c.keeps.result ≡ step_keeps c.args.sheet.now c.loop-i.i = keeps_at c.args.sheet.now c.args.first c.loop-i.i c.requires.0 _ c.fields_at-f.ensures _ _ c.kind_of.ensures c.keeps.ensures in
+    sym (all_not _ _ c.loop-i.i (search rules) (sym tested ∙ not-true _ c.if-not-keeps.true-raw))
 
 pub loop-i-preserved : goal.loop-i-preserved
 loop-i-preserved c =
-    (search rules, below_more _ _ (turn c.before).loop.inv.1 (sym (tested c.before) ∙ not-false _ c.if-not-keeps.false-raw))
+    let tested : c.keeps.result ≡ step_keeps c.args.sheet.now c.loop-i.i = keeps_at c.args.sheet.now c.args.first c.loop-i.i c.requires.0 _ c.fields_at-f.ensures _ _ c.kind_of.ensures c.keeps.ensures in
+    (search rules, below_more _ _ c.loop-i.invariant.1 (sym tested ∙ not-false _ c.if-not-keeps.false-raw))
 
 pub returns : goal.returns
 returns c = sym (all_of _ _ (λ k l. c.loop-i.invariant.1 k (omega arith)))

@@ -9,9 +9,9 @@ use Rattle.sheet_codec.proofs.text.put_number.Goals as goal
 pub put_bytes-requires : goal.put_bytes-requires
 put_bytes-requires c =
     let d = c.decimal-k.ensures in
-    omega (arith, d.0.1, few_digits _ _ (omega arith) d.1.0)
+    omega (arith, d.in_bounds.1, few_digits _ _ (omega arith) d.len)
 
 pub returns : goal.returns
 returns c =
     let d = c.decimal-k.ensures in
-    put_as (d.1.1 ∙ decimal_digits c.args.n _ (omega arith) d.1.0) (omega (arith, d.0.1, few_digits c.args.n _ (omega arith) d.1.0)) c.put_bytes.ensures
+    put_as (d.digits ∙ decimal_digits c.args.n _ (omega arith) d.len) (omega (arith, d.in_bounds.1, few_digits c.args.n _ (omega arith) d.len)) c.put_bytes.ensures
