@@ -109,7 +109,7 @@ module _ (b : Board) (reg : Regular b) (f : ℕ) (hf : f < b.frames) where
           mapped = λ k hk. mapped_next k hk (ℕ_discrete i k);
           unmapped = λ k hk. other_mapped k (λ e. omega arith) ∙ u.unmapped k (omega arith);
           framed = λ k hk. framed_next k hk (ℕ_discrete i k);
-          at_start_lem = u.at-start;
+          at_start_lem = u.at_start_lem;
         }
       where
         mapped_next : (k : ℕ) → k < suc i → Dec (i ≡ k) → mapping_of (insert st.tables.list (mapping b f i)) 0 k ≡ some (mapping b f k)
@@ -153,6 +153,6 @@ module _ (b : Board) (reg : Regular b) (f : ℕ) (hf : f < b.frames) where
             tables_kept = u.tables_kept;
             mapped = u.mapped;
             framed = u.framed;
-            states_are = λ k hk. ap (λ (r : FrameRecord). page_states b.colours r k) u.at-start ∙ start_states k;
-            mark_is = ap (λ (r : FrameRecord). r.busy) u.at-start;
+            states_are = λ k hk. ap (λ (r : FrameRecord). page_states b.colours r k) u.at_start_lem ∙ start_states k;
+            mark_is = ap (λ (r : FrameRecord). r.busy) u.at_start_lem;
           }
