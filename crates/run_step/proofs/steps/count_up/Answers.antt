@@ -10,7 +10,7 @@ loop-i-init c = (search rules, search rules, below_none _)
 pub loop-i-preserved : goal.loop-i-preserved
 loop-i-preserved c =
     let l = c.loop-i in
-    let written = get_or-set_same l.buffer l.i _ 0 (omega arith) ∙ c.wrapping_add_u32.ensures in
+    let written = get_or-set_same l.buffer l.i _ 0 (omega arith) ∙ c.wrapping_add_u32.ensures.value in
     (search rules, search rules, below_more _ _ (λ k h. get_or-set_other l.buffer l.i k _ 0 (omega arith) ∙ l.invariant.2 k h) written)
 
 pub returns : goal.returns

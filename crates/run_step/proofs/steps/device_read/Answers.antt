@@ -7,4 +7,4 @@ use Rattle.run_step.proofs.steps.device_read.Goals as goal
 pub returns : goal.returns
 returns c =
     let d = c.device_read-answer in
-    did d.ensures refl (c.first_word-shown.ensures ∙ first_same (outcome d.result) _ d.new.1.1.1.1.1.1.0 refl)
+    did d.ensures refl (c.first_word-shown.ensures ∙ first_same (outcome d.result) _ d.new.buffer refl)

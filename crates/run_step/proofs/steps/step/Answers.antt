@@ -19,35 +19,35 @@ returns-in-Write c =
 
 pub returns-in-DeviceRead : goal.returns-in-DeviceRead
 returns-in-DeviceRead c =
-    did_kind c.args.f (sym c.enum_told-in-DeviceRead-1.given.1) c.device_read.ensures
+    did_kind c.args.f (sym c.in-DeviceRead.is) c.device_read.ensures
 
 pub returns-in-DeviceWrite : goal.returns-in-DeviceWrite
 returns-in-DeviceWrite c =
-    did_kind c.args.f (sym c.enum_told-in-DeviceWrite-1.given.1) c.device_write.ensures
+    did_kind c.args.f (sym c.in-DeviceWrite.is) c.device_write.ensures
 
 pub returns-in-DeviceWritePart : goal.returns-in-DeviceWritePart
 returns-in-DeviceWritePart c =
-    did_kind c.args.f (sym c.enum_told-in-DeviceWritePart-1.given.1) c.device_write_part.ensures
+    did_kind c.args.f (sym c.in-DeviceWritePart.is) c.device_write_part.ensures
 
 pub returns-in-BeginRead : goal.returns-in-BeginRead
 returns-in-BeginRead c =
-    did_kind c.args.f (sym c.enum_told-in-BeginRead-1.given.1) c.begin_read.ensures
+    did_kind c.args.f (sym c.in-BeginRead.is) c.begin_read.ensures
 
 pub returns-in-BeginWrite : goal.returns-in-BeginWrite
 returns-in-BeginWrite c =
-    did_kind c.args.f (sym c.enum_told-in-BeginWrite-1.given.1) c.begin_write.ensures
+    did_kind c.args.f (sym c.in-BeginWrite.is) c.begin_write.ensures
 
 pub returns-in-BringWord : goal.returns-in-BringWord
 returns-in-BringWord c =
-    did_kind c.args.f (sym c.enum_told-in-BringWord-1.given.1) c.bring_word.ensures
+    did_kind c.args.f (sym c.in-BringWord.is) c.bring_word.ensures
 
 pub returns-in-TakeWord : goal.returns-in-TakeWord
 returns-in-TakeWord c =
-    did_kind c.args.f (sym c.enum_told-in-TakeWord-1.given.1) c.take_word.ensures
+    did_kind c.args.f (sym c.in-TakeWord.is) c.take_word.ensures
 
 pub returns-in-EndTransfer : goal.returns-in-EndTransfer
 returns-in-EndTransfer c =
-    did_kind c.args.f (sym c.enum_told-in-EndTransfer-1.given.1) c.end_transfer.ensures
+    did_kind c.args.f (sym c.in-EndTransfer.is) c.end_transfer.ensures
 
 pub returns-in-Fetch : goal.returns-in-Fetch
 returns-in-Fetch c =
@@ -55,4 +55,4 @@ returns-in-Fetch c =
 
 pub returns-in_default : goal.returns-in_default
 returns-in_default c =
-    did_as (evict_is c.args.f c.args.kind c.requires (past c.in_default.keys12)) c.evict.ensures
+    did_as (evict_is c.args.f c.args.kind c.requires (past c.in_default.in_default-own.keys12)) c.evict.ensures
