@@ -4,7 +4,8 @@
 
 mod show;
 
-use libc::STDOUT_FILENO;
+// Standard output.
+const STDOUT: i32 = 1;
 
 fn main() {
     let mut memory = [0u32; 4096];
@@ -24,7 +25,7 @@ fn main() {
 
 // One frame through two colours: the second finds memory's word until the first line is written back.
 fn aliases(memory: &mut [u32; 4096], words: &mut [u32; 1024], tags: &mut [u8; 128]) {
-    io::write_all(STDOUT_FILENO, b"aliases\n");
+    io::write_all(STDOUT, b"aliases\n");
     show::read(memory, words, tags, 3, 1, 10);
     show::write(memory, words, tags, 3, 1, 11, 5000);
     show::read(memory, words, tags, 3, 1, 11);
@@ -36,7 +37,7 @@ fn aliases(memory: &mut [u32; 4096], words: &mut [u32; 1024], tags: &mut [u8; 12
 
 // A purge empties a clean line, whose words stay; the next access finds memory's.
 fn purges(memory: &mut [u32; 4096], words: &mut [u32; 1024], tags: &mut [u8; 128]) {
-    io::write_all(STDOUT_FILENO, b"purges\n");
+    io::write_all(STDOUT, b"purges\n");
     show::purge(tags, 3, 2);
     show::line(words, tags, 17, 3);
     show::read(memory, words, tags, 3, 2, 11);
@@ -45,7 +46,7 @@ fn purges(memory: &mut [u32; 4096], words: &mut [u32; 1024], tags: &mut [u8; 128
 // A flush writes the dirty line and leaves both in, clean; another frame's line in the colour stays, and stays dirty. A word that a device brings then is
 // not found by a read, which hits the line, and is not written over when the line, now clean, is flushed once more or evicted.
 fn flushes(memory: &mut [u32; 4096], words: &mut [u32; 1024], tags: &mut [u8; 128]) {
-    io::write_all(STDOUT_FILENO, b"flushes\n");
+    io::write_all(STDOUT, b"flushes\n");
     show::write(memory, words, tags, 3, 2, 63, 6000);
     show::flush(memory, words, tags, 3, 2);
     show::memory_word(memory, 3, 63);
@@ -65,7 +66,7 @@ fn flushes(memory: &mut [u32; 4096], words: &mut [u32; 1024], tags: &mut [u8; 12
 
 // A purge of a dirty line writes nothing.
 fn losses(memory: &mut [u32; 4096], words: &mut [u32; 1024], tags: &mut [u8; 128]) {
-    io::write_all(STDOUT_FILENO, b"losses\n");
+    io::write_all(STDOUT, b"losses\n");
     show::write(memory, words, tags, 63, 7, 63, 77);
     show::purge(tags, 63, 7);
     show::line(words, tags, 63, 7);
@@ -74,7 +75,7 @@ fn losses(memory: &mut [u32; 4096], words: &mut [u32; 1024], tags: &mut [u8; 128
 
 // Evicting a dirty line writes it; an empty line stays empty.
 fn evictions(memory: &mut [u32; 4096], words: &mut [u32; 1024], tags: &mut [u8; 128]) {
-    io::write_all(STDOUT_FILENO, b"evictions\n");
+    io::write_all(STDOUT, b"evictions\n");
     show::write(memory, words, tags, 0, 0, 0, 9);
     show::evict(memory, words, tags, 0);
     show::line(words, tags, 0, 0);
@@ -87,7 +88,7 @@ fn evictions(memory: &mut [u32; 4096], words: &mut [u32; 1024], tags: &mut [u8; 
 // Through the instruction page of colour 1, which is page 9: the line is number 73, a word written in the data cache is not found until it is flushed and
 // the line purged, and its eviction writes nothing.
 fn fetches(memory: &mut [u32; 4096], words: &mut [u32; 1024], tags: &mut [u8; 128]) {
-    io::write_all(STDOUT_FILENO, b"fetches\n");
+    io::write_all(STDOUT, b"fetches\n");
     show::read(memory, words, tags, 3, 9, 11);
     show::line(words, tags, 73, 3);
     show::write(memory, words, tags, 3, 1, 11, 8000);
@@ -103,7 +104,7 @@ fn fetches(memory: &mut [u32; 4096], words: &mut [u32; 1024], tags: &mut [u8; 12
 
 // A transfer moves the 64 words of its frame, or its last twelve, and touches no neighbour.
 fn transfers(memory: &mut [u32; 4096]) {
-    io::write_all(STDOUT_FILENO, b"transfers\n");
+    io::write_all(STDOUT, b"transfers\n");
     let mut buffer = [0u32; 64];
     show::count_up(&mut buffer, 100);
     show::device_write(memory, &buffer, 62, 0);
@@ -125,7 +126,7 @@ fn transfers(memory: &mut [u32; 4096]) {
 
 // A word that a device brings, to the last offset and to the first, touches no neighbour; one that it takes is memory's.
 fn words_moved(memory: &mut [u32; 4096]) {
-    io::write_all(STDOUT_FILENO, b"words\n");
+    io::write_all(STDOUT, b"words\n");
     show::bring_word(memory, 62, 63, 500);
     show::memory_word(memory, 62, 62);
     show::memory_word(memory, 62, 63);
@@ -140,7 +141,7 @@ fn words_moved(memory: &mut [u32; 4096]) {
 
 // Which tag bytes keep the rules.
 fn rules(tags: &mut [u8; 128]) {
-    io::write_all(STDOUT_FILENO, b"rules\n");
+    io::write_all(STDOUT, b"rules\n");
     show::rule(tags, 0, 0);
     show::rule(tags, 0, 1);
     show::rule(tags, 0, 64);

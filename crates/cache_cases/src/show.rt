@@ -2,8 +2,8 @@
 ghost use Rattle.std.specs.Prelude.{◌+◌, ◌<◌, ◌≤◌, length};
 ghost use Rattle.board.specs.Board.{board01, cache_pages};
 
+use crate::STDOUT;
 use board::BOARD01;
-use libc::STDOUT_FILENO;
 
 // Reads a word, and writes it and the line's tag.
 pub fn read(
@@ -19,7 +19,7 @@ pub fn read(
     if cache::tag::tags_keep_rules(BOARD01, tags) {
         let word = cache::access::read_word(BOARD01, memory, words, tags, frame, colour, offset);
         let at = board::line_of(BOARD01, colour, offset);
-        io::write_all(STDOUT_FILENO, b"read ");
+        io::write_all(STDOUT, b"read ");
         two(wide(word), tag_number(tags[at]));
     }
 }
@@ -40,7 +40,7 @@ pub fn write(
         cache::access::write_word(BOARD01, memory, words, tags, frame, colour, offset, word);
         let at = board::line_of(BOARD01, colour, offset);
         let home = board::memory_at(BOARD01, frame, offset);
-        io::write_all(STDOUT_FILENO, b"write ");
+        io::write_all(STDOUT, b"write ");
         two(tag_number(tags[at]), wide(memory[home]));
     }
 }
@@ -57,7 +57,7 @@ pub fn flush(
 {
     if cache::tag::tags_keep_rules(BOARD01, tags) {
         cache::operation::flush(BOARD01, memory, words, tags, frame, colour);
-        io::write_all(STDOUT_FILENO, b"flush ");
+        io::write_all(STDOUT, b"flush ");
         two(frame as u64, colour as u64);
     }
 }
@@ -67,7 +67,7 @@ pub fn purge(tags: &mut [u8; 128], frame: usize, colour: usize)
     requires { (frame < board01.frames) × (colour < cache_pages board01) }
 {
     cache::operation::purge(BOARD01, tags, frame, colour);
-    io::write_all(STDOUT_FILENO, b"purge ");
+    io::write_all(STDOUT, b"purge ");
     two(frame as u64, colour as u64);
 }
 
@@ -77,7 +77,7 @@ pub fn evict(memory: &mut [u32; 4096], words: &[u32; 1024], tags: &mut [u8; 128]
 {
     if cache::tag::tags_keep_rules(BOARD01, tags) {
         cache::line::evict(BOARD01, memory, words, tags, line);
-        io::write_all(STDOUT_FILENO, b"evict ");
+        io::write_all(STDOUT, b"evict ");
         one(line as u64);
     }
 }
@@ -87,7 +87,7 @@ pub fn device_write(memory: &mut [u32; 4096], buffer: &[u32], frame: usize, firs
     requires { (frame < board01.frames) × (0 < length buffer.now) × (first + length buffer.now ≤ board01.page) }
 {
     cache::device::device_write(BOARD01, memory, buffer, frame, first);
-    io::write_all(STDOUT_FILENO, b"device write ");
+    io::write_all(STDOUT, b"device write ");
     two(frame as u64, first as u64);
 }
 
@@ -96,7 +96,7 @@ pub fn device_read(memory: &[u32; 4096], buffer: &mut [u32; 64], frame: usize)
     requires { frame < board01.frames }
 {
     cache::device::device_read(BOARD01, memory, buffer, frame);
-    io::write_all(STDOUT_FILENO, b"device read ");
+    io::write_all(STDOUT, b"device read ");
     one(frame as u64);
 }
 
@@ -105,7 +105,7 @@ pub fn bring_word(memory: &mut [u32; 4096], frame: usize, offset: usize, word: u
     requires { (frame < board01.frames) × (offset < board01.page) }
 {
     cache::device::bring_word(BOARD01, memory, frame, offset, word);
-    io::write_all(STDOUT_FILENO, b"bring word ");
+    io::write_all(STDOUT, b"bring word ");
     two(frame as u64, offset as u64);
 }
 
@@ -114,7 +114,7 @@ pub fn take_word(memory: &[u32; 4096], frame: usize, offset: usize)
     requires { (frame < board01.frames) × (offset < board01.page) }
 {
     let word = cache::device::take_word(BOARD01, memory, frame, offset);
-    io::write_all(STDOUT_FILENO, b"take word ");
+    io::write_all(STDOUT, b"take word ");
     one(wide(word));
 }
 
@@ -123,7 +123,7 @@ pub fn line(words: &[u32; 1024], tags: &[u8; 128], line: usize, place: usize)
     requires { (line < 128) × (place < board01.line) }
 {
     let at = board::line_at(BOARD01, line) + place;
-    io::write_all(STDOUT_FILENO, b"line ");
+    io::write_all(STDOUT, b"line ");
     two(tag_number(tags[line]), wide(words[at]));
 }
 
@@ -132,7 +132,7 @@ pub fn memory_word(memory: &[u32; 4096], frame: usize, offset: usize)
     requires { (frame < board01.frames) × (offset < board01.page) }
 {
     let at = board::memory_at(BOARD01, frame, offset);
-    io::write_all(STDOUT_FILENO, b"memory ");
+    io::write_all(STDOUT, b"memory ");
     one(wide(memory[at]));
 }
 
@@ -140,7 +140,7 @@ pub fn memory_word(memory: &[u32; 4096], frame: usize, offset: usize)
 pub fn buffer_word(buffer: &[u32; 64], offset: usize)
     requires { offset < board01.page }
 {
-    io::write_all(STDOUT_FILENO, b"buffer ");
+    io::write_all(STDOUT, b"buffer ");
     one(wide(buffer[offset]));
 }
 
@@ -150,9 +150,9 @@ pub fn rule(tags: &mut [u8; 128], place: usize, tag: u8)
 {
     tags[place] = tag;
     if cache::tag::tags_keep_rules(BOARD01, tags) {
-        io::write_all(STDOUT_FILENO, b"kept\n");
+        io::write_all(STDOUT, b"kept\n");
     } else {
-        io::write_all(STDOUT_FILENO, b"broken\n");
+        io::write_all(STDOUT, b"broken\n");
     }
 }
 
@@ -176,12 +176,12 @@ fn tag_number(tag: u8) -> u64 {
 }
 
 fn one(n: u64) {
-    io::print_decimal(STDOUT_FILENO, n);
-    io::write_all(STDOUT_FILENO, b"\n");
+    io::print_decimal(STDOUT, n);
+    io::write_all(STDOUT, b"\n");
 }
 
 fn two(m: u64, n: u64) {
-    io::print_decimal(STDOUT_FILENO, m);
-    io::write_all(STDOUT_FILENO, b" ");
+    io::print_decimal(STDOUT, m);
+    io::write_all(STDOUT, b" ");
     one(n);
 }

@@ -5,12 +5,15 @@
 
 ghost use Rattle.std.specs.Prelude.{◌≤◌};
 
-use libc::{STDIN_FILENO, STDOUT_FILENO};
 use mapping::{BATCH, Batch, Mapping, MappingList};
+
+// Standard input and standard output.
+const STDIN: i32 = 0;
+const STDOUT: i32 = 1;
 
 fn main() {
     let mut how = [0u8; 2];
-    io::read_full(STDIN_FILENO, &mut how);
+    io::read_full(STDIN, &mut how);
     // Frame 0 is present in every colour, so each mapping of it, one of 64, has the protection 1.
     let mut records = [0u32; 448];
     manager::start(&mut records);
@@ -91,10 +94,10 @@ fn batch(first: u8) -> Batch {
 }
 
 fn show(list: MappingList, protections: &[u8; 256]) {
-    io::print_decimal(STDOUT_FILENO, list.count as u64);
-    io::write_all(STDOUT_FILENO, b" listed, protections ");
-    io::print_decimal(STDOUT_FILENO, sum(protections));
-    io::write_all(STDOUT_FILENO, b"\n");
+    io::print_decimal(STDOUT, list.count as u64);
+    io::write_all(STDOUT, b" listed, protections ");
+    io::print_decimal(STDOUT, sum(protections));
+    io::write_all(STDOUT, b"\n");
 }
 
 fn sum(protections: &[u8; 256]) -> u64 {

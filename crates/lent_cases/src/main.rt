@@ -6,10 +6,11 @@ mod lent;
 
 ghost use Rattle.std.specs.Prelude.{◌≤◌};
 
-use libc::STDOUT_FILENO;
 use manager::Answer;
 use mapping::{Batch, Found, Mapping};
 
+// Standard output.
+const STDOUT: i32 = 1;
 // The largest number.
 const MOST: usize = 18446744073709551615;
 
@@ -59,7 +60,7 @@ fn places(records: [Mapping; 4]) {
 
 // The count, space, page, and the place that is found.
 fn found(records: [Mapping; 4], count: usize, space: u8, page: u16) {
-    io::write_all(STDOUT_FILENO, b"lookup");
+    io::write_all(STDOUT, b"lookup");
     number(count as u64);
     number(space as u64);
     number(page as u64);
@@ -67,26 +68,26 @@ fn found(records: [Mapping; 4], count: usize, space: u8, page: u16) {
         Found::At(i) => number(i as u64),
         Found::Nothing => none(),
     }
-    io::write_all(STDOUT_FILENO, b"\n");
+    io::write_all(STDOUT, b"\n");
 }
 
 // The place, and the record there.
 fn placed(records: [Mapping; 4], i: usize) {
-    io::write_all(STDOUT_FILENO, b"at");
+    io::write_all(STDOUT, b"at");
     number(i as u64);
     fields(lent::at(records, i));
-    io::write_all(STDOUT_FILENO, b"\n");
+    io::write_all(STDOUT, b"\n");
 }
 
 // The count, and the items at places 0, 3, 4 and 63.
 fn shown(batch: Batch) {
-    io::write_all(STDOUT_FILENO, b"batch");
+    io::write_all(STDOUT, b"batch");
     number(batch.count as u64);
     fields(batch.items[0]);
     fields(batch.items[3]);
     fields(batch.items[4]);
     fields(batch.items[63]);
-    io::write_all(STDOUT_FILENO, b"\n");
+    io::write_all(STDOUT, b"\n");
 }
 
 // The records as items of a call on an empty list, with so many answers, each 8 before it: the refusal or 0, how many are listed, the answers, and
@@ -110,7 +111,7 @@ fn laid(items: [Mapping; 4], n: usize)
     );
     let answer = listed.answer;
     let next = listed.list;
-    io::write_all(STDOUT_FILENO, b"map all");
+    io::write_all(STDOUT, b"map all");
     match answer {
         Answer::Refused(r) => number(r as u64),
         Answer::Accepted(_) => number(0),
@@ -118,7 +119,7 @@ fn laid(items: [Mapping; 4], n: usize)
     number(next.count as u64);
     answered(&answers);
     protected(&protections);
-    io::write_all(STDOUT_FILENO, b"\n");
+    io::write_all(STDOUT, b"\n");
 }
 
 fn answered(answers: &[u8; 4]) {
@@ -148,17 +149,17 @@ fn fields(m: Mapping) {
 }
 
 fn number(n: u64) {
-    io::write_all(STDOUT_FILENO, b" ");
-    io::print_decimal(STDOUT_FILENO, n);
+    io::write_all(STDOUT, b" ");
+    io::print_decimal(STDOUT, n);
 }
 
 fn none() {
-    io::write_all(STDOUT_FILENO, b" -");
+    io::write_all(STDOUT, b" -");
 }
 
 fn dotted(n: u64) {
-    io::write_all(STDOUT_FILENO, b".");
-    io::print_decimal(STDOUT_FILENO, n);
+    io::write_all(STDOUT, b".");
+    io::print_decimal(STDOUT, n);
 }
 
 fn entry(space: u8, page: u16, frame: u8, rights: u8) -> Mapping {
