@@ -1,5 +1,5 @@
 -- `cache_cases::show::count_up` meets its contract.
-use Rattle.std.proofs.Common.{◌≡◌, ◌-◌, length, rules}
+use Rattle.std.proofs.Common.{◌≡◌, ◌-◌, length}
 use Rattle.cache_cases.proofs.show.count_up.Given as goal
 
 abbrev pub invariant-loop-i : goal.invariant-loop-i

@@ -7,10 +7,6 @@ use Rattle.cache_cases.proofs.show.memory_word.Goals as goal
 pub memory_at-at-requires : goal.memory_at-at-requires
 memory_at-at-requires c = search (rules, board01_regular)
 
-pub offset_bounds-memory-at : goal.offset_bounds-memory-at
-unfolding memory_words
-offset_bounds-memory-at c = search rules
-
 pub bounds-memory-at : goal.bounds-memory-at
 unfolding memory_words
 bounds-memory-at c = search rules

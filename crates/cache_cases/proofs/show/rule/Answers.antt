@@ -1,5 +1,4 @@
 -- `cache_cases::show::rule` meets its contract.
-use Rattle.std.proofs.Common.{rules}
 use Rattle.board.proofs.Geometry.{board01_regular}
 use Rattle.cache_cases.proofs.show.rule.Goals as goal
 

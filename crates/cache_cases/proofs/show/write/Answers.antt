@@ -32,10 +32,6 @@ pub bounds-tags-at : goal.bounds-tags-at
 unfolding lines
 bounds-tags-at c = search rules
 
-pub offset_bounds-memory-home : goal.offset_bounds-memory-home
-unfolding memory_words
-offset_bounds-memory-home c = search rules
-
 pub bounds-memory-home : goal.bounds-memory-home
 unfolding memory_words
 bounds-memory-home c = search rules
