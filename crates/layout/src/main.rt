@@ -9,6 +9,7 @@ use mapping::{BATCH, Batch, Mapping, MappingList};
 
 // Standard input and standard output.
 const STDIN: i32 = 0;
+
 const STDOUT: i32 = 1;
 
 fn main() {
