@@ -7,9 +7,10 @@ ghost use Rattle.std.specs.Prelude.{◌≤◌};
 
 use mapping::{BATCH, Batch, Mapping, MappingList};
 
-// Standard input and standard output.
+// Standard input.
 const STDIN: i32 = 0;
 
+// Standard output.
 const STDOUT: i32 = 1;
 
 fn main() {

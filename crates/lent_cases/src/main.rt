@@ -11,6 +11,7 @@ use mapping::{Batch, Found, Mapping};
 
 // Standard output.
 const STDOUT: i32 = 1;
+
 // The largest number.
 const MOST: usize = 18446744073709551615;
 

@@ -1,2 +1,0 @@
--- What the walks of functions that lend records share.
-mod Lending
