@@ -118,7 +118,7 @@ module _ (b : Board) (reg : Regular b) where
       let t = two_holds st space page clock (one 0) (other 0) (r 0).0 (r 0).1 in
       let rest = whole_runs (at (one 0)).after acts (λ n. one (suc n)) (λ n. other (suc n)) (λ n. r (suc n)) in (
         rest.0 ∙ ap (λ (left : State). state_after b left rest-other) t.1,
-        λ n. elim n [
+        λ n. elim n as (λ k. one k ≤ other k → SameButBlank (shown_at b st (with_holds one (look space page clock hold ∷ acts)) k) (shown_at b st (with_holds other (look space page clock hold ∷ acts)) k)) [
           | zero ↦ t.0
           | suc m ↦ λ h. subst (λ (left : State). SameButBlank (shown_at b (at (one 0)).after rest-one m) (shown_at b left rest-other m)) t.1 (rest.1 m h)
         ],

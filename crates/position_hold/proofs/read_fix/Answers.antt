@@ -17,12 +17,12 @@ loop-offset-init c = (search rules, refl, refl, refl, refl, refl, refl, refl)
 pub returns-in-Refused : goal.returns-in-Refused
 returns-in-Refused c =
     let a = c.args in
-    reads_refused board01 _ a.space a.page c.loop-offset.offset (omega arith) c.loop-offset.inv.7 c.read.ensures c.in-Refused.is
+    reads_refused board01 _ a.space a.page c.loop-offset.offset (omega arith) c.loop-offset.invariant.7 c.read.ensures c.in-Refused.is
 
 pub loop-offset-preserved : goal.loop-offset-preserved
 loop-offset-preserved c =
     let a = c.args in
-    let same = c.loop-offset.inv in (
+    let same = c.loop-offset.invariant in (
       omega arith,
       search rules,
       search rules,

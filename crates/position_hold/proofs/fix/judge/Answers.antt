@@ -23,11 +23,6 @@ inside : (n w : ℕ) {m : ℕ} → m ≡ magnitude w → m ≤ degrees n → is_
 unfolding is_outside
 inside n w e l = ap (ltb (degrees n)) (sym e) ∙ le-ltb (degrees n) _ l
 
--- the fix is held still
-held-is : (c : goal.Else-clock-second-2) {la lo : Bool} → let a = c.args in is_outside 90 a.fix.latitude ≡ la → is_outside 180 a.fix.longitude ≡ lo
-    → cond (la || lo) blank (position a.fix.latitude a.fix.longitude) ≡ judged a.clock a.hold a.fix
-held-is c = judged_is _ _ _ (ne_eqb _ _ c.if-number-eq0.false) (le-ltb _ _ c.if-clock-second.false) (le-ltb _ _ c.if-clock-second-2.false)
-
 pub returns-then-number-eq0 : goal.returns-then-number-eq0
 returns-then-number-eq0 c = judged_is _ _ _ (eq-eqb _ _ c.if-number-eq0.true) refl refl refl refl
 
@@ -38,14 +33,14 @@ pub returns-then-clock-second-2 : goal.returns-then-clock-second-2
 returns-then-clock-second-2 c = judged_is _ _ _ (ne_eqb _ _ c.if-number-eq0.false) (le-ltb _ _ c.if-clock-second.false) (lt-ltb _ _ c.if-clock-second-2.true) refl refl
 
 pub returns-then-magnitude-gt-MOST_LATITUDE : goal.returns-then-magnitude-gt-MOST_LATITUDE
-returns-then-magnitude-gt-MOST_LATITUDE c = held-is c.before.before (outside 90 _ c.magnitude.ensures c.if-magnitude-gt-MOST_LATITUDE.true) refl
+returns-then-magnitude-gt-MOST_LATITUDE c = judged_is _ _ _ (ne_eqb _ _ c.if-number-eq0.false) (le-ltb _ _ c.if-clock-second.false) (le-ltb _ _ c.if-clock-second-2.false) (outside 90 _ c.magnitude.ensures c.if-magnitude-gt-MOST_LATITUDE.true) refl
 
 pub returns-then-magnitude-gt-MOST_LONGITUDE : goal.returns-then-magnitude-gt-MOST_LONGITUDE
 returns-then-magnitude-gt-MOST_LONGITUDE c =
-    held-is c.before.before.before.before (inside 90 _ c.magnitude.ensures c.if-magnitude-gt-MOST_LATITUDE.false)
+    judged_is _ _ _ (ne_eqb _ _ c.if-number-eq0.false) (le-ltb _ _ c.if-clock-second.false) (le-ltb _ _ c.if-clock-second-2.false) (inside 90 _ c.magnitude.ensures c.if-magnitude-gt-MOST_LATITUDE.false)
     (outside 180 _ c.magnitude-2.ensures c.if-magnitude-gt-MOST_LONGITUDE.true)
 
 pub returns : goal.returns
 returns c =
-    held-is c.before.before.before.before (inside 90 _ c.magnitude.ensures c.if-magnitude-gt-MOST_LATITUDE.false)
+    judged_is _ _ _ (ne_eqb _ _ c.if-number-eq0.false) (le-ltb _ _ c.if-clock-second.false) (le-ltb _ _ c.if-clock-second-2.false) (inside 90 _ c.magnitude.ensures c.if-magnitude-gt-MOST_LATITUDE.false)
     (inside 180 _ c.magnitude-2.ensures c.if-magnitude-gt-MOST_LONGITUDE.false)
