@@ -12,14 +12,12 @@ use Rattle.mapping.specs.declared.Mapping.{Mapping}
 use Rattle.manager.specs.Answers.{number_of}
 use Rattle.manager.specs.Batch.{item_at}
 use Rattle.manager.specs.Tables.{tabulate}
-use Rattle.manager.specs.Theorems.{First}
 use Rattle.manager.proofs.Laws.{length_tabulate, get_d_tabulate}
 use Rattle.machine.specs.Call.{map_of, after_items, item_answer, call_causes, perform}
-use Rattle.machine.specs.Refusals.{causes}
 use Rattle.machine.specs.State.{State, single, map_all, Result}
 use Rattle.machine.specs.Step.{accept, step}
 use Rattle.machine.proofs.CallLaws.{accept_call, perform_cases}
-use Rattle.demands.specs.Demands.{Clear, Left, mapped, ItemLeft, EachMapped}
+use Rattle.demands.specs.Demands.{Left, mapped, ItemLeft, EachMapped}
 use Rattle.demands.proofs.Answers.{no_cause, first_cause}
 use Rattle.demands.proofs.Kept.{left}
 

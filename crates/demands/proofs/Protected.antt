@@ -1,5 +1,4 @@
 -- The tables after an accepted call, by demand 2's statement alone.
-use mathlib.Core.Path.{◌≡◌}
 use Rattle.board.specs.declared.Board.{Board}
 use Rattle.machine.specs.State.{State, Single, Call, single, map_all, Answer}
 use Rattle.demands.specs.Demands.{Left, CallLeft}

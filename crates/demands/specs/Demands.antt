@@ -19,7 +19,6 @@ use Rattle.manager.specs.Calls.{no_ops}
 use Rattle.manager.specs.Refusals.{Cause}
 use Rattle.manager.specs.Tables.{Tables, tables, record_at, protection_at, data_part, tabulate}
 use Rattle.manager.specs.Theorems.{First, WellFormedTables}
-use Rattle.cache.specs.Cache as hardware
 use Rattle.cache.specs.Store as hardware_store
 use Rattle.cache.specs.Store.{tag_at, word_at}
 use Rattle.cache.specs.Tag.{empty_tag, clean_tag, names}

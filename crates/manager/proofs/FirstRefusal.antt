@@ -9,7 +9,7 @@ use native.Mathlib.Omega.{arith}
 use borrow.Author.Tests.{leb-true, ltb-true, lt-ltb, eq-eqb, ne_eqb}
 use lib.ListN.{length, get_or}
 use Rattle.bits.proofs.Tautology.{and_left, and_right}
-use Rattle.manager.specs.Refusals.{Cause, ◌if◌, first_refusal, refusal_order, place_in, refusal_place, in_order}
+use Rattle.manager.specs.Refusals.{Cause, first_refusal, refusal_order, place_in, refusal_place, in_order}
 use Rattle.manager.specs.Theorems.{First, FirstRefusal}
 use Rattle.manager.proofs.CauseLaws.{numbered}
 

@@ -3,7 +3,6 @@ use mathlib.Core.Path.{refl}
 use mathlib.Core.Logic.{inl, inr}
 use Rattle.machine.proofs.Opened.{opened}
 use Rattle.position_hold.specs.Look as position_hold
-use Rattle.position_hold.specs.Fix as fix
 use Rattle.position_hold.specs.Rows.{EveryRowHolds, part_rows, beside_rows, begun_rows, LastSentRows}
 
 in_one_step : EveryRowHolds part_rows

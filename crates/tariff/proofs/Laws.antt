@@ -1,19 +1,18 @@
 -- Laws of charges and accounts.
 use mathlib.Core.Path.{◌≡◌, refl, sym, ap, ◌∙◌}
-use mathlib.Core.Bool.{Bool, true, false, ◌&&◌, true≢false}
+use mathlib.Core.Bool.{Bool, true, false, ◌&&◌}
 use mathlib.Core.List.{List, [], ◌∷◌}
 use mathlib.Core.Logic.{◌≢◌}
-use Prim.Native.Nat.{ℕ, zero, suc, ◌+◌, ◌≤◌, ◌<◌}
+use Prim.Native.Nat.{ℕ, ◌+◌, ◌≤◌, ◌<◌}
 use native.Mathlib.Omega.{arith}
-use borrow.Author.Tests.{lt-ltb, le-ltb, ltb-true, ltb-false}
+use borrow.Author.Tests.{lt-ltb, le-ltb, ltb-false}
 use lib.Dec.{ltb}
-use lib.ListN.{length, get_or, set, length-set}
+use lib.ListN.{length, get_or, length-set}
 use lib.Seq.{get_or-set_same, get_or-set_other}
-use Rattle.page_model.specs.declared.Ops.{Ops}
 use Rattle.tariff.specs.declared.ChargeKind.{ChargeKind}
 use Rattle.tariff.specs.declared.ChargeKind.TheVariants.{Read, Write, Fetch, DeviceRead, DeviceWrite}
 use Rattle.tariff.specs.Accounts.{limit, balance, overdrawn, charged}
-use Rattle.tariff.specs.Tariff.{OrderSet, none, flush, purge, both, tariff, order_set, charge, kind_number, set_number}
+use Rattle.tariff.specs.Tariff.{OrderSet, none, flush, purge, both, tariff, kind_number, set_number}
 
 -- ---- the table
 

@@ -1,5 +1,5 @@
 -- Request N11's table: what a step costs, in whole cycles, by its cause and by which orders it has.
-use Rattle.std.specs.Prelude.{Bool, true, false, cond, ◌||◌, ℕ}
+use Rattle.std.specs.Prelude.{Bool, true, false, ◌||◌, ℕ}
 use Rattle.page_model.specs.declared.Op.{Op}
 use Rattle.page_model.specs.declared.Op.TheVariants.{None, Flush, Purge, PurgeInstructions}
 use Rattle.page_model.specs.declared.Ops.{Ops}

@@ -1,7 +1,7 @@
 -- The laws of the instruction cache: its lines are those behind the data lines, its pages those behind the colours. No line of it is dirty, so
 -- what goes through it leaves memory as it was, and what goes through a colour leaves its lines as they were.
 use mathlib.Core.Path.{◌≡◌, refl, sym, ap, ◌∙◌}
-use mathlib.Core.Bool.{true, false, true≢false}
+use mathlib.Core.Bool.{false, true≢false}
 use mathlib.Core.Logic.{◌≢◌}
 use Prim.Native.Nat.{ℕ, ◌≤◌, ◌<◌}
 use native.Mathlib.Omega.{arith}

@@ -1,6 +1,5 @@
 -- `machine::map` meets its contract.
 use mathlib.Core.Path.{refl, sym, ◌∙◌}
-use borrow.Author.Rules.{rules}
 use Rattle.board.specs.Board.{board01}
 use Rattle.board.proofs.Geometry.{board01_regular}
 use Rattle.manager.specs.Calls.{commit_map}

@@ -2,7 +2,6 @@
 use mathlib.Core.Path.{◌≡◌, sym, ap, ◌∙◌}
 use mathlib.Core.Bool.{true}
 use Prim.Native.Nat.{ℕ}
-use borrow.Author.Rules.{rules}
 use Rattle.board.specs.Board.{board01}
 use Rattle.board.proofs.Geometry.{board01_regular}
 use Rattle.mapping.specs.Batch.{items_of}
@@ -12,10 +11,9 @@ use Rattle.manager.specs.Scaffold.Inserted.{batch_made}
 use Rattle.manager.specs.Refusals.{first_refusal, table_causes}
 use Rattle.manager.specs.Tables.{tables}
 use Rattle.manager.proofs.CauseLaws.{list_keeps, tables_clear}
-use Rattle.cache.specs.Store.{store}
 use Rattle.machine.specs.Call.{map_of}
 use Rattle.machine.specs.Scaffold.Plans.{store_causes, earlier}
-use Rattle.machine.specs.State.{State, machine_of}
+use Rattle.machine.specs.State.{machine_of}
 use Rattle.machine.proofs.ItemLaws.{beside, map_all_performed}
 use Rattle.machine.proofs.MergeLaws.{earlier_neither, lent_merged}
 use Rattle.machine.proofs.PlanLaws.{lent_refused}

@@ -1,6 +1,5 @@
 -- `manager::no_operations` meets its contract.
 use mathlib.Core.Path.{ap}
-use borrow.Author.Rules.{rules}
 use Rattle.manager.specs.declared.FrameOps.{FrameOps}
 use Rattle.manager.specs.Answers.{accepted}
 use Rattle.manager.proofs.no_operations.Goals as goal

@@ -1,15 +1,13 @@
 -- `insert_at` meets its contract.
-use Prim.Native.Nat.{ℕ, ◌+◌, ◌≤◌, ◌<◌, ◌-◌}
+use Prim.Native.Nat.{ℕ, ◌+◌}
 use mathlib.Core.List.{List}
-use mathlib.Core.Path.{◌≡◌, sym, ap, ◌∙◌}
+use mathlib.Core.Path.{sym, ap, ◌∙◌}
 use native.Mathlib.Omega.{arith}
-use lib.ListN.{length, length-set}
-use borrow.Author.Rules.{rules}
-use Rattle.mapping.specs.Entry.{capacity}
+use lib.ListN.{length-set}
 use Rattle.mapping.specs.declared.Mapping.{Mapping}
 use Rattle.mapping.specs.declared.MappingList.{MappingList}
 use Rattle.mapping.proofs.Change.{insert_at_full, insert_at_past, insert_at_room}
-use Rattle.mapping.proofs.Including.{Shifted, including_earlier, shift_one, shift_last}
+use Rattle.mapping.proofs.Including.{including_earlier, shift_one, shift_last}
 use Rattle.mapping.proofs.Records.{items_length}
 use Rattle.mapping.proofs.insert_at.Goals as goal
 

@@ -1,20 +1,19 @@
 -- `keeps_rules` meets its contract.
-use Prim.Native.Nat.{ℕ, suc, ◌+◌, ◌*◌, ◌^◌, ◌≤◌, ◌<◌, ◌-◌}
+use Prim.Native.Nat.{ℕ, suc, ◌+◌, ◌≤◌, ◌<◌}
 use mathlib.Core.Path.{◌≡◌, refl, sym, ap, ap₂, ◌∙◌}
 use mathlib.Core.Bool.{Bool, true, ◌&&◌, ◌||◌}
 use mathlib.Core.Logic.{⊎_elim}
 use native.Mathlib.Nat.{eq-or-lt_of_le}
 use native.Mathlib.Omega.{arith}
-use lib.Dec.{eqb, ltb}
+use lib.Dec.{eqb}
 use lib.ListN.{length}
 use borrow.Author.Rules.{rules}
 use borrow.Author.Count.{below_none, below_more}
 use borrow.Author.Tests.{not-true, not-false, lt-ltb, le-ltb}
-use Rattle.bits.specs.Mask.{all}
 use Rattle.bits.proofs.Mask.{all_of}
 use Rattle.board.specs.declared.Board.{Board}
 use Rattle.mapping.specs.declared.MappingList.{MappingList}
-use Rattle.mapping.specs.Entry.{capacity, page_numbers, in_range, is_zero, mapping_at}
+use Rattle.mapping.specs.Entry.{page_numbers, is_zero, mapping_at}
 use Rattle.mapping.specs.Rules.{all_in_range, rises_at, rising, rest_zero}
 use Rattle.mapping.proofs.Tests.{all_not, all_more}
 use Rattle.mapping.proofs.Entry.{in_range_true, sum_zero}

@@ -1,27 +1,15 @@
 -- `mapping::keeps_rules` meets its contract. The first loop's invariant: every place passed is in range and stands behind the one before it; the
 -- second's: what was summed up is 0 exactly if every place passed is listed or zero.
-use Prim.Native.Nat.{ℕ, suc, ◌+◌, ◌*◌, ◌^◌, ◌≤◌, ◌<◌, ◌-◌}
-use mathlib.Core.Path.{◌≡◌, refl, sym, ap, ap₂, ◌∙◌}
-use mathlib.Core.Bool.{Bool, true, ◌&&◌, ◌||◌}
-use mathlib.Core.Logic.{⊎_elim}
-use native.Mathlib.Nat.{eq-or-lt_of_le}
-use native.Mathlib.Omega.{arith}
+use Prim.Native.Nat.{ℕ, suc, ◌*◌, ◌^◌, ◌≤◌, ◌<◌, ◌-◌}
+use mathlib.Core.Path.{◌≡◌}
+use mathlib.Core.Bool.{Bool, true, ◌||◌}
 use lib.Dec.{eqb, ltb}
-use lib.ListN.{length}
-use borrow.Author.Rules.{rules}
-use borrow.Author.Count.{below_none, below_more}
-use borrow.Author.Tests.{not-true, not-false, lt-ltb, le-ltb}
 use Rattle.bits.specs.Mask.{all}
-use Rattle.bits.proofs.Mask.{all_of}
 use Rattle.board.specs.declared.Board.{Board}
 use Rattle.mapping.specs.declared.MappingList.{MappingList}
-use Rattle.mapping.specs.Entry.{capacity, page_numbers, in_range, is_zero, mapping_at}
-use Rattle.mapping.specs.Rules.{all_in_range, rises_at, rising, rest_zero}
-use Rattle.mapping.proofs.Tests.{all_not, all_more}
-use Rattle.mapping.proofs.Entry.{in_range_true, sum_zero}
-use Rattle.mapping.proofs.Order.{least_at, least_next, least_kept, least_broken}
-use Rattle.mapping.proofs.Rules.{rest_at_each, keeps_over, keeps_unranged, keeps_unordered, keeps_rest}
-use Rattle.mapping.proofs.Records.{items_length}
+use Rattle.mapping.specs.Entry.{capacity, in_range, is_zero, mapping_at}
+use Rattle.mapping.specs.Rules.{rises_at}
+use Rattle.mapping.proofs.Order.{least_at}
 use Rattle.mapping.proofs.keeps_rules.Given as goal
 
 -- the places below i are in range, and each stands before the next

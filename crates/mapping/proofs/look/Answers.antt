@@ -1,7 +1,6 @@
 -- `mapping::look` meets its contract.
 use mathlib.Core.Path.{sym, ap, ◌∙◌}
 use mathlib.Core.Bool.{false}
-use borrow.Author.Rules.{rules}
 use Rattle.mapping.specs.declared.Mapping.{Mapping}
 use Rattle.mapping.proofs.Looks.{look_kept, look_broken}
 use Rattle.mapping.proofs.look.Goals as goal

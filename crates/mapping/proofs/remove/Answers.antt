@@ -1,14 +1,12 @@
 -- `remove` meets its contract.
-use Prim.Native.Nat.{ℕ, ◌≤◌, ◌<◌, ◌-◌}
+use Prim.Native.Nat.{ℕ, ◌-◌}
 use mathlib.Core.List.{List}
-use mathlib.Core.Path.{◌≡◌, sym, ap, ◌∙◌}
+use mathlib.Core.Path.{sym, ap, ◌∙◌}
 use native.Mathlib.Omega.{arith}
-use lib.ListN.{length, get_or, set, length-set}
-use borrow.Author.Rules.{rules}
-use Rattle.mapping.specs.Entry.{capacity, zero_mapping, mapping_at}
+use lib.ListN.{set, length-set}
+use Rattle.mapping.specs.Entry.{capacity}
 use Rattle.mapping.specs.declared.Mapping.{Mapping}
 use Rattle.mapping.specs.declared.MappingList.{MappingList}
-use Rattle.mapping.specs.Change.{without}
 use Rattle.mapping.proofs.Change.{remove_unlisted, remove_over, remove_listed}
 use Rattle.mapping.proofs.Without.{without_earlier, move_one, move_last}
 use Rattle.mapping.proofs.Records.{items_length}

@@ -1,5 +1,4 @@
 -- `page_model::elsewhere` meets its contract.
-use borrow.Author.Rules.{rules}
 use borrow.Author.Tests.{eq-eqb, ne_eqb}
 use Rattle.page_model.proofs.elsewhere.Goals as goal
 

@@ -1,9 +1,5 @@
 -- `position_hold::look` meets its contract.
-use mathlib.Core.Path.{◌≡◌}
-use mathlib.Core.Bool.{false}
-use borrow.Author.Rules.{rules}
 use Rattle.board.specs.Board.{board01}
-use Rattle.position_hold.specs.Fix.{hold_refused}
 use Rattle.position_hold.proofs.Holds.{hold_accepted, hold_short, hold_long, look_refused, look_handed_on, look_judged}
 use Rattle.position_hold.proofs.look.Goals as goal
 

@@ -1,12 +1,10 @@
 -- `read_fix` meets its contract.
-use mathlib.Core.Path.{◌≡◌, refl}
-use Prim.Native.Nat.{◌≤◌, ◌-◌}
+use mathlib.Core.Path.{refl}
 use native.Mathlib.Omega.{arith}
 use borrow.Author.Rules.{rules}
-use lib.ListN.{length, take, length-set}
+use lib.ListN.{length-set}
 use Rattle.board.specs.Board.{board01}
-use Rattle.machine.specs.State.{machine_of}
-use Rattle.position_hold.specs.Look.{words as found_words, reads, first_reads, fix_words}
+use Rattle.position_hold.specs.Look.{first_reads}
 use Rattle.position_hold.proofs.FirstReads.{reads_refused, reads_put, reads_fix}
 use Rattle.position_hold.proofs.read_fix.Goals as goal
 

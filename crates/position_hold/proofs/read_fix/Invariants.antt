@@ -1,13 +1,10 @@
 -- `position_hold::read_fix` meets its contract. The loop's invariant: the words and the state are those of the first `offset` reads.
-use mathlib.Core.Path.{◌≡◌, refl}
+use mathlib.Core.Path.{◌≡◌}
 use Prim.Native.Nat.{◌≤◌, ◌-◌}
-use native.Mathlib.Omega.{arith}
-use borrow.Author.Rules.{rules}
-use lib.ListN.{length, take, length-set}
+use lib.ListN.{length, take}
 use Rattle.board.specs.Board.{board01}
 use Rattle.machine.specs.State.{machine_of}
 use Rattle.position_hold.specs.Look.{words as found_words, reads, first_reads, fix_words}
-use Rattle.position_hold.proofs.FirstReads.{reads_refused, reads_put, reads_fix}
 use Rattle.position_hold.proofs.read_fix.Given as goal
 
 abbrev pub invariant-loop-offset : goal.invariant-loop-offset

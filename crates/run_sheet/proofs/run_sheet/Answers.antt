@@ -3,7 +3,6 @@ use mathlib.Core.Path.{sym, ◌∙◌}
 use native.Mathlib.Omega.{arith}
 use Rattle.io.proofs.Counting.{prefix_len_of_le}
 use Rattle.run_sheet.proofs.Running.{printed_nothing, printed_refusal, printed_run}
-use borrow.Author.Rules.{rules}
 use Rattle.run_sheet.proofs.run_sheet.Goals as goal
 
 pub returns-then-text-lt-TEXT_BYTES : goal.returns-then-text-lt-TEXT_BYTES

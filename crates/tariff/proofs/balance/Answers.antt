@@ -1,6 +1,5 @@
 -- `tariff::balance` meets its contract.
 use mathlib.Core.Path.{sym}
-use borrow.Author.Rules.{rules}
 use native.Mathlib.Omega.{arith}
 use lib.ListN.{get_or-eq_default}
 use Rattle.tariff.proofs.balance.Goals as goal

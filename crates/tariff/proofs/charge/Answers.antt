@@ -1,8 +1,7 @@
 -- `tariff::charge` meets its contract.
-use mathlib.Core.Path.{◌≡◌, subst⁻¹}
+use mathlib.Core.Path.{subst⁻¹}
 use Prim.Native.Nat.{ℕ, ◌<◌}
 use native.Mathlib.Omega.{arith}
-use borrow.Author.Rules.{rules}
 use Rattle.tariff.specs.Tariff.{order_set, charge}
 use Rattle.tariff.proofs.Laws.{kind_below, set_below, cell}
 use Rattle.tariff.proofs.charge.Goals as goal

@@ -1,6 +1,5 @@
 -- `tariff::column_of` meets its contract.
-use mathlib.Core.Path.{◌≡◌, ◌∙◌}
-use borrow.Author.Rules.{rules}
+use mathlib.Core.Path.{◌∙◌}
 use Rattle.tariff.proofs.column_of.Goals as goal
 
 pub returns : goal.returns

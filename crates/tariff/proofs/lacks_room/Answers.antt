@@ -1,6 +1,5 @@
 -- `tariff::lacks_room` meets its contract.
 use mathlib.Core.Path.{◌∙◌}
-use borrow.Author.Rules.{rules}
 use Rattle.tariff.proofs.lacks_room.Goals as goal
 
 pub returns : goal.returns

@@ -1,6 +1,4 @@
 -- `tariff::overdrawn` meets its contract.
-use mathlib.Core.Path.{◌≡◌}
-use borrow.Author.Rules.{rules}
 use Rattle.tariff.specs.Accounts.{overdrawn}
 use Rattle.tariff.proofs.overdrawn.Goals as goal
 

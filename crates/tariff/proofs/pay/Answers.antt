@@ -3,7 +3,6 @@ use mathlib.Core.Path.{◌≡◌}
 use Prim.Native.Nat.{ℕ, zero, suc, ◌+◌, ◌<◌}
 use mathlib.Core.Bool.{false}
 use native.Mathlib.Omega.{arith}
-use borrow.Author.Rules.{rules}
 use Rattle.tariff.specs.Accounts.{balance, overdrawn, charged}
 use Rattle.tariff.specs.Tariff.{charge}
 use Rattle.tariff.proofs.Laws.{not_overdrawn}

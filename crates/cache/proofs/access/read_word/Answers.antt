@@ -1,5 +1,4 @@
 -- `cache::access::read_word` meets its contract.
-use borrow.Author.Rules.{rules}
 use mathlib.Core.Path.{ap₂}
 use Prim.Native.Nat.{ℕ}
 use lib.ListN.{get_or}

@@ -1,5 +1,4 @@
 -- `cache::access::write_word` meets its contract.
-use borrow.Author.Rules.{rules}
 use mathlib.Core.Path.{ap}
 use Rattle.cache.specs.Cache.{put_word, write_word}
 use Rattle.cache.proofs.access.write_word.Goals as goal

@@ -1,10 +1,8 @@
 -- `copy.copy` meets its contract.
-use Prim.Native.Nat.{ℕ, ◌≤◌, ◌<◌, ◌-◌}
-use mathlib.Core.Path.{◌≡◌, ◌∙◌}
+use mathlib.Core.Path.{◌∙◌}
 use native.Mathlib.Omega.{arith}
 use borrow.Author.Count.{below_more}
 use borrow.Author.Rules.{rules}
-use lib.ListN.{length, get_or}
 use lib.Seq.{get_or-set_same, get_or-set_other, ext_get_or}
 use Rattle.cache.proofs.copy.copy.Goals as goal
 

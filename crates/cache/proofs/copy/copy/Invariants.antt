@@ -1,11 +1,7 @@
 -- `cache::copy::copy` meets its contract: below i the two slices agree.
 use Prim.Native.Nat.{ℕ, ◌≤◌, ◌<◌, ◌-◌}
-use mathlib.Core.Path.{◌≡◌, ◌∙◌}
-use native.Mathlib.Omega.{arith}
-use borrow.Author.Count.{below_more}
-use borrow.Author.Rules.{rules}
+use mathlib.Core.Path.{◌≡◌}
 use lib.ListN.{length, get_or}
-use lib.Seq.{get_or-set_same, get_or-set_other, ext_get_or}
 use Rattle.cache.proofs.copy.copy.Given as goal
 
 abbrev pub invariant-loop-i : goal.invariant-loop-i

@@ -1,7 +1,6 @@
 -- `cache::device::bring_word` meets its contract.
 use mathlib.Core.Path.{ap}
 use Prim.Native.Nat.{ℕ}
-use borrow.Author.Rules.{rules}
 use lib.ListN.{set}
 use Rattle.cache.specs.Store.{store}
 use Rattle.cache.specs.Cache.{bring_word}

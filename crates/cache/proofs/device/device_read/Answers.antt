@@ -1,5 +1,4 @@
 -- `cache::device::device_read` meets its contract.
-use borrow.Author.Rules.{rules}
 use mathlib.Core.Path.{◌∙◌}
 use Rattle.board.proofs.Geometry.{memory_at_zero}
 use Rattle.cache.specs.Cache.{device_read}

@@ -1,7 +1,6 @@
 -- `cache::device::take_word` meets its contract.
 use mathlib.Core.Path.{ap}
 use Prim.Native.Nat.{ℕ}
-use borrow.Author.Rules.{rules}
 use lib.ListN.{get_or}
 use Rattle.cache.proofs.device.take_word.Goals as goal
 

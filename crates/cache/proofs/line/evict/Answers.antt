@@ -1,5 +1,4 @@
 -- `cache::line::evict` meets its contract.
-use borrow.Author.Rules.{rules}
 use mathlib.Core.Path.{ap}
 use Rattle.cache.specs.Cache.{empty, evict}
 use Rattle.cache.proofs.line.evict.Goals as goal

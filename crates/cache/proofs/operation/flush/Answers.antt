@@ -1,10 +1,8 @@
 -- `operation.flush` meets its contract.
-use mathlib.Core.Path.{◌≡◌, refl, sym, ap₂, ◌∙◌, subst⁻¹}
-use Prim.Native.Nat.{◌≤◌, ◌-◌}
+use mathlib.Core.Path.{refl, sym, ap₂, ◌∙◌, subst⁻¹}
 use native.Mathlib.Omega.{arith}
 use borrow.Author.Rules.{rules}
-use lib.ListN.{length}
-use Rattle.cache.specs.Store.{store, WellFormedStore}
+use Rattle.cache.specs.Store.{WellFormedStore}
 use Rattle.cache.specs.Cache.{sweep, leaving, flush_line}
 use Rattle.cache.proofs.Laws.Sweep.{turn_kept, sweep_more}
 use Rattle.cache.proofs.Laws.Operations.{flush_line_retags, flush_done}

@@ -1,13 +1,9 @@
 -- `cache::operation::flush` meets its contract: after i turns the buffers are as the sweep of i lines leaves them.
-use mathlib.Core.Path.{◌≡◌, refl, sym, ap₂, ◌∙◌, subst⁻¹}
+use mathlib.Core.Path.{◌≡◌}
 use Prim.Native.Nat.{◌≤◌, ◌-◌}
-use native.Mathlib.Omega.{arith}
-use borrow.Author.Rules.{rules}
 use lib.ListN.{length}
-use Rattle.cache.specs.Store.{store, WellFormedStore}
+use Rattle.cache.specs.Store.{store}
 use Rattle.cache.specs.Cache.{sweep, leaving, flush_line}
-use Rattle.cache.proofs.Laws.Sweep.{turn_kept, sweep_more}
-use Rattle.cache.proofs.Laws.Operations.{flush_line_retags, flush_done}
 use Rattle.cache.proofs.operation.flush.Given as goal
 
 abbrev pub invariant-loop-i : goal.invariant-loop-i

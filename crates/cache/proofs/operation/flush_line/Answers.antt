@@ -1,5 +1,4 @@
 -- `cache::operation::flush_line` meets its contract.
-use borrow.Author.Rules.{rules}
 use mathlib.Core.Path.{sym, ap₂, ◌∙◌}
 use Prim.Native.Nat.{ℕ}
 use Rattle.cache.specs.Cache.{write_back_as, leaving}

@@ -1,11 +1,7 @@
 -- `operation.purge` meets its contract.
-use mathlib.Core.Path.{◌≡◌, refl, sym, ap₂, ◌∙◌}
-use mathlib.Core.List.{List}
-use Prim.Native.Nat.{ℕ, ◌≤◌, ◌-◌}
+use mathlib.Core.Path.{refl, sym, ap₂, ◌∙◌}
 use native.Mathlib.Omega.{arith}
 use borrow.Author.Rules.{rules}
-use lib.ListN.{length}
-use Rattle.cache.specs.Store.{store}
 use Rattle.cache.specs.Cache.{sweep, purge_line}
 use Rattle.cache.proofs.Laws.Sweep.{sweep_more}
 use Rattle.cache.proofs.Laws.Operations.{purge_done}

@@ -1,14 +1,10 @@
 -- `cache::operation::purge` meets its contract: after i turns the tags are as the sweep of i lines leaves them.
-use mathlib.Core.Path.{◌≡◌, refl, sym, ap₂, ◌∙◌}
+use mathlib.Core.Path.{◌≡◌}
 use mathlib.Core.List.{List}
 use Prim.Native.Nat.{ℕ, ◌≤◌, ◌-◌}
-use native.Mathlib.Omega.{arith}
-use borrow.Author.Rules.{rules}
 use lib.ListN.{length}
 use Rattle.cache.specs.Store.{store}
 use Rattle.cache.specs.Cache.{sweep, purge_line}
-use Rattle.cache.proofs.Laws.Sweep.{sweep_more}
-use Rattle.cache.proofs.Laws.Operations.{purge_done}
 use Rattle.cache.proofs.operation.purge.Given as goal
 
 abbrev pub invariant-loop-i : goal.invariant-loop-i

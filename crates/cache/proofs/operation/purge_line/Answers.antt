@@ -1,5 +1,4 @@
 -- `cache::operation::purge_line` meets its contract.
-use borrow.Author.Rules.{rules}
 use mathlib.Core.Path.{sym, ◌∙◌}
 use Rattle.cache.specs.Cache.{empty}
 use Rattle.cache.proofs.Laws.Operations.{purge_line_named, purge_line_other}

@@ -1,5 +1,4 @@
 -- `cache::tag::line_keeps_rules` meets its contract.
-use borrow.Author.Rules.{rules}
 use Prim.Native.Nat.{◌≤◌, ◌<◌}
 use mathlib.Core.Path.{sym, ◌∙◌}
 use borrow.Author.Tests.{lt-leb, le-leb, le-ltb}

@@ -1,5 +1,4 @@
 -- `cache::tag::names` meets its contract.
-use borrow.Author.Rules.{rules}
 use borrow.Author.Tests.{eq-eqb, ne_eqb}
 use Rattle.cache.specs.Tag.{names}
 use Rattle.cache.proofs.tag.names.Goals as goal

@@ -1,5 +1,4 @@
 -- `cache::tag::tag_keeps_rules` meets its contract.
-use borrow.Author.Rules.{rules}
 use mathlib.Core.Path.{sym}
 use borrow.Author.Tests.{lt-leb, le-leb}
 use Rattle.cache.specs.Tag.{is_dirty_tag}

@@ -1,14 +1,10 @@
 -- `tag.tags_keep_rules` meets its contract.
-use Prim.Native.Nat.{ℕ, ◌≤◌, ◌<◌, ◌-◌}
-use mathlib.Core.Path.{◌≡◌, sym, ◌∙◌}
-use mathlib.Core.Bool.{true}
+use mathlib.Core.Path.{sym, ◌∙◌}
 use native.Mathlib.Omega.{arith}
 use borrow.Author.Count.{below_none, below_more}
 use borrow.Author.Rules.{rules}
 use borrow.Author.Tests.{not-true, not-false}
-use lib.ListN.{length, get_or}
 use Rattle.cache.proofs.Laws.Tag.{rules_all, rules_break}
-use Rattle.cache.specs.Tag.{line_keeps_rules}
 use Rattle.cache.proofs.tag.tags_keep_rules.Goals as goal
 
 pub loop-i-init : goal.loop-i-init

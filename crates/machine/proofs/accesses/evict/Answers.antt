@@ -1,7 +1,6 @@
 -- `machine::evict` meets its contract.
 use mathlib.Core.Path.{◌≡◌, refl, sym, ap, ◌∙◌}
 use Prim.Native.Nat.{ℕ}
-use borrow.Author.Rules.{rules}
 use Rattle.board.specs.Board.{board01}
 use Rattle.board.proofs.Geometry.{board01_regular}
 use Rattle.mapping.proofs.Laws.{items_length}
@@ -9,7 +8,7 @@ use Rattle.manager.specs.Refusals.{first_refusal}
 use Rattle.manager.specs.Tables.{tables, refill}
 use Rattle.machine.specs.Scaffold.Plans.{access_causes}
 use Rattle.machine.specs.Refusals.{causes}
-use Rattle.machine.specs.State.{State, machine_of, evict}
+use Rattle.machine.specs.State.{machine_of, evict}
 use Rattle.machine.proofs.PlanLaws.{evict_refused}
 use Rattle.machine.proofs.StepLaws.{step_refused, evict_ready, plain_made}
 use Rattle.machine.proofs.accesses.evict.Goals as goal

@@ -2,7 +2,6 @@
 use mathlib.Core.Path.{◌≡◌, refl, sym, ap, ◌∙◌}
 use mathlib.Core.Option.{some}
 use native.Mathlib.Omega.{arith}
-use borrow.Author.Rules.{rules}
 use Rattle.board.specs.Board.{board01, colour_of, instruction_page}
 use Rattle.board.proofs.Geometry.{board01_regular}
 use Rattle.mapping.proofs.Laws.{items_length}

@@ -1,7 +1,6 @@
 -- `machine::write` meets its contract.
 use mathlib.Core.Path.{◌≡◌, refl, sym, ◌∙◌}
 use mathlib.Core.Option.{none}
-use borrow.Author.Rules.{rules}
 use Rattle.board.specs.Board.{board01, colour_of}
 use Rattle.board.proofs.Geometry.{board01_regular, data_page}
 use Rattle.mapping.proofs.Laws.{items_length}

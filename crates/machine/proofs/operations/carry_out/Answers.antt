@@ -1,6 +1,5 @@
 -- `machine::carry_out` meets its contract.
 use mathlib.Core.Path.{ap, subst⁻¹, ◌∙◌}
-use borrow.Author.Rules.{rules}
 use Rattle.manager.specs.Answers.{operation_on}
 use Rattle.cache.specs.Store.{WellFormedStore}
 use Rattle.cache.specs.Cache.{leaving}

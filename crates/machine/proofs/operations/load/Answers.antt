@@ -1,6 +1,5 @@
 -- `machine::load` meets its contract.
 use mathlib.Core.Path.{ap, ◌∙◌}
-use borrow.Author.Rules.{rules}
 use Rattle.cache.specs.Cache.{read_word, access}
 use Rattle.machine.proofs.StoreLaws.{access_follows}
 use Rattle.machine.proofs.operations.load.Goals as goal

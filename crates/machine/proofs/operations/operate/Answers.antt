@@ -5,8 +5,7 @@ use Rattle.board.proofs.Geometry.{data_page}
 use Rattle.page_model.specs.Step.{OpBelow}
 use Rattle.cache.specs.Cache.{purge}
 use Rattle.cache.specs.Store.{store}
-use Rattle.machine.specs.Step.{operate_by, operate}
-use borrow.Author.Rules.{rules}
+use Rattle.machine.specs.Step.{operate_by}
 use Rattle.machine.proofs.operations.operate.Goals as goal
 
 pub flush-requires : goal.flush-requires

@@ -1,6 +1,5 @@
 -- `machine::put` meets its contract.
 use mathlib.Core.Path.{ap, ◌∙◌}
-use borrow.Author.Rules.{rules}
 use Rattle.cache.specs.Cache.{write_word}
 use Rattle.machine.proofs.StoreLaws.{access_follows}
 use Rattle.machine.proofs.operations.put.Goals as goal

@@ -1,7 +1,6 @@
 -- `machine::receive` meets its contract.
 use mathlib.Core.Path.{ap, ◌∙◌}
 use Rattle.cache.specs.Cache.{device_write}
-use borrow.Author.Rules.{rules}
 use Rattle.machine.proofs.operations.receive.Goals as goal
 
 pub returns : goal.returns

@@ -1,7 +1,6 @@
 -- `machine::send` meets its contract.
 use mathlib.Core.Path.{ap, ◌∙◌}
 use Rattle.cache.specs.Cache.{device_read}
-use borrow.Author.Rules.{rules}
 use Rattle.machine.proofs.operations.send.Goals as goal
 
 pub returns : goal.returns

@@ -2,7 +2,6 @@
 use mathlib.Core.Path.{refl}
 use mathlib.Core.Bool.{true}
 use mathlib.Core.List.{[], ◌∷◌}
-use borrow.Author.Rules.{rules}
 use Rattle.manager.specs.Refusals.{first_refusal, offset_cause}
 use Rattle.manager.proofs.CauseLaws.{or_else_is}
 use Rattle.cache.specs.Store.{store}

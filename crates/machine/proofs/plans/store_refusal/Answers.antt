@@ -3,11 +3,10 @@ use mathlib.Core.Path.{◌≡◌, sym, ◌∙◌}
 use mathlib.Core.Bool.{true}
 use borrow.Author.Tests.{ne_eqb, not-true, not-false}
 use Rattle.manager.specs.Refusals.{first_refusal}
-use Rattle.cache.specs.Store.{Store, store}
+use Rattle.cache.specs.Store.{store}
 use Rattle.machine.specs.Refusals.{store_lengths}
 use Rattle.machine.specs.Scaffold.Plans.{store_causes}
 use Rattle.machine.proofs.StoreLaws.{lengths_memory, lengths_words, lengths_tags, lengths_right_lem}
-use borrow.Author.Rules.{rules}
 use Rattle.machine.proofs.plans.store_refusal.Goals as goal
 
 pub returns-then-memory-memory_words : goal.returns-then-memory-memory_words

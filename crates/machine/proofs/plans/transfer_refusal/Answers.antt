@@ -3,7 +3,6 @@ use borrow.Author.Tests.{eq-eqb, ne_eqb}
 use mathlib.Core.Bool.{and-false}
 use Rattle.manager.specs.Refusals.{first_refusal}
 use Rattle.machine.specs.Scaffold.Plans.{store_causes}
-use borrow.Author.Rules.{rules}
 use Rattle.machine.proofs.plans.transfer_refusal.Goals as goal
 
 pub returns-then-buffer-number : goal.returns-then-buffer-number

@@ -3,7 +3,6 @@ use mathlib.Core.Path.{ap}
 use Rattle.manager.specs.declared.ListPlan.TheVariants as made
 use Rattle.machine.specs.Scaffold.Plans.{with_place}
 use Rattle.machine.proofs.MergeLaws.{with_place_own}
-use borrow.Author.Rules.{rules}
 use Rattle.machine.proofs.plans.with_place.Goals as goal
 
 pub returns-then-own-ne0 : goal.returns-then-own-ne0

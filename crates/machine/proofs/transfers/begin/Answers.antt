@@ -4,14 +4,12 @@ use mathlib.Core.Bool.{Bool, true, false}
 use mathlib.Core.List.{[]}
 use mathlib.Core.Option.{none}
 use Prim.Native.Nat.{ℕ}
-use borrow.Author.Rules.{rules}
 use Rattle.board.specs.declared.Board.{Board}
 use Rattle.board.specs.Board.{board01}
 use Rattle.board.proofs.Geometry.{board01_regular}
 use Rattle.mapping.specs.declared.MappingList.{MappingList}
 use Rattle.manager.specs.Answers.{refused}
 use Rattle.manager.specs.Calls.{change_of, begin_step}
-use Rattle.manager.specs.Tables.{tables}
 use Rattle.machine.specs.Parts.{steps, effect_in}
 use Rattle.machine.specs.Scaffold.Plans.{begins}
 use Rattle.machine.specs.State.{State, Result, lent_buffer}

@@ -1,6 +1,5 @@
 -- `machine::bring_word` meets its contract.
 use mathlib.Core.Path.{◌≡◌, refl, sym, ap, ◌∙◌}
-use borrow.Author.Rules.{rules}
 use borrow.Author.Tests.{leb-false}
 use Rattle.board.specs.Board.{board01}
 use Rattle.board.proofs.Geometry.{board01_regular}
@@ -8,7 +7,7 @@ use Rattle.mapping.proofs.Laws.{items_length}
 use Rattle.manager.specs.Refusals.{first_refusal}
 use Rattle.manager.specs.Tables.{tables, refill}
 use Rattle.machine.specs.Refusals.{causes}
-use Rattle.machine.specs.State.{State, machine_of, bring_word}
+use Rattle.machine.specs.State.{machine_of, bring_word}
 use Rattle.machine.proofs.PlanLaws.{bring_refused}
 use Rattle.machine.proofs.StepLaws.{step_refused, cleared, store_clear, plain_made}
 use Rattle.machine.proofs.transfers.bring_word.Goals as goal

@@ -1,12 +1,10 @@
 -- `machine::device_read` meets its contract.
 use mathlib.Core.Path.{refl, sym, ◌∙◌}
 use mathlib.Core.Option.{none}
-use borrow.Author.Rules.{rules}
 use Rattle.board.specs.Board.{board01}
 use Rattle.board.proofs.Geometry.{board01_regular}
 use Rattle.cache.specs.Cache as hardware
 use Rattle.machine.specs.Step.{accept}
-use Rattle.machine.specs.State.{device_read}
 use Rattle.machine.proofs.PlanLaws.{device_read_planned}
 use Rattle.machine.proofs.StepLaws.{transfer_requires, planned_refused, stepped_made}
 use Rattle.machine.proofs.transfers.device_read.Goals as goal

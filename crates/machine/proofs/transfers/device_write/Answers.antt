@@ -1,6 +1,5 @@
 -- `machine::device_write` meets its contract: it is the write of all the page's words.
 use mathlib.Core.Path.{◌∙◌}
-use borrow.Author.Rules.{rules}
 use Rattle.board.specs.Board.{board01}
 use Rattle.board.proofs.Geometry.{board01_regular}
 use Rattle.machine.proofs.Parts.{whole_part}

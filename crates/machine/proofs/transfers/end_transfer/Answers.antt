@@ -1,6 +1,5 @@
 -- `machine::end_transfer` meets its contract.
 use mathlib.Core.Path.{◌≡◌, refl, sym, ap, ◌∙◌}
-use borrow.Author.Rules.{rules}
 use Rattle.board.specs.Board.{board01}
 use Rattle.board.proofs.Geometry.{board01_regular}
 use Rattle.page_model.specs.Record.{freed}
@@ -9,7 +8,7 @@ use Rattle.manager.specs.Calls.{commit_change}
 use Rattle.manager.specs.Refusals.{first_refusal}
 use Rattle.manager.specs.Tables.{tables}
 use Rattle.machine.specs.Refusals.{causes}
-use Rattle.machine.specs.State.{State, machine_of, end_transfer}
+use Rattle.machine.specs.State.{machine_of, end_transfer}
 use Rattle.machine.proofs.PlanLaws.{end_refused}
 use Rattle.machine.proofs.StepLaws.{step_refused, plain_made}
 use Rattle.machine.proofs.transfers.end_transfer.Goals as goal

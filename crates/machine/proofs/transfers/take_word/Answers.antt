@@ -2,7 +2,6 @@
 use mathlib.Core.Path.{◌≡◌, refl, sym, ap, ◌∙◌}
 use mathlib.Core.Option.{Option, some}
 use Prim.Native.Nat.{ℕ}
-use borrow.Author.Rules.{rules}
 use borrow.Author.Tests.{leb-false}
 use Rattle.board.specs.Board.{board01}
 use Rattle.board.proofs.Geometry.{board01_regular}
@@ -12,7 +11,7 @@ use Rattle.mapping.proofs.Laws.{items_length}
 use Rattle.manager.specs.Refusals.{first_refusal}
 use Rattle.manager.specs.Tables.{tables, refill}
 use Rattle.machine.specs.Refusals.{causes}
-use Rattle.machine.specs.State.{State, machine_of, take_word}
+use Rattle.machine.specs.State.{machine_of, take_word}
 use Rattle.machine.proofs.PlanLaws.{take_refused}
 use Rattle.machine.proofs.StepLaws.{step_refused, cleared, store_clear, plain_made}
 use Rattle.machine.proofs.transfers.take_word.Goals as goal

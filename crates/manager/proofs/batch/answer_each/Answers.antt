@@ -1,9 +1,7 @@
 -- `batch.answer_each` meets its contract.
-use mathlib.Core.Path.{◌≡◌, refl}
-use Prim.Native.Nat.{ℕ, ◌<◌, ◌-◌}
+use mathlib.Core.Path.{refl}
 use native.Mathlib.Omega.{arith}
-use borrow.Author.Rules.{rules}
-use lib.ListN.{length, get_or, length-set}
+use lib.ListN.{length-set}
 use Rattle.manager.proofs.Laws.{set_more, is_tabulate}
 use Rattle.manager.proofs.batch.answer_each.Goals as goal
 

@@ -1,10 +1,7 @@
 -- `manager::answer_each` meets its contract.
-use mathlib.Core.Path.{◌≡◌, refl}
+use mathlib.Core.Path.{◌≡◌}
 use Prim.Native.Nat.{ℕ, ◌<◌, ◌-◌}
-use native.Mathlib.Omega.{arith}
-use borrow.Author.Rules.{rules}
-use lib.ListN.{length, get_or, length-set}
-use Rattle.manager.proofs.Laws.{set_more, is_tabulate}
+use lib.ListN.{length, get_or}
 use Rattle.manager.proofs.batch.answer_each.Given as goal
 
 abbrev pub invariant-loop-i : goal.invariant-loop-i

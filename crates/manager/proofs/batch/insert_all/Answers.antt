@@ -1,21 +1,16 @@
 -- `batch.insert_all` meets its contract.
 use mathlib.Core.Path.{◌≡◌, refl, sym, ap, subst⁻¹, ◌∙◌}
-use mathlib.Core.Bool.{true}
-use mathlib.Core.Logic.{⊎_elim}
-use Prim.Native.Nat.{ℕ, ◌≤◌, ◌<◌, ◌-◌}
 use native.Mathlib.Omega.{arith}
-use borrow.Author.Rules.{rules}
-use lib.ListN.{length, get_or, length-set}
+use lib.ListN.{get_or, length-set}
 use Rattle.board.specs.declared.Board.{Board}
 use Rattle.mapping.specs.declared.Mapping.{Mapping}
 use Rattle.mapping.specs.declared.MappingList.{MappingList}
 use Rattle.mapping.specs.declared.Seen.{Seen}
 use Rattle.mapping.specs.Batch.{items_of}
 use Rattle.mapping.specs.Change.{insert_at, insert}
-use Rattle.mapping.specs.Entry.{capacity, zero_mapping}
-use Rattle.mapping.specs.Rules.{keeps_rules}
+use Rattle.mapping.specs.Entry.{zero_mapping}
 use Rattle.mapping.proofs.Laws.{items_length, items_of_at, keeps_rules_true, rules_keeps_rules, inserted_length, inserted_rules}
-use Rattle.manager.specs.Scaffold.Inserted.{mapping_refusal, list_after_items, refusal_at}
+use Rattle.manager.specs.Scaffold.Inserted.{mapping_refusal, list_after_items}
 use Rattle.manager.specs.Refusals.{first_refusal}
 use Rattle.manager.specs.Scaffold.Told.{told_mapping}
 use Rattle.manager.proofs.AcceptedLaws.{mapping_accepted}

@@ -1,26 +1,14 @@
 -- `manager::insert_all` meets its contract. The loop's invariant: the list and the answers after i items, and that the list keeps its rules.
-use mathlib.Core.Path.{◌≡◌, refl, sym, ap, subst⁻¹, ◌∙◌}
+use mathlib.Core.Path.{◌≡◌}
 use mathlib.Core.Bool.{true}
-use mathlib.Core.Logic.{⊎_elim}
 use Prim.Native.Nat.{ℕ, ◌≤◌, ◌<◌, ◌-◌}
-use native.Mathlib.Omega.{arith}
-use borrow.Author.Rules.{rules}
-use lib.ListN.{length, get_or, length-set}
+use lib.ListN.{length, get_or}
 use Rattle.board.specs.declared.Board.{Board}
-use Rattle.mapping.specs.declared.Mapping.{Mapping}
 use Rattle.mapping.specs.declared.MappingList.{MappingList}
-use Rattle.mapping.specs.declared.Seen.{Seen}
 use Rattle.mapping.specs.Batch.{items_of}
-use Rattle.mapping.specs.Change.{insert_at, insert}
-use Rattle.mapping.specs.Entry.{capacity, zero_mapping}
+use Rattle.mapping.specs.Entry.{capacity}
 use Rattle.mapping.specs.Rules.{keeps_rules}
-use Rattle.mapping.proofs.Laws.{items_length, items_of_at, keeps_rules_true, rules_keeps_rules, inserted_length, inserted_rules}
-use Rattle.manager.specs.Scaffold.Inserted.{mapping_refusal, list_after_items, refusal_at}
-use Rattle.manager.specs.Refusals.{first_refusal}
-use Rattle.manager.specs.Scaffold.Told.{told_mapping}
-use Rattle.manager.proofs.AcceptedLaws.{mapping_accepted}
-use Rattle.manager.proofs.BatchLaws.{listed_accepted, listed_refused, refusal_more, list_more}
-use Rattle.manager.proofs.Laws.{set_more, is_tabulate}
+use Rattle.manager.specs.Scaffold.Inserted.{list_after_items, refusal_at}
 use Rattle.manager.proofs.batch.insert_all.Given as goal
 
 -- a list of its length that keeps its rules

@@ -1,6 +1,5 @@
 -- `manager::device_read` meets its contract.
 use mathlib.Core.Path.{refl, ap, ◌∙◌}
-use borrow.Author.Rules.{rules}
 use Rattle.board.specs.Board.{board01}
 use Rattle.board.proofs.Geometry.{board01_regular}
 use Rattle.manager.specs.Calls.{step_result}

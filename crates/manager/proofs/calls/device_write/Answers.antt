@@ -1,7 +1,6 @@
 -- `manager::device_write` meets its contract: it is the transfer of all the page's words.
 use mathlib.Core.Path.{ap, ◌∙◌}
 use native.Mathlib.Omega.{arith}
-use borrow.Author.Rules.{rules}
 use Rattle.board.specs.Board.{board01}
 use Rattle.manager.specs.Calls.{step_result}
 use Rattle.manager.proofs.Parts.{whole_plan}

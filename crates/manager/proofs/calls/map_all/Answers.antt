@@ -1,14 +1,13 @@
 -- `manager::map_all` meets its contract.
 use mathlib.Core.Path.{◌≡◌, sym, ap, ◌∙◌}
 use Prim.Native.Nat.{ℕ}
-use borrow.Author.Rules.{rules}
 use Rattle.board.specs.Board.{board01}
 use Rattle.board.proofs.Geometry.{board01_regular}
 use Rattle.mapping.specs.Batch.{items_of}
 use Rattle.mapping.proofs.Laws.{items_length}
 use Rattle.manager.specs.Scaffold.Inserted.{batch_made}
 use Rattle.manager.specs.Refusals.{first_refusal, table_causes}
-use Rattle.manager.specs.Tables.{Tables, tables}
+use Rattle.manager.specs.Tables.{tables}
 use Rattle.manager.proofs.CauseLaws.{list_keeps, told_tables_lem, tables_clear}
 use Rattle.manager.proofs.Singly.{map_all_made}
 use Rattle.manager.proofs.calls.map_all.Goals as goal

@@ -1,5 +1,4 @@
 -- `manager::start` meets its contract.
-use borrow.Author.Rules.{rules}
 use Rattle.manager.proofs.calls.start.Goals as goal
 
 pub returns : goal.returns

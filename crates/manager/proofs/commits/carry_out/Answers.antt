@@ -2,7 +2,6 @@
 use mathlib.Core.Path.{ap}
 use Rattle.manager.specs.Answers.{accepted}
 use Rattle.manager.specs.Calls.{call_result}
-use borrow.Author.Rules.{rules}
 use Rattle.manager.proofs.commits.carry_out.Goals as goal
 
 pub returns-in-Refused : goal.returns-in-Refused

@@ -1,5 +1,4 @@
 -- `manager::commits::commit_map` meets its contract.
-use borrow.Author.Rules.{rules}
 use Rattle.manager.specs.Tables.{refill}
 use Rattle.manager.proofs.commits.commit_map.Goals as goal
 

@@ -1,8 +1,7 @@
 -- `manager::plans::plan_begin` meets its contract.
 use mathlib.Core.Path.{◌≡◌, refl, sym, ap, ◌∙◌}
 use mathlib.Core.Bool.{Bool, true, cond}
-use mathlib.Core.List.{List, [], ◌∷◌, ◌++◌}
-use borrow.Author.Rules.{rules}
+use mathlib.Core.List.{[], ◌∷◌, ◌++◌}
 use Rattle.page_model.specs.declared.FrameRecord.{FrameRecord}
 use Rattle.page_model.specs.declared.Stepped.{Stepped}
 use Rattle.page_model.specs.Busy.{bars}
@@ -11,8 +10,8 @@ use Rattle.page_model.specs.Step.{stepped}
 use Rattle.page_model.specs.Table.{Step, begin_read, begin_write}
 use Rattle.mapping.proofs.Laws.{items_length}
 use Rattle.manager.specs.Calls.{planned, plan_transfer}
-use Rattle.manager.specs.Refusals.{Cause, first_refusal, table_causes, frame_cause, transfer_causes}
-use Rattle.manager.specs.Tables.{Tables, tables}
+use Rattle.manager.specs.Refusals.{first_refusal, table_causes, frame_cause, transfer_causes}
+use Rattle.manager.specs.Tables.{tables}
 use Rattle.manager.proofs.CauseLaws.{told_own, transfer_rules}
 use Rattle.manager.proofs.PlanLaws.{planned_first, planned_barred}
 use Rattle.manager.proofs.plans.plan_begin.Goals as goal

@@ -1,15 +1,14 @@
 -- `manager::plans::plan_device_read` meets its contract.
 use mathlib.Core.Path.{refl, sym, ap, ◌∙◌}
-use mathlib.Core.List.{List, [], ◌∷◌, ◌++◌}
-use borrow.Author.Rules.{rules}
+use mathlib.Core.List.{[], ◌∷◌, ◌++◌}
 use Rattle.page_model.specs.declared.FrameRecord.{FrameRecord}
 use Rattle.page_model.specs.Busy.{bars}
 use Rattle.page_model.specs.Record.{keeps_rules}
 use Rattle.page_model.specs.Step.{stepped}
 use Rattle.page_model.specs.Table.{device_read}
 use Rattle.mapping.proofs.Laws.{items_length}
-use Rattle.manager.specs.Refusals.{Cause, table_causes, frame_cause, transfer_causes}
-use Rattle.manager.specs.Tables.{Tables, tables}
+use Rattle.manager.specs.Refusals.{table_causes, frame_cause, transfer_causes}
+use Rattle.manager.specs.Tables.{tables}
 use Rattle.manager.proofs.CauseLaws.{told_own, transfer_rules}
 use Rattle.manager.proofs.PlanLaws.{planned_first, planned_barred}
 use Rattle.manager.proofs.plans.plan_device_read.Goals as goal

@@ -1,9 +1,8 @@
 -- `manager::plans::plan_device_write_part` meets its contract.
 use mathlib.Core.Path.{◌≡◌, refl, sym, ap, ◌∙◌}
 use mathlib.Core.Bool.{Bool, true, cond}
-use mathlib.Core.List.{List, [], ◌∷◌, ◌++◌}
+use mathlib.Core.List.{[], ◌∷◌, ◌++◌}
 use Prim.Native.Nat.{ℕ}
-use borrow.Author.Rules.{rules}
 use borrow.Author.Tests.{lt-ltb, le-ltb}
 use Rattle.page_model.specs.declared.FrameRecord.{FrameRecord}
 use Rattle.page_model.specs.declared.Stepped.{Stepped}
@@ -13,8 +12,8 @@ use Rattle.page_model.specs.Step.{stepped}
 use Rattle.page_model.specs.Table.{Step, device_write, device_write_part}
 use Rattle.mapping.proofs.Laws.{items_length}
 use Rattle.manager.specs.Calls.{planned, change_of}
-use Rattle.manager.specs.Refusals.{Cause, ◌if◌, first_refusal, table_causes, frame_cause, part_cause, part_causes}
-use Rattle.manager.specs.Tables.{Tables, tables}
+use Rattle.manager.specs.Refusals.{◌if◌, first_refusal, table_causes, frame_cause, part_cause, part_causes}
+use Rattle.manager.specs.Tables.{tables}
 use Rattle.manager.proofs.CauseLaws.{told_own, transfer_rules}
 use Rattle.manager.proofs.PlanLaws.{planned_first, planned_barred}
 use Rattle.manager.proofs.plans.plan_device_write_part.Goals as goal

@@ -1,6 +1,5 @@
 -- `manager::plans::plan_unmap` meets its contract.
 use mathlib.Core.Path.{refl, sym, ap, ap₂, ◌∙◌}
-use borrow.Author.Rules.{rules}
 use Rattle.mapping.specs.declared.Seen.{Seen}
 use Rattle.mapping.proofs.Laws.{items_length}
 use Rattle.manager.specs.declared.ListPlan.TheVariants as list_plan

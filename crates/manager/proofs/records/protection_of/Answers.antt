@@ -6,7 +6,6 @@ use native.Mathlib.Nat.{mod-lt}
 use native.Mathlib.Omega.{arith}
 use mir.Val.{bool_byte}
 use lib.Dec.{eqb}
-use borrow.Author.Rules.{rules}
 use Rattle.bits.specs.Mask.{width}
 use Rattle.board.specs.Board.{colour_of}
 use Rattle.page_model.specs.Record.{is_held, is_dirty, is_fetched}

@@ -1,6 +1,5 @@
 -- `manager::put_record` meets its contract.
 use native.Mathlib.Nat.{add-zero}
-use borrow.Author.Rules.{rules}
 use Rattle.manager.specs.Tables.{put_record}
 use Rattle.manager.proofs.records.put_record.Goals as goal
 

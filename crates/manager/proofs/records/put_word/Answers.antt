@@ -1,7 +1,6 @@
 -- `manager::put_word` meets its contract.
 use mathlib.Core.Path.{sym}
 use lib.Seq.{set_out}
-use borrow.Author.Rules.{rules}
 use Rattle.manager.proofs.records.put_word.Goals as goal
 
 pub returns-else-i-words : goal.returns-else-i-words

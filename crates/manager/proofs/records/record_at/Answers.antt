@@ -1,6 +1,5 @@
 -- `manager::record_at` meets its contract.
 use native.Mathlib.Nat.{add-zero}
-use borrow.Author.Rules.{rules}
 use Rattle.manager.proofs.RecordLaws.{record_at_words}
 use Rattle.manager.proofs.records.record_at.Goals as goal
 

@@ -3,13 +3,10 @@ use borrow.Author.Count.{below_more}
 use borrow.Author.Tests.{not-true, not-false}
 use Rattle.bits.proofs.Mask.{all_of}
 use Rattle.mapping.proofs.Tests.{all_not}
-use borrow.Author.Rules.{rules}
-use mathlib.Core.Path.{◌≡◌, sym, ◌∙◌, ap}
-use mathlib.Core.Bool.{true}
-use Prim.Native.Nat.{ℕ, ◌≤◌, ◌<◌, ◌-◌}
+use mathlib.Core.Path.{sym, ◌∙◌, ap}
 use native.Mathlib.Omega.{arith}
 use Rattle.page_model.specs.Record.{keeps_rules}
-use Rattle.manager.specs.Tables.{record_at, records_keep_rules}
+use Rattle.manager.specs.Tables.{records_keep_rules}
 use Rattle.manager.proofs.records.records_keep_rules.Goals as goal
 
 pub loop-frame-init : goal.loop-frame-init

@@ -1,14 +1,11 @@
 -- `records.refill` meets its contract.
 use mathlib.Core.Path.{◌≡◌, refl, sym, ◌∙◌}
-use mathlib.Core.Bool.{cond}
 use mathlib.Core.Logic.{⊎_elim}
 use mathlib.Core.List.{List}
-use Prim.Native.Nat.{ℕ, ◌≤◌, ◌<◌, ◌-◌}
+use Prim.Native.Nat.{ℕ, ◌≤◌, ◌<◌}
 use native.Mathlib.Omega.{arith}
-use lib.ListN.{length, get_or, length-set, get_or-eq_default}
-use lib.Dec.{ltb}
-use borrow.Author.Rules.{rules}
-use borrow.Author.Tests.{ltb-true, ltb-false, lt-ltb, le-ltb}
+use lib.ListN.{get_or, length-set, get_or-eq_default}
+use borrow.Author.Tests.{ltb-true, lt-ltb, le-ltb}
 use Rattle.board.specs.declared.Board.{Board}
 use Rattle.mapping.specs.declared.Mapping.{Mapping}
 use Rattle.mapping.specs.declared.MappingList.{MappingList}
@@ -17,7 +14,7 @@ use Rattle.mapping.proofs.Laws.{items_length}
 use Rattle.mapping.proofs.Tests.{lt_or_le}
 use Rattle.manager.specs.Tables.{protection, mapping_state, instructions_of, protection_at}
 use Rattle.manager.proofs.Laws.{set_more, is_tabulate}
-use Rattle.manager.proofs.records.refill.Invariants.{Filled, cleared}
+use Rattle.manager.proofs.records.refill.Invariants.{cleared}
 use Rattle.manager.proofs.records.refill.Goals as goal
 use Rattle.manager.proofs.records.refill.Goals.{then-i-lt-CAPACITY, else-i-lt-CAPACITY, then-loop-i-test+else-i-count, else-loop-i-test}
 

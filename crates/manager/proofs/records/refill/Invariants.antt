@@ -1,22 +1,13 @@
 -- `manager::refill` meets its contract. The loops' invariant: every place passed has its protection.
-use mathlib.Core.Path.{◌≡◌, refl, sym, ◌∙◌}
+use mathlib.Core.Path.{◌≡◌}
 use mathlib.Core.Bool.{cond}
-use mathlib.Core.Logic.{⊎_elim}
 use mathlib.Core.List.{List}
 use Prim.Native.Nat.{ℕ, ◌≤◌, ◌<◌, ◌-◌}
-use native.Mathlib.Omega.{arith}
-use lib.ListN.{length, get_or, length-set, get_or-eq_default}
+use lib.ListN.{length, get_or}
 use lib.Dec.{ltb}
-use borrow.Author.Rules.{rules}
-use borrow.Author.Tests.{ltb-true, ltb-false, lt-ltb, le-ltb}
 use Rattle.board.specs.declared.Board.{Board}
-use Rattle.mapping.specs.declared.Mapping.{Mapping}
 use Rattle.mapping.specs.declared.MappingList.{MappingList}
-use Rattle.mapping.specs.Entry.{zero_mapping, mapping_at}
-use Rattle.mapping.proofs.Laws.{items_length}
-use Rattle.mapping.proofs.Tests.{lt_or_le}
-use Rattle.manager.specs.Tables.{protection, mapping_state, instructions_of, protection_at}
-use Rattle.manager.proofs.Laws.{set_more, is_tabulate}
+use Rattle.manager.specs.Tables.{protection_at}
 use Rattle.manager.proofs.records.refill.Given as goal
 
 -- the protections below i are those of the list, on every board with so many colours

@@ -1,9 +1,7 @@
 -- `records.start` meets its contract.
-use mathlib.Core.Path.{◌≡◌, refl}
-use Prim.Native.Nat.{ℕ, ◌<◌, ◌-◌}
+use mathlib.Core.Path.{refl}
 use native.Mathlib.Omega.{arith}
-use borrow.Author.Rules.{rules}
-use lib.ListN.{length, get_or, length-set}
+use lib.ListN.{length-set}
 use Rattle.manager.specs.Tables.{start_word}
 use Rattle.manager.proofs.Laws.{set_more, is_tabulate}
 use Rattle.manager.proofs.records.start.Goals as goal

@@ -1,11 +1,8 @@
 -- `manager::records::start` meets its contract.
-use mathlib.Core.Path.{◌≡◌, refl}
+use mathlib.Core.Path.{◌≡◌}
 use Prim.Native.Nat.{ℕ, ◌<◌, ◌-◌}
-use native.Mathlib.Omega.{arith}
-use borrow.Author.Rules.{rules}
-use lib.ListN.{length, get_or, length-set}
+use lib.ListN.{length, get_or}
 use Rattle.manager.specs.Tables.{start_word}
-use Rattle.manager.proofs.Laws.{set_more, is_tabulate}
 use Rattle.manager.proofs.records.start.Given as goal
 
 abbrev pub invariant-loop-at : goal.invariant-loop-at

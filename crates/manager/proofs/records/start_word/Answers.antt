@@ -1,5 +1,4 @@
 -- `manager::records::start_word` meets its contract.
-use borrow.Author.Rules.{rules}
 use borrow.Author.Tests.{eq-eqb, ne_eqb}
 use Rattle.manager.proofs.records.start_word.Goals as goal
 

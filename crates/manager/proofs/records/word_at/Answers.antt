@@ -1,7 +1,6 @@
 -- `manager::word_at` meets its contract.
 use mathlib.Core.Path.{sym}
 use lib.ListN.{get_or-eq_default}
-use borrow.Author.Rules.{rules}
 use Rattle.manager.proofs.records.word_at.Goals as goal
 
 pub returns-else-i-words : goal.returns-else-i-words

@@ -1,7 +1,6 @@
 -- `manager::refusals::access_refusal` meets its contract.
 use mathlib.Core.Path.{refl}
 use mathlib.Core.List.{◌++◌}
-use borrow.Author.Rules.{rules}
 use Rattle.manager.specs.Refusals.{first_refusal}
 use Rattle.manager.specs.Scaffold.Told.{told_tables, told_page, told_rights}
 use Rattle.manager.proofs.CauseLaws.{or_else_is}

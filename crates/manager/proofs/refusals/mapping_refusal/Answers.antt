@@ -1,5 +1,4 @@
 -- `manager::refusals::mapping_refusal` meets its contract.
-use borrow.Author.Rules.{rules}
 use Rattle.manager.specs.Refusals.{first_refusal}
 use Rattle.manager.proofs.refusals.mapping_refusal.Goals as goal
 

@@ -1,6 +1,5 @@
 -- `manager::refusals::page_refusal` meets its contract.
 use mathlib.Core.Path.{refl}
-use borrow.Author.Rules.{rules}
 use Rattle.manager.specs.Refusals.{first_refusal}
 use Rattle.manager.specs.Scaffold.Told.{told_tables, told_page}
 use Rattle.manager.proofs.CauseLaws.{or_else_is}

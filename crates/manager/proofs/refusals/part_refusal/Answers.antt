@@ -1,7 +1,6 @@
 -- `manager::refusals::part_refusal` meets its contract.
 use mathlib.Core.Path.{refl}
 use mathlib.Core.List.{[], ◌∷◌, ◌++◌}
-use borrow.Author.Rules.{rules}
 use Rattle.manager.specs.Refusals.{first_refusal, frame_cause, part_cause}
 use Rattle.manager.specs.Scaffold.Told.{told_tables}
 use Rattle.manager.proofs.CauseLaws.{or_else_is}

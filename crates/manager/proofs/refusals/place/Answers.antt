@@ -1,10 +1,9 @@
 -- `refusals.place` meets its contract.
 use mathlib.Core.Path.{◌≡◌, ◌∙◌}
-use Prim.Native.Nat.{ℕ, ◌≤◌, ◌<◌, ◌-◌}
 use borrow.Author.Count.{below_more}
 use borrow.Author.Rules.{rules}
 use native.Mathlib.Omega.{arith}
-use lib.ListN.{length, get_or}
+use lib.ListN.{length}
 use Rattle.manager.specs.Refusals.{refusal_order, refusal_place}
 use Rattle.manager.proofs.FirstRefusal.{place_in_at, place_in_none}
 use Rattle.manager.proofs.refusals.place.Goals as goal

@@ -1,12 +1,8 @@
 -- `manager::refusals::place` meets its contract.
-use mathlib.Core.Path.{◌≡◌, ◌∙◌}
+use mathlib.Core.Path.{◌≡◌}
 use Prim.Native.Nat.{ℕ, ◌≤◌, ◌<◌, ◌-◌}
-use borrow.Author.Count.{below_more}
-use borrow.Author.Rules.{rules}
-use native.Mathlib.Omega.{arith}
 use lib.ListN.{length, get_or}
-use Rattle.manager.specs.Refusals.{refusal_order, refusal_place}
-use Rattle.manager.proofs.FirstRefusal.{place_in_at, place_in_none}
+use Rattle.manager.specs.Refusals.{refusal_order}
 use Rattle.manager.proofs.refusals.place.Given as goal
 
 abbrev pub invariant-loop-i : goal.invariant-loop-i

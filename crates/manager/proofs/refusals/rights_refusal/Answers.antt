@@ -1,5 +1,4 @@
 -- `manager::refusals::rights_refusal` meets its contract.
-use borrow.Author.Rules.{rules}
 use Rattle.manager.specs.Refusals.{first_refusal}
 use Rattle.manager.proofs.refusals.rights_refusal.Goals as goal
 

@@ -1,6 +1,5 @@
 -- `manager::tables_refusal` meets its contract.
 use mathlib.Core.Path.{sym, ◌∙◌}
-use borrow.Author.Rules.{rules}
 use borrow.Author.Tests.{eq-eqb, ne_eqb, not-true, not-false}
 use Rattle.manager.specs.Refusals.{first_refusal}
 use Rattle.manager.specs.Scaffold.Told.{told_tables}

@@ -1,8 +1,7 @@
 -- `manager::refusals::word_refusal` meets its contract.
 use mathlib.Core.Path.{refl, sym, ◌∙◌}
-use mathlib.Core.List.{List, [], ◌∷◌, ◌++◌}
-use borrow.Author.Rules.{rules}
-use Rattle.manager.specs.Refusals.{Cause, first_refusal, frame_cause, offset_cause, word_cause}
+use mathlib.Core.List.{[], ◌∷◌, ◌++◌}
+use Rattle.manager.specs.Refusals.{first_refusal, frame_cause, offset_cause, word_cause}
 use Rattle.manager.specs.Scaffold.Told.{told_tables}
 use Rattle.manager.proofs.CauseLaws.{refusal_prefix, refusal_rest}
 use Rattle.manager.proofs.refusals.word_refusal.Goals as goal

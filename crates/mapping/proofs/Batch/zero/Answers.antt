@@ -1,7 +1,6 @@
 -- `mapping::Batch::zero` meets its contract.
 use mathlib.Core.Path.{ap}
 use lib.ListN.{replicate}
-use borrow.Author.Rules.{rules}
 use Rattle.mapping.specs.declared.Mapping.{Mapping}
 use Rattle.mapping.specs.declared.Batch.{Batch}
 use Rattle.mapping.specs.Batch.{batch_size}

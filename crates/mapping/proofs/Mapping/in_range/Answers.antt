@@ -1,5 +1,4 @@
 -- `mapping::Mapping::in_range` meets its contract.
-use borrow.Author.Rules.{rules}
 use borrow.Author.Tests.{lt-ltb, le-ltb}
 use Rattle.mapping.specs.Entry.{in_range}
 use Rattle.mapping.proofs.Tests.{chain_last}

@@ -1,6 +1,5 @@
 -- `page_model::FrameRecord::fetch` meets its contract.
 use mathlib.Core.Path.{refl}
-use borrow.Author.Rules.{rules}
 use Rattle.page_model.proofs.FrameRecord.fetch.Goals as goal
 
 pub returns : goal.returns

@@ -1,7 +1,6 @@
 -- `page_model::FrameRecord::holds` meets its contract.
 use mathlib.Core.Path.{refl, ap₂, ◌∙◌}
 use mathlib.Core.Bool.{Bool, true, not, ◌&&◌}
-use borrow.Author.Rules.{rules}
 use Rattle.page_model.specs.Record.{is_held}
 use Rattle.page_model.proofs.Cells.{state_law}
 use Rattle.page_model.proofs.FrameRecord.holds.Goals as goal

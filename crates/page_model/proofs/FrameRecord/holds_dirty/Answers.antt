@@ -1,7 +1,6 @@
 -- `page_model::FrameRecord::holds_dirty` meets its contract.
 use mathlib.Core.Path.{refl, ap, ◌∙◌}
 use mathlib.Core.Bool.{Bool, true, ◌&&◌}
-use borrow.Author.Rules.{rules}
 use lib.Dec.{eqb}
 use Rattle.page_model.specs.Record.{state_of, is_held, is_dirty}
 use Rattle.page_model.proofs.Cells.{state_test, state_law}

@@ -1,7 +1,6 @@
 -- `page_model::FrameRecord::holds_instructions` meets its contract.
 use mathlib.Core.Path.{◌≡◌, refl, ap₂, ◌∙◌}
 use mathlib.Core.Bool.{Bool, true, false, not, ◌&&◌}
-use borrow.Author.Rules.{rules}
 use Rattle.bits.specs.Mask.{bit}
 use Rattle.page_model.specs.Record.{instruction_state_from, instruction_state_of, is_fetched}
 use Rattle.page_model.proofs.FrameRecord.holds_instructions.Goals as goal

@@ -1,5 +1,4 @@
 -- `page_model::FrameRecord::instruction_state` meets its contract.
-use borrow.Author.Rules.{rules}
 use Rattle.page_model.specs.Record.{instruction_state_of}
 use Rattle.page_model.proofs.FrameRecord.instruction_state.Goals as goal
 

@@ -1,6 +1,5 @@
 -- `page_model::FrameRecord::instructions_after` meets its contract.
 use mathlib.Core.Path.{◌∙◌}
-use borrow.Author.Rules.{rules}
 use Rattle.page_model.specs.Masks.{moved}
 use Rattle.page_model.proofs.FrameRecord.instructions_after.Goals as goal
 

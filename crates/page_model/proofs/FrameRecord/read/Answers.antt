@@ -1,6 +1,5 @@
 -- `page_model::FrameRecord::read` meets its contract.
 use mathlib.Core.Path.{refl}
-use borrow.Author.Rules.{rules}
 use Rattle.page_model.proofs.FrameRecord.read.Goals as goal
 
 pub returns : goal.returns

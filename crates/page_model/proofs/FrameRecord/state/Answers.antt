@@ -1,5 +1,4 @@
 -- `page_model::FrameRecord::state` meets its contract.
-use borrow.Author.Rules.{rules}
 use borrow.Author.Tests.{eq-eqb, ne_eqb}
 use Rattle.page_model.specs.Record.{state_of}
 use Rattle.page_model.proofs.FrameRecord.state.Goals as goal

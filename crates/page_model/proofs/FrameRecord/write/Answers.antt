@@ -1,6 +1,5 @@
 -- `page_model::FrameRecord::write` meets its contract.
 use mathlib.Core.Path.{refl}
-use borrow.Author.Rules.{rules}
 use Rattle.page_model.proofs.FrameRecord.write.Goals as goal
 
 pub returns : goal.returns

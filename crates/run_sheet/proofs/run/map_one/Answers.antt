@@ -2,7 +2,6 @@
 use mathlib.Core.Path.{refl}
 use Rattle.run_step.proofs.Making.{did, did_as}
 use Rattle.run_sheet.proofs.Running.{ran_mapping}
-use borrow.Author.Rules.{rules}
 use Rattle.run_sheet.proofs.run.map_one.Goals as goal
 
 pub returns : goal.returns

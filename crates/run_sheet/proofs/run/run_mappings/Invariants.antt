@@ -1,15 +1,11 @@
 -- `run_sheet::run_mappings` meets its contract.
 use mathlib.Core.Path.{◌≡◌}
 use Prim.Native.Nat.{◌≤◌, ◌-◌}
-use native.Mathlib.Omega.{arith}
 use lib.ListN.{length}
 use Rattle.board.specs.Board.{board01}
 use Rattle.machine.specs.State.{machine_of}
-use Rattle.sheet_codec.specs.Text.{mapping_line_of}
 use Rattle.run_sheet.specs.Ran.{Ran}
 use Rattle.run_sheet.specs.Run.{run_from, after_mappings}
-use Rattle.run_sheet.proofs.Running.{ran_none, ran_next, ran_counted}
-use borrow.Author.Rules.{rules}
 use Rattle.run_sheet.proofs.run.run_mappings.Given as goal
 
 abbrev pub invariant-loop-i : goal.invariant-loop-i

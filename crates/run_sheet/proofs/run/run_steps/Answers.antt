@@ -1,7 +1,6 @@
 -- `run_sheet::run_steps` meets its contract.
-use mathlib.Core.Path.{◌≡◌, refl, sym, ap, ◌∙◌}
+use mathlib.Core.Path.{refl, sym, ◌∙◌}
 use native.Mathlib.Omega.{arith}
-use lib.ListN.{length}
 use borrow.Author.Rules.{rules}
 use Rattle.board.specs.Board.{board01}
 use Rattle.manager.specs.Answers.{outcome}

@@ -1,5 +1,5 @@
 -- `steps.count_up` meets its contract.
-use Rattle.std.proofs.Common.{◌≡◌, ℕ, ◌-◌, ◌<◌, ◌≤◌, length, get_or, sym, ◌∙◌, arith, get_or-set_other, get_or-set_same, ext_get_or, rules, below_none, below_more}
+use Rattle.std.proofs.Common.{length, sym, ◌∙◌, arith, get_or-set_other, get_or-set_same, ext_get_or, rules, below_none, below_more}
 use Rattle.manager.proofs.Laws.{length_tabulate, get_d_tabulate}
 use Rattle.sheet_codec.specs.Format.{sent_word}
 use Rattle.run_step.proofs.steps.count_up.Goals as goal

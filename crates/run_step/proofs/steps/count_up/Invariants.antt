@@ -1,6 +1,5 @@
 -- `run_step::count_up` meets its contract.
-use Rattle.std.proofs.Common.{◌≡◌, ℕ, ◌-◌, ◌<◌, ◌≤◌, length, get_or, sym, ◌∙◌, arith, get_or-set_other, get_or-set_same, ext_get_or, rules, below_none, below_more}
-use Rattle.manager.proofs.Laws.{length_tabulate, get_d_tabulate}
+use Rattle.std.proofs.Common.{◌≡◌, ℕ, ◌-◌, ◌<◌, ◌≤◌, length, get_or}
 use Rattle.sheet_codec.specs.Format.{sent_word}
 use Rattle.run_step.proofs.steps.count_up.Given as goal
 

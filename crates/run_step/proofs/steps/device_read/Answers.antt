@@ -1,6 +1,6 @@
 -- `run_step::device_read` meets its contract.
 use Rattle.manager.specs.Answers.{outcome}
-use Rattle.std.proofs.Common.{refl, ◌∙◌, rules}
+use Rattle.std.proofs.Common.{refl, ◌∙◌}
 use Rattle.run_step.proofs.Making.{did, first_same}
 use Rattle.run_step.proofs.steps.device_read.Goals as goal
 

@@ -1,5 +1,5 @@
 -- `run_step::device_write` meets its contract.
-use Rattle.std.proofs.Common.{refl, ap, rules}
+use Rattle.std.proofs.Common.{refl, ap}
 use Rattle.machine.specs.State.{device_write}
 use Rattle.run_step.proofs.Making.{did, did_as}
 use Rattle.run_step.proofs.steps.device_write.Goals as goal

@@ -1,6 +1,5 @@
 -- `run_step::fetch` meets its contract.
 use Rattle.run_step.proofs.Making.{did}
-use Rattle.std.proofs.Common.{rules}
 use Rattle.run_step.proofs.steps.fetch.Goals as goal
 
 pub returns : goal.returns

@@ -1,5 +1,4 @@
 -- `run_step::first_word` meets its contract.
-use Rattle.std.proofs.Common.{rules}
 use Rattle.run_step.proofs.steps.first_word.Goals as goal
 
 pub returns-in-Accepted : goal.returns-in-Accepted

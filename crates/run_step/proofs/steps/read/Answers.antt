@@ -1,6 +1,5 @@
 -- `run_step::read` meets its contract.
 use Rattle.run_step.proofs.Making.{did}
-use Rattle.std.proofs.Common.{rules}
 use Rattle.run_step.proofs.steps.read.Goals as goal
 
 pub returns : goal.returns

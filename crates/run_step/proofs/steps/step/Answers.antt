@@ -1,5 +1,5 @@
 -- `run_step::step` meets its contract.
-use Rattle.std.proofs.Common.{ℕ, ◌≤◌, [], ◌∷◌, sym, ⊎_elim, arith, rules}
+use Rattle.std.proofs.Common.{ℕ, ◌≤◌, [], ◌∷◌, sym, ⊎_elim, arith}
 use types.Run.{OneOf}
 use Rattle.run_step.proofs.Making.{did_as, did_kind, evict_is}
 use Rattle.run_step.proofs.steps.step.Goals as goal

@@ -1,5 +1,5 @@
 -- `run_step::told_of` meets its contract.
-use Rattle.std.proofs.Common.{refl, rules}
+use Rattle.std.proofs.Common.{refl}
 use Rattle.run_step.proofs.steps.told_of.Goals as goal
 
 pub returns-in-Refused : goal.returns-in-Refused

@@ -1,5 +1,5 @@
 -- `run_step::begin_write` meets its contract.
-use Rattle.std.proofs.Common.{refl, rules}
+use Rattle.std.proofs.Common.{refl}
 use Rattle.run_step.proofs.Making.{did}
 use Rattle.run_step.proofs.transfers.begin_write.Goals as goal
 

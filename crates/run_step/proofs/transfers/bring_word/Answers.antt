@@ -1,5 +1,5 @@
 -- `run_step::bring_word` meets its contract.
-use Rattle.std.proofs.Common.{refl, rules}
+use Rattle.std.proofs.Common.{refl}
 use Rattle.run_step.proofs.Making.{did}
 use Rattle.run_step.proofs.transfers.bring_word.Goals as goal
 

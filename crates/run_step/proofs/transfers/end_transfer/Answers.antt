@@ -1,5 +1,5 @@
 -- `run_step::end_transfer` meets its contract.
-use Rattle.std.proofs.Common.{refl, rules}
+use Rattle.std.proofs.Common.{refl}
 use Rattle.run_step.proofs.Making.{did}
 use Rattle.run_step.proofs.transfers.end_transfer.Goals as goal
 

@@ -1,7 +1,6 @@
 -- `sheet_codec::flushes_of` meets its contract.
 use Rattle.sheet_codec.specs.Totals.{flush_of}
 use Rattle.sheet_codec.proofs.Totals.{both_operations, counted}
-use borrow.Author.Rules.{rules}
 use Rattle.sheet_codec.proofs.answers.flushes_of.Goals as goal
 
 pub returns : goal.returns

@@ -1,5 +1,4 @@
 -- `sheet_codec::operations_of` meets its contract.
-use borrow.Author.Rules.{rules}
 use Rattle.sheet_codec.proofs.answers.operations_of.Goals as goal
 
 pub returns-in-Refused : goal.returns-in-Refused

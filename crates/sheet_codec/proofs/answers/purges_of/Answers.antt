@@ -1,7 +1,6 @@
 -- `sheet_codec::purges_of` meets its contract.
 use Rattle.sheet_codec.specs.Totals.{purge_of}
 use Rattle.sheet_codec.proofs.Totals.{both_operations, counted}
-use borrow.Author.Rules.{rules}
 use Rattle.sheet_codec.proofs.answers.purges_of.Goals as goal
 
 pub returns : goal.returns

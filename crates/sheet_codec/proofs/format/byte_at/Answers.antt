@@ -3,7 +3,6 @@ use mathlib.Core.Path.{refl, sym}
 use lib.ListN.{get_or-eq_default}
 use native.Mathlib.Omega.{arith}
 use Rattle.sheet_codec.specs.Format.{byte_at}
-use borrow.Author.Rules.{rules}
 use Rattle.sheet_codec.proofs.format.byte_at.Goals as goal
 
 pub returns-then-at-sheet : goal.returns-then-at-sheet

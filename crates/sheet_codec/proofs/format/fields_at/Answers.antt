@@ -1,6 +1,5 @@
 -- `sheet_codec::fields_at` meets its contract.
 use Rattle.sheet_codec.specs.Format.{fields_at}
-use borrow.Author.Rules.{rules}
 use Rattle.sheet_codec.proofs.format.fields_at.Goals as goal
 
 pub returns : goal.returns

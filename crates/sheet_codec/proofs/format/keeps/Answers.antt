@@ -1,5 +1,4 @@
 -- `sheet_codec::keeps` meets its contract.
-use borrow.Author.Rules.{rules}
 use Rattle.sheet_codec.proofs.format.keeps.Goals as goal
 
 pub returns-in-Read : goal.returns-in-Read

@@ -1,7 +1,6 @@
 -- `sheet_codec::step_count` meets its contract.
 use Rattle.sheet_codec.specs.Format.{mapping_place}
 use Rattle.sheet_codec.proofs.Sheet.{step_count_lem}
-use borrow.Author.Rules.{rules}
 use Rattle.sheet_codec.proofs.format.step_count.Goals as goal
 
 pub returns : goal.returns

@@ -1,15 +1,8 @@
 -- `sheet_codec::steps_keep` meets its contract.
-use borrow.Author.Rules.{rules}
 use Prim.Native.Nat.{ℕ, ◌≤◌, ◌<◌, ◌-◌}
-use mathlib.Core.Path.{◌≡◌, sym, ◌∙◌}
+use mathlib.Core.Path.{◌≡◌}
 use mathlib.Core.Bool.{true}
-use native.Mathlib.Omega.{arith}
-use borrow.Author.Count.{below_none, below_more}
-use borrow.Author.Tests.{not-true, not-false}
-use Rattle.bits.proofs.Mask.{all_of}
-use Rattle.mapping.proofs.Tests.{all_not}
 use Rattle.sheet_codec.specs.Format.{step_keeps}
-use Rattle.sheet_codec.proofs.Sheet.{keeps_at}
 use Rattle.sheet_codec.proofs.format.steps_keep.Given as goal
 
 abbrev pub invariant-loop-i : goal.invariant-loop-i

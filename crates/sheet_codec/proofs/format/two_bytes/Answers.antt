@@ -2,7 +2,6 @@
 use mathlib.Core.Path.{ap₂}
 use Prim.Native.Nat.{ℕ, ◌+◌, ◌*◌}
 use Rattle.sheet_codec.specs.Format.{two_bytes}
-use borrow.Author.Rules.{rules}
 use Rattle.sheet_codec.proofs.format.two_bytes.Goals as goal
 
 pub returns : goal.returns

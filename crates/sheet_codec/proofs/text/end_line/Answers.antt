@@ -2,7 +2,6 @@
 use Rattle.sheet_codec.proofs.Written.{put_both, put_within}
 use Rattle.sheet_codec.specs.Text.{end_line}
 use native.Mathlib.Omega.{arith}
-use borrow.Author.Rules.{rules}
 use Rattle.sheet_codec.proofs.text.end_line.Goals as goal
 
 pub returns : goal.returns

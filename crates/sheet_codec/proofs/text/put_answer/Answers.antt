@@ -2,7 +2,6 @@
 use native.Mathlib.Omega.{arith}
 use Rattle.sheet_codec.proofs.Written.{put_both, put_as}
 use Rattle.sheet_codec.specs.Text.{answer_text}
-use borrow.Author.Rules.{rules}
 use Rattle.sheet_codec.proofs.Totals.{both_operations}
 use Rattle.sheet_codec.proofs.text.put_answer.Goals as goal
 

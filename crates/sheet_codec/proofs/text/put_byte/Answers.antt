@@ -1,6 +1,5 @@
 -- `sheet_codec::put_byte` meets its contract.
 use Rattle.sheet_codec.proofs.Written.{put_byte}
-use borrow.Author.Rules.{rules}
 use Rattle.sheet_codec.proofs.text.put_byte.Goals as goal
 
 pub returns : goal.returns

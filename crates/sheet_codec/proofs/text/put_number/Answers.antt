@@ -3,7 +3,6 @@ use mathlib.Core.Path.{◌∙◌}
 use Rattle.sheet_codec.proofs.Written.{put_as}
 use Rattle.sheet_codec.proofs.Digits.{decimal_digits, few_digits}
 use native.Mathlib.Omega.{arith}
-use borrow.Author.Rules.{rules}
 use Rattle.sheet_codec.proofs.text.put_number.Goals as goal
 
 pub put_bytes-requires : goal.put_bytes-requires

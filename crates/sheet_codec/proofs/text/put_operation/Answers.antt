@@ -2,7 +2,6 @@
 use native.Mathlib.Omega.{arith}
 use Rattle.sheet_codec.specs.Text.{operation_text}
 use Rattle.sheet_codec.proofs.Written.{put_as}
-use borrow.Author.Rules.{rules}
 use Rattle.sheet_codec.proofs.text.put_operation.Goals as goal
 
 pub returns-in-None : goal.returns-in-None

@@ -1,7 +1,6 @@
 -- `sheet_codec::put_operation_on` meets its contract.
 use native.Mathlib.Omega.{arith}
 use Rattle.sheet_codec.proofs.Written.{put_both, put_within}
-use borrow.Author.Rules.{rules}
 use Rattle.sheet_codec.proofs.text.put_operation_on.Goals as goal
 
 pub returns : goal.returns

@@ -2,7 +2,6 @@
 use Rattle.sheet_codec.specs.Text.{word_text}
 use Rattle.sheet_codec.proofs.Written.{put_as}
 use native.Mathlib.Omega.{arith}
-use borrow.Author.Rules.{rules}
 use Rattle.sheet_codec.proofs.text.put_word.Goals as goal
 
 pub returns-in-Absent : goal.returns-in-Absent

@@ -1,6 +1,5 @@
 -- `page_model::masks::Masks::keep_rules` meets its contract.
 use mathlib.Core.Path.{sym, ◌∙◌}
-use borrow.Author.Rules.{rules}
 use borrow.Author.Tests.{not-true, not-false}
 use Rattle.page_model.proofs.Moving.{masks_are}
 use Rattle.page_model.proofs.masks.Masks.keep_rules.Goals as goal

@@ -1,5 +1,4 @@
 -- `page_model::masks::Masks::moved` meets its contract.
-use borrow.Author.Rules.{rules}
 use Rattle.page_model.proofs.Moving.{moved_is}
 use Rattle.page_model.proofs.masks.Masks.moved.Goals as goal
 

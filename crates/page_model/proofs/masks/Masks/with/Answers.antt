@@ -1,5 +1,4 @@
 -- `page_model::masks::Masks::with` meets its contract.
-use borrow.Author.Rules.{rules}
 use Rattle.page_model.proofs.masks.Masks.with.Goals as goal
 
 pub returns : goal.returns
