@@ -14,52 +14,67 @@ mod tell;
 ghost use Rattle.io.specs.Counts.{IsPrefixLen};
 
 use commands::Command;
-use libc::STDOUT_FILENO;
 use state::State;
+use std::env::FillError;
+use std::fs::File;
+use std::os::fd::AsRawFd;
+use std::rt::Env;
+
+// Standard output.
+const STDOUT: i32 = 1;
 
 // How many bytes of a script are read: it has fewer, or is too long.
 const BYTES: usize = 65536;
 
-fn main() {
-    scripts(os::arg_count());
+fn main(rt: HostRuntime) {
+    scripts(&rt);
 }
 
 // Runs the scripts that the arguments name, each from the start.
-fn scripts(count: usize) {
-    let mut i = 1;
-    while i < count {
-        named(i);
-        i += 1;
+fn scripts(rt: &HostRuntime) {
+    for i in 1..usize::MAX {
+        if !named(rt, i) {
+            return;
+        }
     }
 }
 
-fn named(i: usize) {
+// Runs the script that argument i names, and answers whether there is one. An argument that does not fit is taken for an empty name.
+fn named(rt: &HostRuntime, i: usize) -> bool {
     let mut name = io::buffer();
-    let n = os::arg(i, &mut name);
-    io::write_all(STDOUT_FILENO, &name[..n]);
+    let n = match rt.arg(i, &mut name) {
+        Ok(n) => n,
+        Err(FillError::TooLong) => 0,
+        Err(FillError::NotPresent) => return false,
+    };
+    io::write_all(STDOUT, &name[..n]);
     tell::end();
-    script(&name[..n]);
+    script(rt, &name[..n]);
+    true
 }
 
-fn script(name: &[u8]) {
+fn script(rt: &HostRuntime, name: &[u8]) {
     let mut text = io::large_buffer();
-    let n = read(name, &mut text);
+    let n = read(rt, name, &mut text);
     let slip = slip_of(n);
     if slip != 0 {
         slips::told(name, 0, slip);
         return;
     }
-    lines(name, &text[..n], state::start());
+    lines(rt, name, &text[..n], state::start());
 }
 
-// Reads a script, and answers how many bytes it has: at most those that the buffer takes.
-fn read(name: &[u8], text: &mut [u8]) -> usize
+// Reads a script, and answers how many bytes it has: at most those that the buffer takes, and none where it is not there.
+fn read(rt: &HostRuntime, name: &[u8], text: &mut [u8]) -> usize
     ensures { IsPrefixLen result text.new }
 {
-    let fd = os::open_read(name);
-    let n = io::read_full(fd, text);
-    libc::close(fd);
-    n
+    let Ok(path) = str::from_utf8(name) else {
+        return 0;
+    };
+    match File::open(rt, path) {
+        Ok(file) => io::read_full(file.as_raw_fd(), text),
+        Err(_) => 0,
+    }
 }
 
 // What is wrong with a script of so many bytes.
@@ -76,13 +91,13 @@ fn slip_of(bytes: usize) -> u8 {
 // ---- lines
 
 // Carries out the lines of a script up to its end, or to one that has a slip.
-fn lines(name: &[u8], text: &[u8], s: State) {
+fn lines(rt: &HostRuntime, name: &[u8], text: &[u8], s: State) {
     let mut now = s;
     let mut number: u64 = 1;
     let mut at = 0;
     while at < text.len() {
         let end = commands::up_to(text, at, b'\n');
-        now = outer(&text[at..end], now);
+        now = outer(rt, &text[at..end], now);
         if now.slip != 0 {
             slips::told(name, number, now.slip);
             return;
@@ -96,11 +111,11 @@ fn lines(name: &[u8], text: &[u8], s: State) {
 }
 
 // Carries out a line that may call a script by `do NAME NUMBER..`. The line is written, and its numbers stand for `$1` and so on in that script.
-fn outer(text: &[u8], s: State) -> State {
+fn outer(rt: &HostRuntime, text: &[u8], s: State) -> State {
     if !commands::is_do(text) {
         return line(text, s);
     }
-    io::write_all(STDOUT_FILENO, text);
+    io::write_all(STDOUT, text);
     tell::end();
     if text.len() < 3 {
         return s;
@@ -110,14 +125,14 @@ fn outer(text: &[u8], s: State) -> State {
     if numbers.slip != 0 {
         return state::with_slip(s, numbers.slip);
     }
-    let left = called(&text[3..end], state::with_numbers(s, numbers));
+    let left = called(rt, &text[3..end], state::with_numbers(s, numbers));
     state::with_numbers(left, numbers::none())
 }
 
 // Runs a script that another one calls.
-fn called(name: &[u8], s: State) -> State {
+fn called(rt: &HostRuntime, name: &[u8], s: State) -> State {
     let mut text = io::large_buffer();
-    let n = read(name, &mut text);
+    let n = read(rt, name, &mut text);
     let slip = slip_of(n);
     if slip != 0 {
         return state::with_slip(s, slip);
@@ -155,7 +170,7 @@ fn line(text: &[u8], s: State) -> State {
         return s;
     }
     if text[0] == b'"' {
-        io::write_all(STDOUT_FILENO, text);
+        io::write_all(STDOUT, text);
         tell::end();
         return s;
     }
@@ -173,7 +188,7 @@ fn carried_out(text: &[u8], s: State, c: Command) -> State {
         return state::set(s, c);
     }
     let end = commands::up_to(text, 0, b' ');
-    io::write_all(STDOUT_FILENO, &text[0..end]);
+    io::write_all(STDOUT, &text[0..end]);
     tell::numbers(numbers);
     made(s, c)
 }

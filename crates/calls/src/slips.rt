@@ -1,6 +1,5 @@
 // What can be wrong with a line of a script, and the message that says so.
-use crate::tell;
-use libc::STDOUT_FILENO;
+use crate::{STDOUT, tell};
 
 // Its word is no command; a number is missing, one too many, too large, or none at all; a script that it calls is not there, or is too long.
 pub const UNKNOWN: u8 = 1;
@@ -19,10 +18,10 @@ pub const TOO_LONG: u8 = 7;
 
 // Says what is wrong with a line of a script.
 pub fn told(name: &[u8], number: u64, slip: u8) {
-    io::write_all(STDOUT_FILENO, name);
-    io::write_all(STDOUT_FILENO, b":");
-    io::print_decimal(STDOUT_FILENO, number);
-    io::write_all(STDOUT_FILENO, b": ");
+    io::write_all(STDOUT, name);
+    io::write_all(STDOUT, b":");
+    io::print_decimal(STDOUT, number);
+    io::write_all(STDOUT, b": ");
     match slip {
         UNKNOWN => message(b"no such command"),
         MISSING => message(b"a number is missing"),
@@ -35,6 +34,6 @@ pub fn told(name: &[u8], number: u64, slip: u8) {
 }
 
 fn message(text: &[u8]) {
-    io::write_all(STDOUT_FILENO, text);
+    io::write_all(STDOUT, text);
     tell::end();
 }

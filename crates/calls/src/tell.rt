@@ -1,9 +1,9 @@
 // Text on a call: the refusal, or 0, the two operations and the word, or what is drawn; and what changed.
 ghost use Rattle.std.specs.Prelude.{◌<◌, length};
 
+use crate::STDOUT;
 use crate::lent::Lent;
 use crate::numbers::{Numbers, wide};
-use libc::STDOUT_FILENO;
 use machine::Loaded;
 use manager::{Answer, FrameOps, Listed};
 use mapping::{CAPACITY, Mapping, MappingList};
@@ -22,7 +22,7 @@ pub fn numbers(n: Numbers) {
         }
         i += 1;
     }
-    io::write_all(STDOUT_FILENO, b":");
+    io::write_all(STDOUT, b":");
 }
 
 pub fn found(loaded: Loaded) {
@@ -59,11 +59,11 @@ pub fn drawn(d: Drawn) {
 }
 
 fn blank() {
-    io::write_all(STDOUT_FILENO, b" blank");
+    io::write_all(STDOUT, b" blank");
 }
 
 fn position(latitude: u32, longitude: u32) {
-    io::write_all(STDOUT_FILENO, b" position");
+    io::write_all(STDOUT, b" position");
     spaced(long(latitude));
     spaced(long(longitude));
 }
@@ -88,13 +88,13 @@ fn operation(frame: u8, op: Op) {
 }
 
 fn none() {
-    io::write_all(STDOUT_FILENO, b" -");
+    io::write_all(STDOUT, b" -");
 }
 
 fn on(letter: u8, frame: u8, colour: usize) {
     let start = [b' ', letter];
-    io::write_all(STDOUT_FILENO, &start);
-    io::print_decimal(STDOUT_FILENO, wide(frame));
+    io::write_all(STDOUT, &start);
+    io::print_decimal(STDOUT, wide(frame));
     dotted(colour as u64);
 }
 
@@ -102,8 +102,8 @@ fn on(letter: u8, frame: u8, colour: usize) {
 
 pub fn list_changes(before: MappingList, after: MappingList) {
     if before.count != after.count {
-        io::write_all(STDOUT_FILENO, b" n=");
-        io::print_decimal(STDOUT_FILENO, after.count as u64);
+        io::write_all(STDOUT, b" n=");
+        io::print_decimal(STDOUT, after.count as u64);
     }
     let mut i = 0;
     while i < CAPACITY {
@@ -116,10 +116,10 @@ fn place_change(i: usize, before: Mapping, after: Mapping) {
     if same_mapping(before, after) {
         return;
     }
-    io::write_all(STDOUT_FILENO, b" l");
-    io::print_decimal(STDOUT_FILENO, i as u64);
-    io::write_all(STDOUT_FILENO, b"=");
-    io::print_decimal(STDOUT_FILENO, wide(after.space));
+    io::write_all(STDOUT, b" l");
+    io::print_decimal(STDOUT, i as u64);
+    io::write_all(STDOUT, b"=");
+    io::print_decimal(STDOUT, wide(after.space));
     dotted(after.page as u64);
     dotted(wide(after.frame));
     dotted(wide(after.rights));
@@ -258,34 +258,34 @@ fn same_byte(before: &[u8], after: &[u8], first: usize, at: usize) -> bool {
 
 fn run(letter: u8, from: usize, last: usize, value: u64) {
     let text = [b' ', letter];
-    io::write_all(STDOUT_FILENO, &text);
-    io::print_decimal(STDOUT_FILENO, from as u64);
+    io::write_all(STDOUT, &text);
+    io::print_decimal(STDOUT, from as u64);
     if from < last {
         to(last);
     }
-    io::write_all(STDOUT_FILENO, b"=");
-    io::print_decimal(STDOUT_FILENO, value);
+    io::write_all(STDOUT, b"=");
+    io::print_decimal(STDOUT, value);
 }
 
 fn to(last: usize) {
-    io::write_all(STDOUT_FILENO, b"-");
-    io::print_decimal(STDOUT_FILENO, last as u64);
+    io::write_all(STDOUT, b"-");
+    io::print_decimal(STDOUT, last as u64);
 }
 
 // ---- pieces
 
 pub fn spaced(n: u64) {
-    io::write_all(STDOUT_FILENO, b" ");
-    io::print_decimal(STDOUT_FILENO, n);
+    io::write_all(STDOUT, b" ");
+    io::print_decimal(STDOUT, n);
 }
 
 fn dotted(n: u64) {
-    io::write_all(STDOUT_FILENO, b".");
-    io::print_decimal(STDOUT_FILENO, n);
+    io::write_all(STDOUT, b".");
+    io::print_decimal(STDOUT, n);
 }
 
 pub fn end() {
-    io::write_all(STDOUT_FILENO, b"\n");
+    io::write_all(STDOUT, b"\n");
 }
 
 fn long(word: u32) -> u64 {

@@ -5,14 +5,20 @@
 mod hex;
 mod large;
 
-use libc::STDOUT_FILENO;
 use run_sheet::{INPUT_BYTES, SHEET_BYTES, TEXT_BYTES};
+use std::env::FillError;
+use std::fs::File;
+use std::os::fd::AsRawFd;
+use std::rt::Env;
+
+// Standard output.
+const STDOUT: i32 = 1;
 
 // The last line of the largest sheet's text, with its line end.
 const LAST_BYTES: usize = 14;
 
-fn main() {
-    files(os::arg_count());
+fn main(rt: HostRuntime) {
+    files(&rt);
     mappings_257();
     steps_4097();
     longer();
@@ -21,34 +27,44 @@ fn main() {
 
 // ---- sheets in files
 
-// The sheets in the files that the arguments below a number name.
-fn files(count: usize) {
-    let mut i = 1;
-    while i < count {
-        named(i);
-        i += 1;
+// The sheets in the files that the arguments name.
+fn files(rt: &HostRuntime) {
+    for i in 1..usize::MAX {
+        if !named(rt, i) {
+            return;
+        }
     }
 }
 
-// The sheet in the file that argument i names.
-fn named(i: usize) {
+// The sheet in the file that argument i names; answers whether there is one. An argument that does not fit is taken for an empty name.
+fn named(rt: &HostRuntime, i: usize) -> bool {
     let mut name = io::buffer();
-    let n = os::arg(i, &mut name);
-    file(&name[..n]);
+    let n = match rt.arg(i, &mut name) {
+        Ok(n) => n,
+        Err(FillError::TooLong) => 0,
+        Err(FillError::NotPresent) => return false,
+    };
+    file(rt, &name[..n]);
+    true
 }
 
-fn file(name: &[u8]) {
-    io::write_all(STDOUT_FILENO, name);
-    io::write_all(STDOUT_FILENO, b"\n");
-    let fd = os::open_read(name);
-    if fd < 0 {
-        os::fail(name);
+fn file(rt: &HostRuntime, name: &[u8]) {
+    io::write_all(STDOUT, name);
+    io::write_all(STDOUT, b"\n");
+    let Ok(path) = str::from_utf8(name) else {
+        let _ = eprintln!(rt; "the name is not UTF-8");
         return;
+    };
+    match File::open(rt, path) {
+        Ok(sheet) => {
+            let mut text = io::large_buffer();
+            let n = io::read_full(sheet.as_raw_fd(), &mut text);
+            written(&text[..n]);
+        }
+        Err(e) => {
+            let _ = eprintln!(rt; "{path}: {e}");
+        }
     }
-    let mut text = io::large_buffer();
-    let n = io::read_full(fd, &mut text);
-    libc::close(fd);
-    written(&text[..n]);
 }
 
 // The sheet that a text of hexadecimal digits has.
@@ -61,27 +77,27 @@ fn written(text: &[u8]) {
 fn run(sheet: &[u8]) {
     let mut text = [0u8; TEXT_BYTES];
     let n = run_sheet::run_sheet(sheet, &mut text);
-    io::write_all(STDOUT_FILENO, &text[..n]);
+    io::write_all(STDOUT, &text[..n]);
 }
 
 // ---- sheets at the limits of the counts
 
 fn mappings_257() {
-    io::write_all(STDOUT_FILENO, b"257 mappings\n");
+    io::write_all(STDOUT, b"257 mappings\n");
     let mut sheet = [0u8; 1289];
     large::fill(257, 0, &mut sheet);
     run(&sheet);
 }
 
 fn steps_4097() {
-    io::write_all(STDOUT_FILENO, b"4097 steps\n");
+    io::write_all(STDOUT, b"4097 steps\n");
     let mut sheet = [0u8; 36877];
     large::fill(0, 4097, &mut sheet);
     run(&sheet);
 }
 
 fn longer() {
-    io::write_all(STDOUT_FILENO, b"256 mappings, 4096 steps and one byte\n");
+    io::write_all(STDOUT, b"256 mappings, 4096 steps and one byte\n");
     let mut sheet = [0u8; INPUT_BYTES];
     large::fill(256, 4096, &mut sheet);
     run(&sheet);
@@ -89,7 +105,7 @@ fn longer() {
 
 // The largest sheet, and its text in short.
 fn largest() {
-    io::write_all(STDOUT_FILENO, b"256 mappings, 4096 steps\n");
+    io::write_all(STDOUT, b"256 mappings, 4096 steps\n");
     let mut sheet = [0u8; SHEET_BYTES];
     large::fill(256, 4096, &mut sheet);
     let mut text = [0u8; TEXT_BYTES];
@@ -99,13 +115,13 @@ fn largest() {
 
 // The length of a text, its checksum and its last line.
 fn in_short(text: &[u8]) {
-    io::print_decimal(STDOUT_FILENO, text.len() as u64);
-    io::write_all(STDOUT_FILENO, b" bytes, Adler-32 ");
-    io::print_decimal(STDOUT_FILENO, adler(text));
-    io::write_all(STDOUT_FILENO, b"\n");
+    io::print_decimal(STDOUT, text.len() as u64);
+    io::write_all(STDOUT, b" bytes, Adler-32 ");
+    io::print_decimal(STDOUT, adler(text));
+    io::write_all(STDOUT, b"\n");
     if text.len() >= LAST_BYTES {
         let from = text.len() - LAST_BYTES;
-        io::write_all(STDOUT_FILENO, &text[from..]);
+        io::write_all(STDOUT, &text[from..]);
     }
 }
 
