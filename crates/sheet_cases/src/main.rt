@@ -5,6 +5,8 @@
 mod hex;
 mod large;
 
+ghost use Rattle.std.specs.Prelude.{◌≡◌, length};
+
 use run_sheet::{INPUT_BYTES, SHEET_BYTES, TEXT_BYTES};
 use std::env::FillError;
 use std::fs::File;
@@ -69,13 +71,13 @@ fn file(rt: &HostRuntime, name: &[u8]) {
 
 // The sheet that a text of hexadecimal digits has.
 fn written(text: &[u8]) {
-    let mut sheet = [0u8; INPUT_BYTES];
+    let mut sheet = zeros::<INPUT_BYTES>();
     let n = hex::bytes(text, &mut sheet);
     run(&sheet[..n]);
 }
 
 fn run(sheet: &[u8]) {
-    let mut text = [0u8; TEXT_BYTES];
+    let mut text = zeros::<TEXT_BYTES>();
     let n = run_sheet::run_sheet(sheet, &mut text);
     io::write_all(STDOUT, &text[..n]);
 }
@@ -84,21 +86,21 @@ fn run(sheet: &[u8]) {
 
 fn mappings_257() {
     io::write_all(STDOUT, b"257 mappings\n");
-    let mut sheet = [0u8; 1289];
+    let mut sheet = zeros::<1289>();
     large::fill(257, 0, &mut sheet);
     run(&sheet);
 }
 
 fn steps_4097() {
     io::write_all(STDOUT, b"4097 steps\n");
-    let mut sheet = [0u8; 36877];
+    let mut sheet = zeros::<36877>();
     large::fill(0, 4097, &mut sheet);
     run(&sheet);
 }
 
 fn longer() {
     io::write_all(STDOUT, b"256 mappings, 4096 steps and one byte\n");
-    let mut sheet = [0u8; INPUT_BYTES];
+    let mut sheet = zeros::<INPUT_BYTES>();
     large::fill(256, 4096, &mut sheet);
     run(&sheet);
 }
@@ -106,9 +108,9 @@ fn longer() {
 // The largest sheet, and its text in short.
 fn largest() {
     io::write_all(STDOUT, b"256 mappings, 4096 steps\n");
-    let mut sheet = [0u8; SHEET_BYTES];
+    let mut sheet = zeros::<SHEET_BYTES>();
     large::fill(256, 4096, &mut sheet);
-    let mut text = [0u8; TEXT_BYTES];
+    let mut text = zeros::<TEXT_BYTES>();
     let n = run_sheet::run_sheet(&sheet, &mut text);
     in_short(&text[..n]);
 }
@@ -136,4 +138,11 @@ fn adler(text: &[u8]) -> u64 {
         i += 1;
     }
     65536 * high + low
+}
+
+// So many zeros. That it is so many is shown of any number: of a number at hand the check would write them out.
+fn zeros<const N: usize>() -> [u8; N]
+    ensures { N ≡ length result }
+{
+    [0; N]
 }
