@@ -1,4 +1,4 @@
-// The run of a sheet for programs in C or Rust: `rt staticlib sheet_ffi` makes the library that they link.
+// The run of a sheet for programs in C or Rust: `rt lib` in this folder makes the library that they link, `out/libsheet_ffi.a`.
 #![tactic(auto)]
 
 ghost use Rattle.std.specs.Prelude.{length};
