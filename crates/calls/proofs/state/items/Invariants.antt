@@ -2,8 +2,5 @@
 use Rattle.std.proofs.Common.{◌-◌}
 use Rattle.calls.proofs.state.items.Given as goal
 
-abbrev pub invariant-loop-page : goal.invariant-loop-page
-invariant-loop-page l = Unit {0}
-
 abbrev pub decreases-loop-page : goal.decreases-loop-page
 decreases-loop-page l = l.number - l.page
