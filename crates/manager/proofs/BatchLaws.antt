@@ -12,14 +12,18 @@ use Rattle.mapping.specs.declared.Mapping.{Mapping}
 use Rattle.mapping.specs.declared.MappingList.{MappingList}
 use Rattle.mapping.specs.Batch.{batch_size}
 use Rattle.mapping.specs.Change.{insert}
-use Rattle.manager.specs.Answers.{Outcome, refused, accepted}
+use Rattle.std.proofs.Common.{Result}
+use Rattle.std.proofs.lemmas.Result.{err_from_is_err_and}
+use Rattle.std.specs.Result.{IsErrAnd}
+use Rattle.manager.specs.declared.refusal.Refusal.{Refusal}
+use Rattle.manager.specs.Answers.{refused, accepted, refusal_number}
 use Rattle.manager.specs.Scaffold.Inserted.{mapping_refusal, listed_by, list_after_items, refusal_at, relisted, listed_all, whole_refusal, batch_made}
 use Rattle.manager.specs.Batch.{item_at, BatchResult, batch_result, whole_result}
-use Rattle.manager.specs.Calls.{no_ops}
+use Rattle.manager.specs.Calls.{no_ops, list_outcome, list_left}
 use Rattle.manager.specs.Refusals.{◌if◌, batch_cause}
 use Rattle.manager.specs.Tables.{Tables, tables, protection_at, tabulate, refill}
 use Rattle.manager.proofs.AcceptedLaws.{or_neither}
-use Rattle.manager.proofs.CauseLaws.{cleared_in}
+use Rattle.manager.proofs.CauseLaws.{cleared_in, some_number}
 
 -- ---- one more item
 
@@ -66,13 +70,12 @@ relisted_more b t l h e = rw (ne_eqb l.count t.list.count h, e)
 
 module _ (b : Board) (lent : ℕ) (t : Tables) (items : List Mapping) (answers : List ℕ) where
   -- the call is refused
-  pub made_refused : {n : ℕ} {o : Outcome} {l : MappingList} → n ≡ whole_refusal lent (length items) (length answers) → (n ≡ 0 → ⊥) → o ≡ refused n → l ≡ t.list
-      → batch_result o answers (tables l t.records t.protections) ≡ batch_made b lent t items answers
+  pub made_refused : (r : Result MappingList Refusal) (e : Refusal) → refusal_number e ≡ whole_refusal lent (length items) (length answers) → IsErrAnd r (λ y. y ≡ e)
+      → batch_result (list_outcome r) answers (tables (list_left t.list r) t.records t.protections) ≡ batch_made b lent t items answers
   unfolding batch_made
-  made_refused {n} e h eo el =
-      (λ i. batch_result (eo i) answers (tables (el i) t.records t.protections))
-      ∙ go n h
-      ∙ ap (λ (k : ℕ). whole_result k answers t (listed_all b lent t items)) e
+  made_refused r e told is =
+      let p = err_from_is_err_and r is in
+      rw (p.1, p.2) (go (refusal_number e) (some_number e) ∙ ap (λ (k : ℕ). whole_result k answers t (listed_all b lent t items)) told)
     where
       go : (n : ℕ) → (n ≡ 0 → ⊥) → batch_result (refused n) answers t ≡ whole_result n answers t (listed_all b lent t items)
       go zero h = absurd (h refl)
@@ -84,17 +87,17 @@ module _ (b : Board) (lent : ℕ) (t : Tables) (items : List Mapping) (answers :
     made_by e = e ∙ ap (λ (k : ℕ). whole_result k answers t (listed_all b lent t items)) (sym whole)
 
     -- each item has the refusal in what is lent
-    pub made_lent : {o : Outcome} {given : List ℕ} {l : MappingList} → (lent ≡ 0 → ⊥) → o ≡ accepted 0 no_ops → given ≡ tabulate (length items) (λ k. lent) → l ≡ t.list
-        → batch_result o given (tables l t.records t.protections) ≡ batch_made b lent t items answers
+    pub made_lent : {given : List ℕ} → (lent ≡ 0 → ⊥) → given ≡ tabulate (length items) (λ k. lent)
+        → batch_result (accepted 0 no_ops) given t ≡ batch_made b lent t items answers
     unfolding listed_all
-    made_lent h eo eg el = (λ i. batch_result (eo i) (eg i) (tables (el i) t.records t.protections)) ∙ made_by (go lent h)
+    made_lent h eg = ap (λ (l : List ℕ). batch_result (accepted 0 no_ops) l t) eg ∙ made_by (go lent h)
       where
         go : (n : ℕ) → (n ≡ 0 → ⊥) → batch_result (accepted 0 no_ops) (tabulate (length items) (λ k. n)) t ≡ listed_all b n t items
         go zero h = absurd (h refl)
         go (suc n) h = refl
 
     -- the items are listed
-    pub made_listed : {o : Outcome} {given : List ℕ} {after : Tables} → lent ≡ 0 → o ≡ accepted 0 no_ops → given ≡ tabulate (length items) (refusal_at b t.list items)
-        → after ≡ relisted b t (list_after_items b t.list items (length items)) → batch_result o given after ≡ batch_made b lent t items answers
+    pub made_listed : {given : List ℕ} {after : Tables} → lent ≡ 0 → given ≡ tabulate (length items) (refusal_at b t.list items)
+        → after ≡ relisted b t (list_after_items b t.list items (length items)) → batch_result (accepted 0 no_ops) given after ≡ batch_made b lent t items answers
     unfolding listed_all
-    made_listed z eo eg et = (λ i. batch_result (eo i) (eg i) (et i)) ∙ made_by (ap (λ (n : ℕ). listed_all b n t items) (sym z))
+    made_listed z eg et = ap₂ (batch_result (accepted 0 no_ops)) eg et ∙ made_by (ap (λ (n : ℕ). listed_all b n t items) (sym z))

@@ -2,6 +2,9 @@
 use mathlib.Core.Path.{◌≡◌, refl, sym, ap, ap₂, ◌∙◌}
 use mathlib.Core.Bool.{Bool, true, false, not, cond, ◌&&◌, false≢true}
 use mathlib.Core.List.{List, [], ◌∷◌, ◌++◌}
+use Rattle.std.proofs.Common.{Result, Ok, Err}
+use Rattle.std.proofs.lemmas.Result.{err_from_is_err_and}
+use Rattle.std.specs.Result.{IsErrAnd}
 use Prim.Native.Nat.{ℕ, zero, suc, ◌*◌, ◌<◌}
 use native.Mathlib.Decide.{ℕ_discrete}
 use native.Mathlib.Omega.{arith}
@@ -22,6 +25,9 @@ use Rattle.mapping.specs.Look.{find, look}
 use Rattle.mapping.specs.Lookup.{lookup, found, is_mapped, place_of, listed_mapping, place_for}
 use Rattle.mapping.specs.Rules as list_of
 use Rattle.mapping.proofs.Laws.{keeps_rules_true, lookup_at, found_place, look_kept, look_broken}
+use Rattle.manager.specs.declared.refusal.Refusal.{Refusal}
+use Rattle.manager.specs.declared.refusal.Refusal.TheVariants as refusal
+use Rattle.manager.specs.Answers.{refusal_number, refusal_in}
 use Rattle.manager.specs.Refusals.{Cause, first_refusal, or_else, table_causes, page_causes, frame_cause}
 use Rattle.manager.specs.Scaffold.Told.{told_tables}
 use Rattle.manager.specs.Tables.{Tables, tables, record_words, record_at, records_keep_rules, lengths_right, rules_kept}
@@ -113,6 +119,40 @@ refusal_rest (c ∷ cs) ds n e =
     let none = none_applies (c ∷ cs) n e in
     refusal_rest cs ds (and_right (ltb 0 c.number) _ n) (ap (λ (t : Bool). cond t c.number (first_refusal cs)) (sym none.0) ∙ e)
     ∙ ap (λ (t : Bool). cond t c.number (first_refusal (cs ++ ds))) (sym none.0)
+
+-- no refusal's number is 0
+pub some_number : (e : Refusal) → refusal_number e ≡ 0 → ⊥
+some_number refusal.WrongHold z = omega arith
+some_number refusal.WrongLength z = omega arith
+some_number refusal.WrongBatch z = omega arith
+some_number refusal.BrokenRules z = omega arith
+some_number refusal.NoSuchPage z = omega arith
+some_number refusal.NoSuchFrame z = omega arith
+some_number refusal.NoSuchRights z = omega arith
+some_number refusal.NoSuchOffset z = omega arith
+some_number refusal.NoSuchPart z = omega arith
+some_number refusal.AlreadyMapped z = omega arith
+some_number refusal.NotMapped z = omega arith
+some_number refusal.ListFull z = omega arith
+some_number refusal.NotWritable z = omega arith
+some_number refusal.NotFetchable z = omega arith
+some_number refusal.Busy z = omega arith
+some_number refusal.NoTransfer z = omega arith
+
+-- the exit of a `?`: what is tested first refuses, with the refusal that was handed on
+pub refused_first : (cs ds : List Cause) {A : Type 0} (r : Result A Refusal) (e : Refusal) → refusal_number e ≡ first_refusal cs → IsErrAnd r (λ y. y ≡ e)
+    → refusal_in r ≡ first_refusal (cs ++ ds)
+refused_first cs ds r e told is =
+    let p = err_from_is_err_and r is in
+    rw (p.1, p.2) (told ∙ refusal_prefix cs ds (λ z. some_number e (told ∙ z)))
+
+-- or it passes, and leaves it to the rest
+pub refused_then : (cs ds : List Cause) {n : ℕ} → numbered cs ≡ true → 0 ≡ first_refusal cs → n ≡ first_refusal ds → n ≡ first_refusal (cs ++ ds)
+refused_then cs ds n passed own = own ∙ refusal_rest cs ds n (sym passed)
+
+pub tables_numbered : (b : Board) (kept : Bool) (rs ps : List ℕ) → numbered (told_tables b kept rs ps) ≡ true
+unfolding told_tables
+tables_numbered b kept rs ps = refl
 
 -- so the refusal of both is that of the one, else of the other
 pub or_else_is : (cs ds : List Cause) → numbered cs ≡ true → or_else (first_refusal cs) (first_refusal ds) ≡ first_refusal (cs ++ ds)

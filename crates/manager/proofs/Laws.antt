@@ -2,7 +2,8 @@
 use mathlib.Core.Path.{◌≡◌, refl, sym, ap, ap₂, subst, ◌∙◌}
 use mathlib.Core.Bool.{Bool, true, false, cond, ◌&&◌}
 use mathlib.Core.List.{List}
-use Prim.Native.Nat.{ℕ, zero, suc, ◌+◌, ◌*◌, ◌<◌}
+use Prim.Native.Nat.{ℕ, zero, suc, ◌+◌, ◌-◌, ◌*◌, ◌≤◌, ◌<◌}
+use native.Mathlib.Decide.{ℕ_discrete}
 use native.Mathlib.Omega.{arith}
 use borrow.Author.Count.{below_more}
 use native.Mathlib.Nat.{lt_irrefl}
@@ -19,8 +20,6 @@ use Rattle.page_model.specs.Record.{state_of, instruction_state_of, is_held, is_
 use Rattle.page_model.specs.Table.{ColourState, empty, present, dirty, stale}
 use Rattle.mapping.specs.declared.Mapping.{Mapping}
 use Rattle.mapping.specs.Entry.{read_write, read_fetch}
-use Rattle.manager.specs.declared.ListPlan.TheVariants as list_plan
-use Rattle.manager.specs.Calls.{placed}
 use Rattle.manager.specs.Tables.{record_at, protection, mapping_state, instructions_of, tabulate}
 
 -- ---- f at each place below n
@@ -40,6 +39,15 @@ get_d_tabulate (suc n) f (suc k) l = get_d_tabulate n (λ i. f (suc i)) k (omega
 pub is_tabulate : (l : List ℕ) (n : ℕ) (f : ℕ → ℕ) → length l ≡ n → ((k : ℕ) → k < n → get_or l k 0 ≡ f k) → l ≡ tabulate n f
 is_tabulate l n f e h =
     ext_get_or 0 l (tabulate n f) (e ∙ sym (length_tabulate n f)) (λ i li. let j : i < n = omega arith in h i j ∙ sym (get_d_tabulate n f i j))
+
+-- a list that was filled with a value
+pub filled : (l : List ℕ) (n v : ℕ) → length l ≡ n → ((k d : ℕ) → 0 ≤ k → k < n - 1 → get_or l k d ≡ v) → (0 < n → (d : ℕ) → get_or l (n - 1) d ≡ v)
+    → l ≡ tabulate n (λ k. v)
+filled l n v e before last = is_tabulate l n (λ k. v) e (λ k lk. at k lk (ℕ_discrete k (n - 1)))
+  where
+    at : (k : ℕ) → k < n → Dec (k ≡ n - 1) → get_or l k 0 ≡ v
+    at k lk (yes z) = ap (λ (j : ℕ). get_or l j 0) z ∙ last (omega arith) 0
+    at k lk (no h) = before k 0 (omega arith) (omega arith)
 
 -- one more value of f stored
 pub set_more : (l : List ℕ) (i v : ℕ) (f : ℕ → ℕ) → i < length l → ((k : ℕ) → k < i → get_or l k 0 ≡ f k) → v ≡ f i
@@ -78,10 +86,3 @@ pub instructions_at : (b : Board) (rs : List ℕ) (m : Mapping) {r : FrameRecord
     → instruction_state_of r k ≡ instructions_of b rs m
 unfolding instructions_of
 instructions_at b rs m er ek = ap₂ instruction_state_of er ek
-
--- ---- plans of the list
-
--- a refusal's number is not 0
-pub placed_refused : (n place : ℕ) → (n ≡ 0 → ⊥) → list_plan.Refused n ≡ placed n place
-placed_refused zero place h = absurd (h refl)
-placed_refused (suc n) place h = refl

@@ -5,6 +5,9 @@ use mathlib.Core.Bool.{Bool, true, cond}
 use mathlib.Core.List.{List, [], ◌∷◌, ◌++◌}
 use Prim.Native.Nat.{ℕ, zero, suc}
 use lib.ListN.{length}
+use Rattle.std.proofs.Common.{Result, Ok, Err}
+use Rattle.std.proofs.lemmas.Result.{err_from_is_err_and}
+use Rattle.std.specs.Result.{IsErrAnd}
 use Rattle.board.specs.declared.Board.{Board}
 use Rattle.board.specs.Board.{colour_of}
 use Rattle.page_model.specs.declared.FrameRecord.{FrameRecord}
@@ -21,33 +24,38 @@ use Rattle.mapping.specs.Lookup.{listed_mapping}
 use Rattle.manager.specs.declared.AccessKind.{AccessKind}
 use Rattle.manager.specs.declared.AccessKind.TheVariants.{Read, Write, Fetch}
 use Rattle.manager.specs.declared.Change.{Change}
-use Rattle.manager.specs.declared.Plan.TheVariants as step_plan
-use Rattle.manager.specs.Calls.{planned, change_of, plan_access, call_result, no_ops, plain_result}
-use Rattle.manager.specs.Answers as answer
-use Rattle.manager.specs.Answers.{Outcome, accepted}
+use Rattle.manager.specs.declared.FrameOps.{FrameOps}
+use Rattle.manager.specs.declared.refusal.Refusal.{Refusal}
+use Rattle.manager.specs.Calls.{ListPlan, Plan, planned, change_of, plan_access, call_result, list_outcome, list_left, no_ops, plain_result, commit_change, step_result, list_result}
+use Rattle.manager.specs.Answers.{refused, refusal_number, by_number, outcome}
 use Rattle.manager.specs.Refusals.{Cause, first_refusal, busy_cause, table_causes, page_causes, read_causes, write_causes, fetch_causes}
 use Rattle.manager.specs.Scaffold.Told.{told_tables, told_rights, told_access}
 use Rattle.manager.specs.Tables.{Tables, tables, record_at}
-use Rattle.manager.proofs.CauseLaws.{numbered, refusal_prefix, refusal_rest, told_found, told_rest, call_list_keeps, page_rules}
+use Rattle.manager.proofs.CauseLaws.{numbered, some_number, refusal_prefix, refusal_rest, told_found, told_rest, call_list_keeps, page_rules}
 
-refused : (n : ℕ) (change : Change) → (n ≡ 0 → ⊥) → step_plan.Refused n ≡ planned n change
-refused zero change h = absurd (h refl)
-refused (suc n) change h = refl
+-- a refusal plans nothing
+pub planned_refused : (e : Refusal) {A : Type 0} (made : A) → Err (refusal_number e) ≡ planned (refusal_number e) made
+planned_refused e made = go (refusal_number e) (some_number e)
+  where
+    go : (n : ℕ) → (n ≡ 0 → ⊥) → Err n ≡ planned n made
+    go zero h = absurd (h refl)
+    go (suc n) h = refl
 
--- the causes that are tested first give a refusal
-pub planned_first : (cs ds : List Cause) (change : Change) {n : ℕ} → n ≡ first_refusal cs → (n ≡ 0 → ⊥) → step_plan.Refused n ≡ planned (first_refusal (cs ++ ds)) change
-planned_first cs ds change {n} e h =
-    refused n change h ∙ ap (λ (k : ℕ). planned k change) (e ∙ refusal_prefix cs ds (λ z. h (e ∙ z)))
+-- the exit of a `?`: the causes give a refusal, or those that are tested first do
+pub planned_exit : {A : Type 0} (r : Result A Refusal) (e : Refusal) (made : A) {n : ℕ} → refusal_number e ≡ n → IsErrAnd r (λ y. y ≡ e) → by_number r ≡ planned n made
+planned_exit r e made told is =
+    let p = err_from_is_err_and r is in rw (p.1, p.2) (planned_refused e made ∙ ap (λ (k : ℕ). planned k made) told)
+
+pub planned_first : (cs ds : List Cause) {A : Type 0} (r : Result A Refusal) (e : Refusal) (made : A) → refusal_number e ≡ first_refusal cs → IsErrAnd r (λ y. y ≡ e)
+    → by_number r ≡ planned (first_refusal (cs ++ ds)) made
+planned_first cs ds r e made told is = planned_exit r e made (told ∙ refusal_prefix cs ds (λ z. some_number e (told ∙ z))) is
 
 -- they give none, so the mark decides
-pub planned_barred : (b : Board) (t : Tables) (cs : List Cause) (f : ℕ) (s : Step) {barred : Bool} {g : ℕ} {made : Stepped} → numbered cs ≡ true
-    → first_refusal cs ≡ 0 → barred ≡ bars (record_at t.records f).busy s → g ≡ f → made ≡ stepped b.colours s (record_at t.records f)
-    → planned (cond barred 15 0) (record { frame = g; next = made.next; ops = made.ops })
-    ≡ planned (first_refusal (cs ++ busy_cause t.records f s ∷ [])) (change_of b t f s)
+pub planned_then : (t : Tables) (cs : List Cause) (f : ℕ) (s : Step) (change : Change) {plan : Plan} → numbered cs ≡ true → 0 ≡ first_refusal cs
+    → plan ≡ planned (cond (bars (record_at t.records f).busy s) 15 0) change
+    → plan ≡ planned (first_refusal (cs ++ busy_cause t.records f s ∷ [])) change
 unfolding first_refusal
-planned_barred b t cs f s n none eb eg em =
-    ap₂ planned (ap (λ (x : Bool). cond x 15 0) eb ∙ refusal_rest cs (busy_cause t.records f s ∷ []) n none)
-    (λ i. record { frame = eg i; next = (em i).next; ops = (em i).ops })
+planned_then t cs f s change n none e = e ∙ ap (λ (k : ℕ). planned k change) (refusal_rest cs (busy_cause t.records f s ∷ []) n (sym none))
 
 -- ---- an access of the processor by one look at the list
 
@@ -84,40 +92,60 @@ module _ (b : Board) (l : MappingList) (rs ps : List ℕ) (space page : ℕ) (ki
   refusal : n ≡ first_refusal (before_mark b (tables l rs ps) space page kind)
   refusal = told ∙ told_rest b l _ _ looked rs ps (told_access kind space page) long
 
-  pub access_refused : (n ≡ 0 → ⊥) → step_plan.Refused n ≡ plan_access b (tables l rs ps) space page kind
-  access_refused h = planned_first (before_mark b (tables l rs ps) space page kind) _ _ refusal h ∙ access_plan b (tables l rs ps) space page kind
+  pub access_refused : (r : Result Change Refusal) (e : Refusal) → refusal_number e ≡ n → IsErrAnd r (λ y. y ≡ e) → by_number r ≡ plan_access b (tables l rs ps) space page kind
+  access_refused r e same is = planned_first (before_mark b (tables l rs ps) space page kind) _ r e _ (same ∙ refusal) is ∙ access_plan b (tables l rs ps) space page kind
 
-  -- past these refusals: the record that was read is that of the page's frame, it keeps the rules, and its mark decides
-  module _ (none : n ≡ 0) {r : FrameRecord} (at : r ≡ record_at rs seen.mapping.frame) where
+  -- past these refusals: the record of the page's frame keeps the rules, and its mark decides
+  module _ (none : 0 ≡ n) where
     frame : seen.mapping.frame ≡ (listed_mapping l space page).frame
     frame =
-        ap (λ (x : Seen). x.mapping.frame) (told_found b l _ _ looked (call_list_keeps b (tables l rs ps) (told_access kind space page (find l space page)) (access_numbered kind space page (find l space page)) (sym refusal ∙ none)))
+        ap (λ (x : Seen). x.mapping.frame) (told_found b l _ _ looked (call_list_keeps b (tables l rs ps) (told_access kind space page (find l space page)) (access_numbered kind space page (find l space page)) (sym (none ∙ refusal))))
 
-    same : r ≡ record_at rs (listed_mapping l space page).frame
-    same = at ∙ ap (λ (f : ℕ). record_at rs f) frame
-
-    pub access_rules : keeps_rules b.colours r ≡ true
+    pub access_rules : keeps_rules b.colours (record_at rs seen.mapping.frame) ≡ true
     unfolding page_causes
     access_rules =
-        ap (keeps_rules _) same ∙ page_rules b (tables l rs ps) space page (told_rights kind (listed_mapping l space page).rights) (rights_numbered kind (listed_mapping l space page).rights) (sym refusal ∙ none)
+        ap (λ (f : ℕ). keeps_rules b.colours (record_at rs f)) frame
+        ∙ page_rules b (tables l rs ps) space page (told_rights kind (listed_mapping l space page).rights) (rights_numbered kind (listed_mapping l space page).rights) (sym (none ∙ refusal))
 
-    pub access_planned : {barred : Bool} {w : AccessKind} {made : Stepped} {k : ℕ} → kind ≡ w → k ≡ colour_of b page → barred ≡ bars r.busy (access_step w (colour_of b page))
-        → made ≡ stepped b.colours (access_step w k) r
-        → planned (cond barred 15 0) (record { frame = seen.mapping.frame; next = made.next; ops = made.ops }) ≡ plan_access b (tables l rs ps) space page kind
+    pub access_planned : {plan : Plan} {s : Step} → s ≡ access_step kind (colour_of b page)
+        → plan ≡ planned (cond (bars (record_at rs seen.mapping.frame).busy s) 15 0) (change_of b (tables l rs ps) seen.mapping.frame s)
+        → plan ≡ plan_access b (tables l rs ps) space page kind
     unfolding table_causes
-    access_planned w c eb em =
-        planned_barred b (tables l rs ps) (before_mark b (tables l rs ps) space page kind) (listed_mapping l space page).frame (access_step kind (colour_of b page)) (access_numbered kind space page (find l space page)) (sym refusal ∙ none)
-        (eb ∙ (λ i. bars (same i).busy (access_step (sym w i) (colour_of b page)))) frame (em ∙ (λ i. stepped b.colours (access_step (sym w i) (c i)) (same i)))
+    access_planned {plan} {s} es e =
+        planned_then (tables l rs ps) (before_mark b (tables l rs ps) space page kind) (listed_mapping l space page).frame (access_step kind (colour_of b page)) _ (access_numbered kind space page (find l space page)) (none ∙ refusal)
+        (e ∙ (λ i. planned (cond (bars (record_at rs (frame i)).busy (es i)) 15 0) (change_of b (tables l rs ps) (frame i) (es i))))
         ∙ access_plan b (tables l rs ps) space page kind
 
--- ---- a call without orders
+-- ---- calls, at the exit of a `?` and past it
 
-pub plain_refused : (n : ℕ) (t next : Tables) {k : ℕ} → k ≡ n → (k ≡ 0 → ⊥) → call_result (answer.refused k) t ≡ plain_result n t next
-plain_refused n t next {k} e h = go k h ∙ ap (λ (m : ℕ). plain_result m t next) e
+-- of a step
+pub step_refused : (b : Board) (t : Tables) {plan : Plan} (r : Result FrameOps Refusal) (e : Refusal) → Err (refusal_number e) ≡ plan → IsErrAnd r (λ y. y ≡ e)
+    → call_result (outcome r) t ≡ step_result b t plan
+step_refused b t r e told is = let p = err_from_is_err_and r is in rw (p.1, p.2) (ap (step_result b t) told)
+
+pub step_made : (b : Board) (t : Tables) {plan : Plan} {change : Change} {o : FrameOps} {u : Tables} → Ok change ≡ plan → o ≡ record { frame = change.frame; ops = change.ops }
+    → u ≡ commit_change b t change.frame change.next
+    → call_result (outcome (Ok o)) u ≡ step_result b t plan
+step_made b t told eo eu = ap₂ call_result (ap (λ (o : FrameOps). outcome (Ok o)) eo) eu ∙ ap (step_result b t) told
+
+-- of a change of the list
+pub list_refused : (l : MappingList) (rs ps : List ℕ) (next : ℕ → Tables) {plan : ListPlan} (r : Result MappingList Refusal) (e : Refusal) → Err (refusal_number e) ≡ plan
+    → IsErrAnd r (λ y. y ≡ e)
+    → call_result (list_outcome r) (tables (list_left l r) rs ps) ≡ list_result (tables l rs ps) next plan
+list_refused l rs ps next r e told is =
+    let p = err_from_is_err_and r is in rw (p.1, p.2) (ap (list_result (tables l rs ps) next) told)
+
+-- of a call without orders
+pub plain_refused : (n : ℕ) (t next : Tables) (r : Result FrameOps Refusal) (e : Refusal) → refusal_number e ≡ n → IsErrAnd r (λ y. y ≡ e)
+    → call_result (outcome r) t ≡ plain_result n t next
+plain_refused n t next r e told is =
+    let p = err_from_is_err_and r is in
+    rw (p.1, p.2) (go (refusal_number e) (some_number e) ∙ ap (λ (m : ℕ). plain_result m t next) told)
   where
-    go : (k : ℕ) → (k ≡ 0 → ⊥) → call_result (answer.refused k) t ≡ plain_result k t next
+    go : (k : ℕ) → (k ≡ 0 → ⊥) → call_result (refused k) t ≡ plain_result k t next
     go zero h = absurd (h refl)
     go (suc k) h = refl
 
-pub plain_made : (n : ℕ) (t next : Tables) {o : Outcome} {u : Tables} → n ≡ 0 → o ≡ accepted 0 no_ops → u ≡ next → call_result o u ≡ plain_result n t next
-plain_made n t next e eo eu = ap₂ call_result eo eu ∙ ap (λ (m : ℕ). plain_result m t next) (sym e)
+pub plain_made : (n : ℕ) (t next : Tables) {o : FrameOps} {u : Tables} → 0 ≡ n → o ≡ record { frame = 0; ops = no_ops } → u ≡ next
+    → call_result (outcome (Ok o)) u ≡ plain_result n t next
+plain_made n t next e eo eu = ap₂ call_result (ap (λ (o : FrameOps). outcome (Ok o)) eo) eu ∙ ap (λ (m : ℕ). plain_result m t next) e

@@ -16,7 +16,7 @@ use Rattle.mapping.proofs.Laws.{inserted_count}
 use Rattle.manager.specs.Answers.{accepted, number_of}
 use Rattle.manager.specs.Scaffold.Inserted.{mapping_refusal, listed_by, list_after_items, refusal_at, relisted, listed_all, batch_made}
 use Rattle.manager.specs.Batch.{item_at, BatchResult, batch_result, whole_result, tables_after, answer_at, map_all_call}
-use Rattle.manager.specs.Calls.{no_ops, commit_map, placed, list_result}
+use Rattle.manager.specs.Calls.{no_ops, commit_map, planned, list_result}
 use Rattle.manager.specs.Refusals.{Cause, ◌if◌, first_refusal, table_causes, map_causes, mapping_causes, batch_cause}
 use Rattle.manager.specs.Tables.{Tables, tables, lengths_right, rules_kept, protection_at, tabulate, refill}
 use Rattle.manager.specs.Theorems.{WellFormedTables}
@@ -200,11 +200,11 @@ unfolding first_refusal table_causes
 well_clear b t w = rw (w.0, w.1)
 
 -- what a map by this refusal answers and leaves
-mapped_number : (t : Tables) (made : ℕ → Tables) (n place : ℕ) → number_of (list_result t made (placed n place)).answer ≡ n
+mapped_number : (t : Tables) (made : ℕ → Tables) (n place : ℕ) → number_of (list_result t made (planned n place)).answer ≡ n
 mapped_number t made zero place = refl
 mapped_number t made (suc n) place = refl
 
-mapped_after_lem : (b : Board) (t : Tables) (m : Mapping) (n : ℕ) → let made = list_result t (λ i. commit_map b t i m) (placed n (place_for t.list m.space m.page)) in
+mapped_after_lem : (b : Board) (t : Tables) (m : Mapping) (n : ℕ) → let made = list_result t (λ i. commit_map b t i m) (planned n (place_for t.list m.space m.page)) in
     made.after ≡ taken_by b (number_of made.answer) t m
 mapped_after_lem b t m zero = refl
 mapped_after_lem b t m (suc n) = refl

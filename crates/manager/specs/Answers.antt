@@ -1,21 +1,50 @@
 -- Document 01, "Answers": what an answer says. A refusal has its number; an accepted call has its first and second order, each on a frame
 -- and a colour.
-use Rattle.std.specs.Prelude.{Bool, true, false, ℕ}
+use Rattle.std.specs.Prelude.{Bool, true, false, ℕ, Result, Ok, Err}
 use Rattle.page_model.specs.declared.Op.{Op}
 use Rattle.page_model.specs.declared.Op.TheVariants.{None, Flush, Purge, PurgeInstructions}
 use Rattle.page_model.specs.declared.Ops.{Ops}
-use Rattle.manager.specs.declared.Answer.{Answer}
-use Rattle.manager.specs.declared.Answer.TheVariants.{Refused, Accepted}
 use Rattle.manager.specs.declared.FrameOps.{FrameOps}
+use Rattle.manager.specs.declared.refusal.Refusal.{Refusal}
+use Rattle.manager.specs.declared.refusal.Refusal.TheVariants as refusal
+
+-- a refusal's number in document 01's table or in a request
+abbrev pub refusal_number : Refusal → ℕ
+refusal_number refusal.WrongLength = 1
+refusal_number refusal.BrokenRules = 2
+refusal_number refusal.NoSuchPage = 3
+refusal_number refusal.NoSuchFrame = 4
+refusal_number refusal.NoSuchRights = 5
+refusal_number refusal.NoSuchOffset = 6
+refusal_number refusal.AlreadyMapped = 7
+refusal_number refusal.NotMapped = 8
+refusal_number refusal.ListFull = 9
+refusal_number refusal.NotWritable = 10
+refusal_number refusal.WrongBatch = 12
+refusal_number refusal.NoSuchPart = 13
+refusal_number refusal.WrongHold = 14
+refusal_number refusal.Busy = 15
+refusal_number refusal.NoTransfer = 16
+refusal_number refusal.NotFetchable = 17
+
+-- the number of a refusal, or 0 where there is none
+abbrev pub refusal_in : {A : Type 0} → Result A Refusal → ℕ
+refusal_in (Ok x) = 0
+refusal_in (Err r) = refusal_number r
+
+-- what is planned, or the refusal by its number
+abbrev pub by_number : {A : Type 0} → Result A Refusal → Result A ℕ
+by_number (Ok x) = Ok x
+by_number (Err r) = Err (refusal_number r)
 
 -- A refusal is never an acceptance, whatever its number. An accepted call names the frame of its operations, and 0 where it has none by its kind.
 pub data Outcome : Type 0 where
   refused : ℕ → Outcome
   accepted : ℕ → Ops → Outcome
 
-abbrev pub outcome : Answer → Outcome
-outcome (Refused n) = refused n
-outcome (Accepted o) = accepted o.frame o.ops
+abbrev pub outcome : Result FrameOps Refusal → Outcome
+outcome (Ok o) = accepted o.frame o.ops
+outcome (Err r) = refused (refusal_number r)
 
 abbrev pub is_refusal : Outcome → Bool
 is_refusal (refused n) = true

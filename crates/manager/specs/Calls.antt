@@ -1,5 +1,6 @@
 -- What each call plans, answers and leaves in the tables. A plan changes nothing; where it is no refusal, a commit carries it out.
-use Rattle.std.specs.Prelude.{Bool, cond, ℕ, zero, suc, ltb}
+use Rattle.std.specs.Prelude.{Bool, cond, ℕ, zero, suc, ltb, Ok, Err}
+use Rattle.std.specs.Prelude as std
 use Rattle.board.specs.declared.Board.{Board}
 use Rattle.board.specs.Board.{colour_of}
 use Rattle.page_model.specs.declared.FrameRecord.{FrameRecord}
@@ -10,18 +11,30 @@ use Rattle.page_model.specs.Busy.{reading, writing}
 use Rattle.page_model.specs.Record.{freed}
 use Rattle.page_model.specs.Table.{Step, read, write, device_read, device_write, device_write_part, begin_read, begin_write, fetch}
 use Rattle.mapping.specs.declared.Mapping.{Mapping}
+use Rattle.mapping.specs.declared.MappingList.{MappingList}
 use Rattle.mapping.specs.Change.{insert_at, remove}
 use Rattle.mapping.specs.Lookup.{lookup, place_of, listed_mapping, place_for}
 use Rattle.manager.specs.declared.AccessKind.{AccessKind}
 use Rattle.manager.specs.declared.AccessKind.TheVariants as access
 use Rattle.manager.specs.declared.Change.{Change}
-use Rattle.manager.specs.declared.Plan.{Plan}
-use Rattle.manager.specs.declared.Plan.TheVariants as step_plan
-use Rattle.manager.specs.declared.ListPlan.{ListPlan}
-use Rattle.manager.specs.declared.ListPlan.TheVariants as list_plan
-use Rattle.manager.specs.Answers.{Outcome, refused, accepted}
+use Rattle.manager.specs.declared.refusal.Refusal.{Refusal}
+use Rattle.manager.specs.Answers.{Outcome, refused, accepted, refusal_number}
 use Rattle.manager.specs.Refusals.{first_refusal, map_causes, page_causes, read_causes, write_causes, fetch_causes, transfer_causes, part_causes, word_causes, end_causes}
 use Rattle.manager.specs.Tables.{Tables, tables, record_at, put_record, refill}
+
+-- ---- plans
+
+-- what a call would do, or the number of its refusal: a step's change of a frame's record; where a mapping goes, or which one goes
+abbrev pub Plan : Type 0
+Plan = std.Result Change ℕ
+
+abbrev pub ListPlan : Type 0
+ListPlan = std.Result ℕ ℕ
+
+-- the refusal of a number that is not 0, else what is made
+abbrev pub planned : {A : Type 0} → ℕ → A → std.Result A ℕ
+planned zero made = Ok made
+planned (suc n) made = Err (suc n)
 
 -- ---- steps of a frame's record
 
@@ -29,11 +42,6 @@ use Rattle.manager.specs.Tables.{Tables, tables, record_at, put_record, refill}
 abbrev pub change_of : Board → Tables → ℕ → Step → Change
 change_of b t frame s =
     record { frame = frame; next = (stepped b.colours s (record_at t.records frame)).next; ops = (stepped b.colours s (record_at t.records frame)).ops }
-
--- the refusal of a number that is not 0, else the change
-abbrev pub planned : ℕ → Change → Plan
-planned zero change = step_plan.Step change
-planned (suc n) change = step_plan.Refused (suc n)
 
 abbrev pub plan_read : Board → Tables → ℕ → ℕ → Plan
 plan_read b t space page =
@@ -74,17 +82,13 @@ commit_change b t frame next = refill b (tables t.list (put_record t.records fra
 
 -- ---- the mapping list
 
-abbrev pub placed : ℕ → ℕ → ListPlan
-placed zero place = list_plan.Place place
-placed (suc n) place = list_plan.Refused (suc n)
-
 -- the place where the mapping goes
 abbrev pub plan_map : Board → Tables → ℕ → ℕ → ℕ → ℕ → ListPlan
-plan_map b t space page frame rights = placed (first_refusal (map_causes b t space page frame rights)) (place_for t.list space page)
+plan_map b t space page frame rights = planned (first_refusal (map_causes b t space page frame rights)) (place_for t.list space page)
 
 -- the place of the mapping that goes
 abbrev pub plan_unmap : Board → Tables → ℕ → ℕ → ListPlan
-plan_unmap b t space page = placed (first_refusal (page_causes b t space page)) (place_of (lookup t.list space page))
+plan_unmap b t space page = planned (first_refusal (page_causes b t space page)) (place_of (lookup t.list space page))
 
 abbrev pub commit_map : Board → Tables → ℕ → Mapping → Tables
 commit_map b t place m = refill b (tables (insert_at t.list place m) t.records t.protections)
@@ -105,14 +109,23 @@ call_result o t = record { answer = o; after = t }
 abbrev pub no_ops : Ops
 no_ops = record { first = None; second = None }
 
+-- the answer of a call that changes the list, without orders, and the list after it: a refusal leaves it
+abbrev pub list_outcome : std.Result MappingList Refusal → Outcome
+list_outcome (Ok next) = accepted 0 no_ops
+list_outcome (Err r) = refused (refusal_number r)
+
+abbrev pub list_left : MappingList → std.Result MappingList Refusal → MappingList
+list_left l (Ok next) = next
+list_left l (Err r) = l
+
 -- a refusal leaves the tables as they were
 abbrev pub step_result : Board → Tables → Plan → Result
-step_result b t (step_plan.Refused n) = call_result (refused n) t
-step_result b t (step_plan.Step change) = call_result (accepted change.frame change.ops) (commit_change b t change.frame change.next)
+step_result b t (Err n) = call_result (refused n) t
+step_result b t (Ok change) = call_result (accepted change.frame change.ops) (commit_change b t change.frame change.next)
 
 abbrev pub list_result : Tables → (ℕ → Tables) → ListPlan → Result
-list_result t next (list_plan.Refused n) = call_result (refused n) t
-list_result t next (list_plan.Place place) = call_result (accepted 0 no_ops) (next place)
+list_result t next (Err n) = call_result (refused n) t
+list_result t next (Ok place) = call_result (accepted 0 no_ops) (next place)
 
 abbrev pub read_call : Board → Tables → ℕ → ℕ → Result
 read_call b t space page = step_result b t (plan_read b t space page)

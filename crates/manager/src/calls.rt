@@ -5,19 +5,17 @@ ghost use Rattle.mapping.specs.Batch.{items_of};
 ghost use Rattle.manager.specs.Answers.{outcome};
 ghost use Rattle.manager.specs.Batch.{batch_result, map_all_call};
 ghost use Rattle.manager.specs.Tables.{tables, tabulate, start_word};
-ghost use Rattle.manager.specs.Calls.{call_result, map_call, unmap_call, read_call, write_call, fetch_call, device_read_call, device_write_call, device_write_part_call, begin_read_call, begin_write_call, move_word_call, bring_word_call, take_word_call, end_transfer_call};
+ghost use Rattle.manager.specs.Calls.{call_result, list_outcome, list_left, map_call, unmap_call, read_call, write_call, fetch_call, device_read_call, device_write_call, device_write_part_call, begin_read_call, begin_write_call, move_word_call, bring_word_call, take_word_call, end_transfer_call};
 
 use super::batch::map_batch;
 use super::commits::{COLOURS, carry_out, commit_change, commit_map, commit_unmap};
-use super::plans::{
-    plan_access, plan_begin, plan_device_read, plan_device_write_part, plan_map, plan_unmap,
-};
+use super::plans::{plan_access, plan_device_write_part, plan_map, plan_transfer, plan_unmap};
 use super::records::{record_at, refill};
 use super::refusals::{end_refusal, tables_refusal, word_refusal};
-use super::{AccessKind, Answer, ListPlan, Listed, listed_as, no_operations, records, refused_as};
+use super::{AccessKind, FrameOps, Refusal, nothing, records};
 use board::BOARD01;
 use mapping::{Batch, Mapping, MappingList};
-use page_model::busy;
+use page_model::{Step, busy};
 
 // Makes every frame's record that of the start, which a kernel lends first: nothing cached, and no dirty colour.
 pub fn start(records: &mut [u32])
@@ -27,22 +25,17 @@ pub fn start(records: &mut [u32])
 }
 
 // Gives a page of a space its frame.
-pub fn map(list: MappingList, records: &[u32], protections: &mut [u8], m: Mapping) -> Listed
-    ensures { call_result (outcome result.answer) (tables result.list records.now protections.new)
+pub fn map(
+    list: MappingList,
+    records: &[u32],
+    protections: &mut [u8],
+    m: Mapping,
+) -> Result<MappingList, Refusal>
+    ensures { call_result (list_outcome result) (tables (list_left list result) records.now protections.new)
         ≡ map_call board01 (tables list records.now protections.old) m.space m.page m.frame m.rights }
 {
-    let plan = plan_map(BOARD01, list, records, protections, m);
-    match plan {
-        ListPlan::Refused(number) => refused_as(list, number),
-        ListPlan::Place(place) => listed_as(commit_map(
-            COLOURS,
-            list,
-            records,
-            protections,
-            place,
-            m,
-        )),
-    }
+    let place = plan_map(BOARD01, list, records, protections, m)?;
+    Ok(commit_map(COLOURS, list, records, protections, place, m))
 }
 
 // Gives each item's page its frame, in order, and answers each: 0, or the number of its refusal. Only 1 and 12 refuse the whole.
@@ -52,8 +45,8 @@ pub fn map_all(
     protections: &mut [u8],
     batch: Batch,
     answers: &mut [u8],
-) -> Listed
-    ensures { batch_result (outcome result.answer) answers.new (tables result.list records.now protections.new)
+) -> Result<MappingList, Refusal>
+    ensures { batch_result (list_outcome result) answers.new (tables (list_left list result) records.now protections.new)
         ≡ map_all_call board01 (tables list records.now protections.old) (items_of batch) answers.old }
 {
     let kept = mapping::keeps_rules(BOARD01, list);
@@ -68,21 +61,12 @@ pub fn unmap(
     protections: &mut [u8],
     space: u8,
     page: u16,
-) -> Listed
-    ensures { call_result (outcome result.answer) (tables result.list records.now protections.new)
+) -> Result<MappingList, Refusal>
+    ensures { call_result (list_outcome result) (tables (list_left list result) records.now protections.new)
         ≡ unmap_call board01 (tables list records.now protections.old) space page }
 {
-    let plan = plan_unmap(BOARD01, list, records, protections, space, page);
-    match plan {
-        ListPlan::Refused(number) => refused_as(list, number),
-        ListPlan::Place(place) => listed_as(commit_unmap(
-            COLOURS,
-            list,
-            records,
-            protections,
-            place,
-        )),
-    }
+    let place = plan_unmap(BOARD01, list, records, protections, space, page)?;
+    Ok(commit_unmap(COLOURS, list, records, protections, place))
 }
 
 // The processor reads a page of a space.
@@ -92,12 +76,12 @@ pub fn read(
     protections: &mut [u8],
     space: u8,
     page: u16,
-) -> Answer
+) -> Result<FrameOps, Refusal>
     ensures { call_result (outcome result) (tables list records.new protections.new)
         ≡ read_call board01 (tables list records.old protections.old) space page }
 {
     let seen = mapping::look(BOARD01, list, space, page);
-    let plan = plan_access(
+    let change = plan_access(
         BOARD01,
         seen,
         records,
@@ -105,8 +89,8 @@ pub fn read(
         space,
         page,
         AccessKind::Read,
-    );
-    carry_out(COLOURS, list, records, protections, plan)
+    )?;
+    Ok(carry_out(COLOURS, list, records, protections, change))
 }
 
 // The processor writes a page of a space.
@@ -116,12 +100,12 @@ pub fn write(
     protections: &mut [u8],
     space: u8,
     page: u16,
-) -> Answer
+) -> Result<FrameOps, Refusal>
     ensures { call_result (outcome result) (tables list records.new protections.new)
         ≡ write_call board01 (tables list records.old protections.old) space page }
 {
     let seen = mapping::look(BOARD01, list, space, page);
-    let plan = plan_access(
+    let change = plan_access(
         BOARD01,
         seen,
         records,
@@ -129,8 +113,8 @@ pub fn write(
         space,
         page,
         AccessKind::Write,
-    );
-    carry_out(COLOURS, list, records, protections, plan)
+    )?;
+    Ok(carry_out(COLOURS, list, records, protections, change))
 }
 
 // The processor fetches an instruction of a page of a space.
@@ -140,12 +124,12 @@ pub fn fetch(
     protections: &mut [u8],
     space: u8,
     page: u16,
-) -> Answer
+) -> Result<FrameOps, Refusal>
     ensures { call_result (outcome result) (tables list records.new protections.new)
         ≡ fetch_call board01 (tables list records.old protections.old) space page }
 {
     let seen = mapping::look(BOARD01, list, space, page);
-    let plan = plan_access(
+    let change = plan_access(
         BOARD01,
         seen,
         records,
@@ -153,8 +137,8 @@ pub fn fetch(
         space,
         page,
         AccessKind::Fetch,
-    );
-    carry_out(COLOURS, list, records, protections, plan)
+    )?;
+    Ok(carry_out(COLOURS, list, records, protections, change))
 }
 
 // A device reads a frame from memory.
@@ -163,12 +147,12 @@ pub fn device_read(
     records: &mut [u32],
     protections: &mut [u8],
     frame: u8,
-) -> Answer
+) -> Result<FrameOps, Refusal>
     ensures { call_result (outcome result) (tables list records.new protections.new)
         ≡ device_read_call board01 (tables list records.old protections.old) frame }
 {
-    let plan = plan_device_read(BOARD01, list, records, protections, frame);
-    carry_out(COLOURS, list, records, protections, plan)
+    let change = plan_transfer(BOARD01, list, records, protections, frame, Step::DeviceRead)?;
+    Ok(carry_out(COLOURS, list, records, protections, change))
 }
 
 // A device writes a frame in memory.
@@ -177,7 +161,7 @@ pub fn device_write(
     records: &mut [u32],
     protections: &mut [u8],
     frame: u8,
-) -> Answer
+) -> Result<FrameOps, Refusal>
     ensures { call_result (outcome result) (tables list records.new protections.new)
         ≡ device_write_call board01 (tables list records.old protections.old) frame }
 {
@@ -192,12 +176,12 @@ pub fn device_write_part(
     frame: u8,
     first: usize,
     number: usize,
-) -> Answer
+) -> Result<FrameOps, Refusal>
     ensures { call_result (outcome result) (tables list records.new protections.new)
         ≡ device_write_part_call board01 (tables list records.old protections.old) frame first number }
 {
-    let plan = plan_device_write_part(BOARD01, list, records, protections, frame, first, number);
-    carry_out(COLOURS, list, records, protections, plan)
+    let change = plan_device_write_part(BOARD01, list, records, protections, frame, first, number)?;
+    Ok(carry_out(COLOURS, list, records, protections, change))
 }
 
 // A device begins to read a frame from memory, word by word.
@@ -206,12 +190,12 @@ pub fn begin_read(
     records: &mut [u32],
     protections: &mut [u8],
     frame: u8,
-) -> Answer
+) -> Result<FrameOps, Refusal>
     ensures { call_result (outcome result) (tables list records.new protections.new)
         ≡ begin_read_call board01 (tables list records.old protections.old) frame }
 {
-    let plan = plan_begin(BOARD01, list, records, protections, frame, false);
-    carry_out(COLOURS, list, records, protections, plan)
+    let change = plan_transfer(BOARD01, list, records, protections, frame, Step::BeginRead)?;
+    Ok(carry_out(COLOURS, list, records, protections, change))
 }
 
 // A device begins to write a frame in memory, word by word.
@@ -220,12 +204,12 @@ pub fn begin_write(
     records: &mut [u32],
     protections: &mut [u8],
     frame: u8,
-) -> Answer
+) -> Result<FrameOps, Refusal>
     ensures { call_result (outcome result) (tables list records.new protections.new)
         ≡ begin_write_call board01 (tables list records.old protections.old) frame }
 {
-    let plan = plan_begin(BOARD01, list, records, protections, frame, true);
-    carry_out(COLOURS, list, records, protections, plan)
+    let change = plan_transfer(BOARD01, list, records, protections, frame, Step::BeginWrite)?;
+    Ok(carry_out(COLOURS, list, records, protections, change))
 }
 
 // A device that writes a frame brings a word of it to memory.
@@ -235,7 +219,7 @@ pub fn bring_word(
     protections: &mut [u8],
     frame: u8,
     offset: usize,
-) -> Answer
+) -> Result<FrameOps, Refusal>
     ensures { call_result (outcome result) (tables list records.now protections.new)
         ≡ bring_word_call board01 (tables list records.now protections.old) frame offset }
 {
@@ -249,7 +233,7 @@ pub fn take_word(
     protections: &mut [u8],
     frame: u8,
     offset: usize,
-) -> Answer
+) -> Result<FrameOps, Refusal>
     ensures { call_result (outcome result) (tables list records.now protections.new)
         ≡ take_word_call board01 (tables list records.now protections.old) frame offset }
 {
@@ -262,18 +246,15 @@ pub fn end_transfer(
     records: &mut [u32],
     protections: &mut [u8],
     frame: u8,
-) -> Answer
+) -> Result<FrameOps, Refusal>
     ensures { call_result (outcome result) (tables list records.new protections.new)
         ≡ end_transfer_call board01 (tables list records.old protections.old) frame }
 {
     let kept = mapping::keeps_rules(BOARD01, list);
-    let refusal = end_refusal(BOARD01, kept, records, protections, frame);
-    if refusal != 0 {
-        return Answer::Refused(refusal);
-    }
+    end_refusal(BOARD01, kept, records, protections, frame)?;
     let next = record_at(records, frame).end();
     commit_change(COLOURS, list, records, protections, frame, next);
-    no_operations()
+    Ok(nothing())
 }
 
 // A transfer with this mark moves a word.
@@ -284,15 +265,12 @@ fn move_word(
     frame: u8,
     offset: usize,
     mark: u32,
-) -> Answer
+) -> Result<FrameOps, Refusal>
     ensures { call_result (outcome result) (tables list records.now protections.new)
         ≡ move_word_call board01 (tables list records.now protections.old) frame offset mark }
 {
     let kept = mapping::keeps_rules(BOARD01, list);
-    let refusal = word_refusal(BOARD01, kept, records, protections, frame, offset, mark);
-    if refusal != 0 {
-        return Answer::Refused(refusal);
-    }
+    word_refusal(BOARD01, kept, records, protections, frame, offset, mark)?;
     refill(COLOURS, list, records, protections);
-    no_operations()
+    Ok(nothing())
 }

@@ -1,12 +1,11 @@
 // What carries a plan out. Of the board a commit asks only how many colours it has.
 ghost use Rattle.std.specs.Prelude.{◌≡◌};
 ghost use Rattle.board.specs.declared.Board as any;
-ghost use Rattle.manager.specs.Answers.{outcome};
-ghost use Rattle.manager.specs.Calls.{call_result, step_result, commit_map, commit_unmap, commit_change};
+ghost use Rattle.manager.specs.Calls.{commit_map, commit_unmap, commit_change};
 ghost use Rattle.manager.specs.Tables.{tables, Colours};
 
 use super::records::{put_record, refill};
-use super::{Answer, FrameOps, Plan};
+use super::{Change, FrameOps};
 use board::BOARD01;
 use mapping::{Mapping, MappingList};
 use page_model::FrameRecord;
@@ -67,29 +66,20 @@ pub fn commit_change(
     refill(colours, list, records, protections);
 }
 
-// Answers a plan, and commits it if it is no refusal.
+// Commits a step's change, and answers its operations.
 pub fn carry_out(
     colours: usize,
     list: MappingList,
     records: &mut [u32],
     protections: &mut [u8],
-    plan: Plan,
-) -> Answer
+    change: Change,
+) -> FrameOps
     requires { Colours colours }
-    ensures { (b : any.Board) → b.colours ≡ colours
-        → call_result (outcome result) (tables list records.new protections.new)
-        ≡ step_result b (tables list records.old protections.old) plan }
+    ensures operations { result ≡ record { frame = change.frame; ops = change.ops } }
+    ensures tables { (b : any.Board) → b.colours ≡ colours
+        → tables list records.new protections.new ≡ commit_change b (tables list records.old protections.old) change.frame change.next }
 {
-    match plan {
-        Plan::Refused(number) => Answer::Refused(number),
-        Plan::Step(change) => {
-            let next = change.next;
-            let ops = change.ops;
-            commit_change(colours, list, records, protections, change.frame, next);
-            Answer::Accepted(FrameOps {
-                frame: change.frame,
-                ops,
-            })
-        }
-    }
+    let Change { frame, next, ops } = change;
+    commit_change(colours, list, records, protections, frame, next);
+    FrameOps { frame, ops }
 }

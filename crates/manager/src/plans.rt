@@ -1,19 +1,23 @@
 // What each call with operations, and each change of the list, would do: a refusal, or the step of one frame's record, or a place in the list. A plan changes nothing.
-ghost use Rattle.std.specs.Prelude.{◌≡◌, cond, length};
+ghost use Rattle.std.specs.Prelude.{◌≡◌, true, cond, ℕ, ◌≤◌, List, length};
 ghost use Rattle.board.specs.Board.{Regular};
-ghost use Rattle.page_model.specs.Table.{device_read};
+ghost use Rattle.page_model.specs.Busy.{bars};
+ghost use Rattle.page_model.specs.Cases.{step_of};
+ghost use Rattle.page_model.specs.Record as frame_record;
+ghost use Rattle.page_model.specs.Table.{reach};
 ghost use Rattle.mapping.specs.declared.MappingList as any;
 ghost use Rattle.mapping.specs.Entry.{capacity};
 ghost use Rattle.mapping.specs.Look.{look};
-ghost use Rattle.manager.specs.Calls.{plan_map, plan_unmap, planned, plan_access, plan_transfer, begin_step, plan_device_write_part};
-ghost use Rattle.manager.specs.Tables.{tables};
+ghost use Rattle.manager.specs.Answers.{by_number};
+ghost use Rattle.manager.specs.Calls.{plan_map, plan_unmap, planned, change_of, plan_access, plan_transfer, plan_device_write_part};
+ghost use Rattle.manager.specs.Tables.{tables, record_at};
 
 use super::records::record_at;
 use super::refusals::{access_refusal, map_refusal, page_refusal, part_refusal, transfer_refusal};
-use super::{AccessKind, Change, ListPlan, Plan};
+use super::{AccessKind, Change, Refusal};
 use board::Board;
 use mapping::{Mapping, MappingList, Seen};
-use page_model::Stepped;
+use page_model::{Step, Stepped};
 
 // Whether a mapping can be listed, and where.
 pub fn plan_map(
@@ -22,16 +26,13 @@ pub fn plan_map(
     records: &[u32],
     protections: &[u8],
     m: Mapping,
-) -> ListPlan
+) -> Result<usize, Refusal>
     requires { Regular board }
-    ensures { result ≡ plan_map board (tables list records.now protections.now) m.space m.page m.frame m.rights }
+    ensures { by_number result ≡ plan_map board (tables list records.now protections.now) m.space m.page m.frame m.rights }
 {
     let seen = mapping::look(board, list, m.space, m.page);
-    let refusal = map_refusal(board, seen, records, protections, m);
-    if refusal != 0 {
-        return ListPlan::Refused(refusal);
-    }
-    ListPlan::Place(seen.place)
+    map_refusal(board, seen, records, protections, m)?;
+    Ok(seen.place)
 }
 
 // Whether a page of a space is mapped, and at which place.
@@ -42,16 +43,13 @@ pub fn plan_unmap(
     protections: &[u8],
     space: u8,
     page: u16,
-) -> ListPlan
+) -> Result<usize, Refusal>
     requires { Regular board }
-    ensures { result ≡ plan_unmap board (tables list records.now protections.now) space page }
+    ensures { by_number result ≡ plan_unmap board (tables list records.now protections.now) space page }
 {
     let seen = mapping::look(board, list, space, page);
-    let refusal = page_refusal(board, seen, records, protections, space, page);
-    if refusal != 0 {
-        return ListPlan::Refused(refusal);
-    }
-    ListPlan::Place(seen.place)
+    page_refusal(board, seen, records, protections, space, page)?;
+    Ok(seen.place)
 }
 
 // What an access of the processor makes of the page's frame, where seen is what a look at the list told of the page. The list
@@ -64,53 +62,36 @@ pub fn plan_access(
     space: u8,
     page: u16,
     kind: AccessKind,
-) -> Plan
+) -> Result<Change, Refusal>
     requires { Regular board }
     ensures { (list : any.MappingList) → length list.items ≡ capacity → seen ≡ look board list space page
-        → result ≡ plan_access board (tables list records.now protections.now) space page kind }
+        → by_number result ≡ plan_access board (tables list records.now protections.now) space page kind }
 {
-    let refusal = access_refusal(board, seen, records, protections, space, page, kind);
-    if refusal != 0 {
-        return Plan::Refused(refusal);
-    }
-    let frame = seen.mapping.frame;
-    let colour = board::colour_of(board, page as usize);
-    let record = record_at(records, frame);
-    match kind {
-        AccessKind::Read => step_of(
-            frame,
-            record.bars_read(),
-            record.read(board.colours, colour),
-        ),
-        AccessKind::Write => {
-            step_of(frame, record.is_busy(), record.write(board.colours, colour))
-        }
-        AccessKind::Fetch => step_of(
-            frame,
-            record.bars_fetch(),
-            record.fetch(board.colours, colour),
-        ),
-    }
+    access_refusal(board, seen, records, protections, space, page, kind)?;
+    let colour = board::colour_of(board, usize::from(page));
+    let step = match kind {
+        AccessKind::Read => Step::Read(colour),
+        AccessKind::Write => Step::Write(colour),
+        AccessKind::Fetch => Step::Fetch(colour),
+    };
+    plan_step(board, records, seen.mapping.frame, step)
 }
 
-// What a device read makes of a frame.
-pub fn plan_device_read(
+// What a device's transfer of a page, or the beginning of one, makes of a frame.
+pub fn plan_transfer(
     board: Board,
     list: MappingList,
     records: &[u32],
     protections: &[u8],
     frame: u8,
-) -> Plan
-    requires { Regular board }
-    ensures { result ≡ plan_transfer board (tables list records.now protections.now) frame device_read }
+    step: Step,
+) -> Result<Change, Refusal>
+    requires { Regular board × (reach (step_of step) ≤ board.colours) }
+    ensures { by_number result ≡ plan_transfer board (tables list records.now protections.now) frame (step_of step) }
 {
     let kept = mapping::keeps_rules(board, list);
-    let refusal = transfer_refusal(board, kept, records, protections, frame);
-    if refusal != 0 {
-        return Plan::Refused(refusal);
-    }
-    let record = record_at(records, frame);
-    step_of(frame, record.is_busy(), record.device_read(board.colours))
+    transfer_refusal(board, kept, records, protections, frame)?;
+    plan_step(board, records, frame, step)
 }
 
 // What a device's write of so many words from an offset on makes of a frame.
@@ -122,58 +103,30 @@ pub fn plan_device_write_part(
     frame: u8,
     first: usize,
     number: usize,
-) -> Plan
+) -> Result<Change, Refusal>
     requires { Regular board }
-    ensures { result ≡ plan_device_write_part board (tables list records.now protections.now) frame first number }
+    ensures { by_number result ≡ plan_device_write_part board (tables list records.now protections.now) frame first number }
 {
     let kept = mapping::keeps_rules(board, list);
-    let refusal = part_refusal(board, kept, records, protections, frame, first, number);
-    if refusal != 0 {
-        return Plan::Refused(refusal);
-    }
-    let record = record_at(records, frame);
-    if number < board.page {
-        return step_of(
-            frame,
-            record.is_busy(),
-            record.device_write_part(board.colours),
-        );
-    }
-    step_of(frame, record.is_busy(), record.device_write(board.colours))
+    part_refusal(board, kept, records, protections, frame, first, number)?;
+    let step = if number < board.page {
+        Step::DeviceWritePart
+    } else {
+        Step::DeviceWrite
+    };
+    plan_step(board, records, frame, step)
 }
 
-// What the beginning of a device's transfer makes of a frame, a write or a read.
-pub fn plan_begin(
-    board: Board,
-    list: MappingList,
-    records: &[u32],
-    protections: &[u8],
-    frame: u8,
-    writes: bool,
-) -> Plan
-    requires { Regular board }
-    ensures { result ≡ plan_transfer board (tables list records.now protections.now) frame (begin_step writes) }
+// What a step makes of a frame's record, which its mark may bar.
+fn plan_step(board: Board, records: &[u32], frame: u8, step: Step) -> Result<Change, Refusal>
+    requires { Regular board × (reach (step_of step) ≤ board.colours) }
+    ensures { (list : any.MappingList) (protections : List ℕ) → frame_record.keeps_rules board.colours (record_at records.now frame) ≡ true
+        → by_number result ≡ planned (cond (bars (record_at records.now frame).busy (step_of step)) 15 0) (change_of board (tables list records.now protections) frame (step_of step)) }
 {
-    let kept = mapping::keeps_rules(board, list);
-    let refusal = transfer_refusal(board, kept, records, protections, frame);
-    if refusal != 0 {
-        return Plan::Refused(refusal);
-    }
     let record = record_at(records, frame);
-    if writes {
-        return step_of(frame, record.is_busy(), record.begin_write(board.colours));
+    if record.bars(step) {
+        return Err(Refusal::Busy);
     }
-    step_of(frame, record.is_busy(), record.begin_read(board.colours))
-}
-
-// The plan of a step of one frame's record, which its mark may bar.
-fn step_of(frame: u8, barred: bool, stepped: Stepped) -> Plan
-    ensures { result ≡ planned (cond barred 15 0) (record { frame = frame; next = stepped.next; ops = stepped.ops }) }
-{
-    if barred {
-        return Plan::Refused(15);
-    }
-    let next = stepped.next;
-    let ops = stepped.ops;
-    Plan::Step(Change { frame, next, ops })
+    let Stepped { next, ops } = record.step(step, board.colours);
+    Ok(Change { frame, next, ops })
 }

@@ -1,74 +1,76 @@
-// The refusal of each call: the number of the first cause that applies, or 0. Where a function takes `seen`, that is what a look at the list told of the call's page; `kept` says whether the list keeps its rules.
-ghost use Rattle.std.specs.Prelude.{cond, [], ◌∷◌, ◌++◌, ◌≡◌};
+// The refusal of each call, by the first cause that applies. Where a function takes `seen`, that is what a look at the list told of the call's page; `kept` says whether the list keeps its rules.
+ghost use Rattle.std.specs.Prelude.{[], ◌∷◌, ◌++◌, ◌≡◌};
 ghost use Rattle.board.specs.Board.{Regular};
-ghost use Rattle.manager.specs.Refusals.{first_refusal, or_else, refusal_place, frame_cause, part_cause, offset_cause, word_cause, end_cause, out_of_space, out_of_page};
+ghost use Rattle.manager.specs.Answers.{refusal_in};
+ghost use Rattle.manager.specs.Refusals.{first_refusal, frame_cause, part_cause, offset_cause, word_cause, end_cause, out_of_space, out_of_page};
 ghost use Rattle.manager.specs.Scaffold.Told.{told_tables, told_mapping, told_page, told_rights, told_access};
 
-use super::AccessKind;
 use super::records::{RECORD_WORDS, record_at, records_keep_rules};
+use super::{AccessKind, Refusal};
 use board::Board;
 use mapping::{Mapping, Seen};
 use page_model::busy;
 
-// How many refusals there are, and their numbers in the order in which they are tested.
-const REFUSALS: usize = 15;
-
-const ORDER: [u8; REFUSALS] = [1, 12, 2, 3, 4, 5, 6, 13, 7, 8, 9, 10, 17, 15, 16];
-
-// The place of a refusal in the order, past its end where it is not listed.
-pub fn place(number: u8) -> usize
-    ensures { result ≡ refusal_place number }
-{
-    let mut i = 0;
-    while i < REFUSALS {
-        if ORDER[i] == number {
-            return i;
-        }
-        i += 1;
-    }
-    i
-}
-
 // The refusal in what every call is lent.
-pub fn tables_refusal(board: Board, kept: bool, records: &[u32], protections: &[u8]) -> u8
+pub fn tables_refusal(
+    board: Board,
+    kept: bool,
+    records: &[u32],
+    protections: &[u8],
+) -> Result<(), Refusal>
     requires { Regular board }
-    ensures { result ≡ first_refusal (told_tables board kept records.now protections.now) }
+    ensures { refusal_in result ≡ first_refusal (told_tables board kept records.now protections.now) }
 {
     if records.len() != board.frames * RECORD_WORDS {
-        return 1;
+        return Err(Refusal::WrongLength);
     }
     if protections.len() != mapping::CAPACITY {
-        return 1;
+        return Err(Refusal::WrongLength);
     }
     if !kept {
-        return 2;
+        return Err(Refusal::BrokenRules);
     }
     if !records_keep_rules(board, records) {
-        return 2;
+        return Err(Refusal::BrokenRules);
     }
-    0
+    Ok(())
 }
 
 // The refusal of `map`.
-pub fn map_refusal(board: Board, seen: Seen, records: &[u32], protections: &[u8], m: Mapping) -> u8
+pub fn map_refusal(
+    board: Board,
+    seen: Seen,
+    records: &[u32],
+    protections: &[u8],
+    m: Mapping,
+) -> Result<(), Refusal>
     requires { Regular board }
-    ensures { result ≡ first_refusal (told_tables board seen.kept records.now protections.now ++ told_mapping board m.space m.page m.frame m.rights seen) }
+    ensures { refusal_in result ≡ first_refusal (told_tables board seen.kept records.now protections.now ++ told_mapping board m.space m.page m.frame m.rights seen) }
 {
-    or_else(
-        tables_refusal(board, seen.kept, records, protections),
-        mapping_refusal(board, seen, m),
-    )
+    tables_refusal(board, seen.kept, records, protections)?;
+    mapping_refusal(board, seen, m)
 }
 
 // The refusal of a mapping in its numbers and the list, where all that is lent is as it should be.
-pub fn mapping_refusal(board: Board, seen: Seen, m: Mapping) -> u8
-    ensures { result ≡ first_refusal (told_mapping board m.space m.page m.frame m.rights seen) }
+pub fn mapping_refusal(board: Board, seen: Seen, m: Mapping) -> Result<(), Refusal>
+    ensures { refusal_in result ≡ first_refusal (told_mapping board m.space m.page m.frame m.rights seen) }
 {
-    let full = first(seen.count == mapping::CAPACITY, 9, 0);
-    let mapped = first(seen.mapped, 7, full);
-    let rights = first(!mapping::is_rights(m.rights), 5, mapped);
-    let frame = first(m.frame as usize >= board.frames, 4, rights);
-    first(out_of_space(m.space, m.page), 3, frame)
+    if out_of_space(m.space, m.page) {
+        return Err(Refusal::NoSuchPage);
+    }
+    if usize::from(m.frame) >= board.frames {
+        return Err(Refusal::NoSuchFrame);
+    }
+    if !mapping::is_rights(m.rights) {
+        return Err(Refusal::NoSuchRights);
+    }
+    if seen.mapped {
+        return Err(Refusal::AlreadyMapped);
+    }
+    if seen.count == mapping::CAPACITY {
+        return Err(Refusal::ListFull);
+    }
+    Ok(())
 }
 
 // The refusal of `unmap`.
@@ -79,15 +81,18 @@ pub fn page_refusal(
     protections: &[u8],
     space: u8,
     page: u16,
-) -> u8
+) -> Result<(), Refusal>
     requires { Regular board }
-    ensures { result ≡ first_refusal (told_tables board seen.kept records.now protections.now ++ told_page space page seen) }
+    ensures { refusal_in result ≡ first_refusal (told_tables board seen.kept records.now protections.now ++ told_page space page seen) }
 {
-    let unmapped = first(!seen.mapped, 8, 0);
-    or_else(
-        tables_refusal(board, seen.kept, records, protections),
-        first(out_of_space(space, page), 3, unmapped),
-    )
+    tables_refusal(board, seen.kept, records, protections)?;
+    if out_of_space(space, page) {
+        return Err(Refusal::NoSuchPage);
+    }
+    if !seen.mapped {
+        return Err(Refusal::NotMapped);
+    }
+    Ok(())
 }
 
 // The refusal of an access of the processor but for the frame's busy mark.
@@ -99,24 +104,22 @@ pub fn access_refusal(
     space: u8,
     page: u16,
     kind: AccessKind,
-) -> u8
+) -> Result<(), Refusal>
     requires { Regular board }
-    ensures { result ≡ first_refusal (told_tables board seen.kept records.now protections.now ++ told_access kind space page seen) }
+    ensures { refusal_in result ≡ first_refusal (told_tables board seen.kept records.now protections.now ++ told_access kind space page seen) }
 {
-    or_else(
-        page_refusal(board, seen, records, protections, space, page),
-        rights_refusal(kind, seen.mapping.rights),
-    )
+    page_refusal(board, seen, records, protections, space, page)?;
+    rights_refusal(kind, seen.mapping.rights)
 }
 
 // The refusal of an access in the rights of its mapping.
-fn rights_refusal(kind: AccessKind, rights: u8) -> u8
-    ensures { result ≡ first_refusal (told_rights kind rights) }
+fn rights_refusal(kind: AccessKind, rights: u8) -> Result<(), Refusal>
+    ensures { refusal_in result ≡ first_refusal (told_rights kind rights) }
 {
     match kind {
-        AccessKind::Read => 0,
-        AccessKind::Write => first(rights != mapping::READ_WRITE, 10, 0),
-        AccessKind::Fetch => first(rights != mapping::READ_FETCH, 17, 0),
+        AccessKind::Write if rights != mapping::READ_WRITE => Err(Refusal::NotWritable),
+        AccessKind::Fetch if rights != mapping::READ_FETCH => Err(Refusal::NotFetchable),
+        _ => Ok(()),
     }
 }
 
@@ -127,14 +130,15 @@ pub fn transfer_refusal(
     records: &[u32],
     protections: &[u8],
     frame: u8,
-) -> u8
+) -> Result<(), Refusal>
     requires { Regular board }
-    ensures { result ≡ first_refusal (told_tables board kept records.now protections.now ++ frame_cause board frame ∷ []) }
+    ensures { refusal_in result ≡ first_refusal (told_tables board kept records.now protections.now ++ frame_cause board frame ∷ []) }
 {
-    or_else(
-        tables_refusal(board, kept, records, protections),
-        first(frame as usize >= board.frames, 4, 0),
-    )
+    tables_refusal(board, kept, records, protections)?;
+    if usize::from(frame) >= board.frames {
+        return Err(Refusal::NoSuchFrame);
+    }
+    Ok(())
 }
 
 // The refusal of a transfer of so many words from an offset on, but for the frame's busy mark.
@@ -146,14 +150,15 @@ pub fn part_refusal(
     frame: u8,
     first: usize,
     number: usize,
-) -> u8
+) -> Result<(), Refusal>
     requires { Regular board }
-    ensures { result ≡ first_refusal (told_tables board kept records.now protections.now ++ frame_cause board frame ∷ part_cause board first number ∷ []) }
+    ensures { refusal_in result ≡ first_refusal (told_tables board kept records.now protections.now ++ frame_cause board frame ∷ part_cause board first number ∷ []) }
 {
-    or_else(
-        transfer_refusal(board, kept, records, protections, frame),
-        self::first(out_of_page(board, first, number), 13, 0),
-    )
+    transfer_refusal(board, kept, records, protections, frame)?;
+    if out_of_page(board, first, number) {
+        return Err(Refusal::NoSuchPart);
+    }
+    Ok(())
 }
 
 // The refusal of a word at an offset, which a transfer with this mark moves.
@@ -165,63 +170,48 @@ pub fn word_refusal(
     frame: u8,
     offset: usize,
     mark: u32,
-) -> u8
+) -> Result<(), Refusal>
     requires { Regular board }
-    ensures { result ≡ first_refusal (told_tables board kept records.now protections.now ++ frame_cause board frame ∷ offset_cause board.page offset ∷ word_cause records.now frame mark ∷ []) }
+    ensures { refusal_in result ≡ first_refusal (told_tables board kept records.now protections.now ++ frame_cause board frame ∷ offset_cause board.page offset ∷ word_cause records.now frame mark ∷ []) }
 {
-    let refusal = transfer_refusal(board, kept, records, protections, frame);
-    if refusal != 0 {
-        return refusal;
+    transfer_refusal(board, kept, records, protections, frame)?;
+    if offset >= board.page {
+        return Err(Refusal::NoSuchOffset);
     }
-    let word = first(record_at(records, frame).busy != mark, 16, 0);
-    first(offset >= board.page, 6, word)
+    if record_at(records, frame).busy != mark {
+        return Err(Refusal::NoTransfer);
+    }
+    Ok(())
 }
 
 // The refusal of the end of a transfer.
-pub fn end_refusal(board: Board, kept: bool, records: &[u32], protections: &[u8], frame: u8) -> u8
+pub fn end_refusal(
+    board: Board,
+    kept: bool,
+    records: &[u32],
+    protections: &[u8],
+    frame: u8,
+) -> Result<(), Refusal>
     requires { Regular board }
-    ensures { result ≡ first_refusal (told_tables board kept records.now protections.now ++ frame_cause board frame ∷ end_cause records.now frame ∷ []) }
+    ensures { refusal_in result ≡ first_refusal (told_tables board kept records.now protections.now ++ frame_cause board frame ∷ end_cause records.now frame ∷ []) }
 {
-    let refusal = transfer_refusal(board, kept, records, protections, frame);
-    if refusal != 0 {
-        return refusal;
+    transfer_refusal(board, kept, records, protections, frame)?;
+    if record_at(records, frame).busy == busy::FREE {
+        return Err(Refusal::NoTransfer);
     }
-    first(record_at(records, frame).busy == busy::FREE, 16, 0)
-}
-
-// The number of a cause that applies, else what later causes give.
-pub fn first(applies: bool, number: u8, later: u8) -> u8
-    ensures { result ≡ cond applies number later }
-{
-    if applies { number } else { later }
-}
-
-// A refusal, else what later causes give.
-pub fn or_else(refusal: u8, later: u8) -> u8
-    ensures { result ≡ or_else refusal later }
-{
-    first(refusal != 0, refusal, later)
+    Ok(())
 }
 
 // Whether the space or the page is past its limit.
 fn out_of_space(space: u8, page: u16) -> bool
     ensures { result ≡ out_of_space space page }
 {
-    if space as usize >= board::SPACES {
-        return true;
-    }
-    page as usize >= board::PAGES
+    usize::from(space) >= board::SPACES || usize::from(page) >= board::PAGES
 }
 
 // Whether of so many words from an offset on there are none, or one is past the page's last offset.
 fn out_of_page(board: Board, first: usize, number: usize) -> bool
     ensures { result ≡ out_of_page board first number }
 {
-    if number == 0 {
-        return true;
-    }
-    if first > board.page {
-        return true;
-    }
-    number > board.page - first
+    number == 0 || first > board.page || number > board.page - first
 }

@@ -1,7 +1,7 @@
 -- `manager::insert_all` meets its contract. The loop's invariant: the list and the answers after i items, and that the list keeps its rules.
 use mathlib.Core.Path.{◌≡◌}
 use mathlib.Core.Bool.{true}
-use Prim.Native.Nat.{ℕ, ◌≤◌, ◌<◌, ◌-◌}
+use Prim.Native.Nat.{ℕ, ◌<◌}
 use lib.ListN.{length, get_or}
 use Rattle.board.specs.declared.Board.{Board}
 use Rattle.mapping.specs.declared.MappingList.{MappingList}
@@ -17,9 +17,5 @@ Kept b l = (keeps_rules b l ≡ true) × (length l.items ≡ capacity)
 
 abbrev pub invariant-loop-i : goal.invariant-loop-i
 invariant-loop-i l =
-    (length l.answers ≡ length l.initial.answers) × (l.i ≤ length l.initial.answers)
-    × (l.next ≡ list_after_items l.board l.initial.next (items_of l.batch) l.i) × ((k : ℕ) → k < l.i → get_or l.answers k 0 ≡ refusal_at l.board l.initial.next (items_of l.batch) k)
+    (l.next ≡ list_after_items l.board l.initial.next (items_of l.batch) l.i) × ((k : ℕ) → k < l.i → get_or l.answers k 0 ≡ refusal_at l.board l.initial.next (items_of l.batch) k)
     × Kept l.board l.next
-
-abbrev pub decreases-loop-i : goal.decreases-loop-i
-decreases-loop-i l = length l.initial.answers - l.i

@@ -1,13 +1,16 @@
 -- `manager::begin_read` meets its contract.
-use mathlib.Core.Path.{refl, ap, ◌∙◌}
+use mathlib.Core.Path.{refl}
+use native.Mathlib.Omega.{arith}
 use Rattle.board.specs.Board.{board01}
 use Rattle.board.proofs.Geometry.{board01_regular}
-use Rattle.manager.specs.Calls.{step_result}
+use Rattle.manager.proofs.PlanLaws.{step_refused, step_made}
 use Rattle.manager.proofs.calls.begin_read.Goals as goal
 
-pub plan_begin-plan-requires : goal.plan_begin-plan-requires
-plan_begin-plan-requires c = board01_regular
+pub plan_transfer-requires : goal.plan_transfer-requires
+plan_transfer-requires c = (board01_regular, omega arith)
+
+pub returns-in_err-change : goal.returns-in_err-change
+returns-in_err-change c = step_refused board01 _ _ _ c.in_err-change.ensures c.from_residual.ensures.1
 
 pub returns : goal.returns
-returns c =
-    c.carry_out.ensures board01 refl ∙ ap (step_result board01 _) c.plan_begin-plan.ensures
+returns c = step_made board01 _ c.in_ok-change.ensures c.carry_out.ensures.operations (c.carry_out.ensures.tables board01 refl)

@@ -1,13 +1,15 @@
 -- `manager::device_write_part` meets its contract.
-use mathlib.Core.Path.{refl, ap, ◌∙◌}
+use mathlib.Core.Path.{refl}
 use Rattle.board.specs.Board.{board01}
 use Rattle.board.proofs.Geometry.{board01_regular}
-use Rattle.manager.specs.Calls.{step_result}
+use Rattle.manager.proofs.PlanLaws.{step_refused, step_made}
 use Rattle.manager.proofs.calls.device_write_part.Goals as goal
 
-pub plan_device_write_part-plan-requires : goal.plan_device_write_part-plan-requires
-plan_device_write_part-plan-requires c = board01_regular
+pub plan_device_write_part-requires : goal.plan_device_write_part-requires
+plan_device_write_part-requires c = board01_regular
+
+pub returns-in_err-change : goal.returns-in_err-change
+returns-in_err-change c = step_refused board01 _ _ _ c.in_err-change.ensures c.from_residual.ensures.1
 
 pub returns : goal.returns
-returns c =
-    c.carry_out.ensures board01 refl ∙ ap (step_result board01 _) c.plan_device_write_part-plan.ensures
+returns c = step_made board01 _ c.in_ok-change.ensures c.carry_out.ensures.operations (c.carry_out.ensures.tables board01 refl)

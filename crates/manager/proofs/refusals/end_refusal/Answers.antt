@@ -1,19 +1,26 @@
 -- `manager::refusals::end_refusal` meets its contract.
-use mathlib.Core.Path.{refl, sym, ◌∙◌}
+use borrow.Author.Rules.{rules}
+use mathlib.Core.Path.{refl}
 use mathlib.Core.List.{[], ◌∷◌, ◌++◌}
 use Rattle.manager.specs.Refusals.{first_refusal, frame_cause, end_cause}
 use Rattle.manager.specs.Scaffold.Told.{told_tables}
-use Rattle.manager.proofs.CauseLaws.{refusal_prefix, refusal_rest}
+use Rattle.manager.proofs.CauseLaws.{refused_first, refused_then}
 use Rattle.manager.proofs.refusals.end_refusal.Goals as goal
 
-pub returns-then-refusal-ne0 : goal.returns-then-refusal-ne0
+pub returns-in_err-transfer_refusal : goal.returns-in_err-transfer_refusal
 unfolding told_tables
-returns-then-refusal-ne0 c =
-    let refusal = c.transfer_refusal-refusal.ensures in
-    refusal ∙ refusal_prefix ((told_tables c.args.board c.args.kept c.args.records.now c.args.protections.now ++ frame_cause c.args.board c.args.frame ∷ [])) ((end_cause c.args.records.now c.args.frame ∷ [])) (λ z. c.if-refusal-ne0.true (refusal ∙ z))
+returns-in_err-transfer_refusal c =
+    let a = c.args in
+    refused_first (told_tables a.board a.kept a.records.now a.protections.now ++ frame_cause a.board a.frame ∷ []) (end_cause a.records.now a.frame ∷ []) _ _ c.in_err-transfer_refusal.ensures c.from_residual.ensures.1
 
--- past the causes of a (told_tables its.args.board its.args.kept its.args.records.now its.args.protections.now ++ frame_cause its.args.board its.args.frame ∷ []) (end_cause decide.args.records.now decide.args.frame ∷ [])
+pub returns-then-record_at-eq-FREE : goal.returns-then-record_at-eq-FREE
+unfolding first_refusal told_tables
+returns-then-record_at-eq-FREE c =
+    let a = c.args in
+    refused_then (told_tables a.board a.kept a.records.now a.protections.now ++ frame_cause a.board a.frame ∷ []) (end_cause a.records.now a.frame ∷ []) refl c.in_ok-transfer_refusal.ensures (search rules)
+
 pub returns : goal.returns
 unfolding first_refusal told_tables
 returns c =
-    cc (refusal_rest ((told_tables c.args.board c.args.kept c.args.records.now c.args.protections.now ++ frame_cause c.args.board c.args.frame ∷ [])) ((end_cause c.args.records.now c.args.frame ∷ [])) refl (sym c.transfer_refusal-refusal.ensures ∙ c.if-refusal-ne0.false))
+    let a = c.args in
+    refused_then (told_tables a.board a.kept a.records.now a.protections.now ++ frame_cause a.board a.frame ∷ []) (end_cause a.records.now a.frame ∷ []) refl c.in_ok-transfer_refusal.ensures (search rules)

@@ -1,12 +1,10 @@
 -- `manager::refusals::map_refusal` meets its contract.
-use mathlib.Core.Path.{refl}
-use Rattle.manager.specs.Refusals.{first_refusal}
-use Rattle.manager.specs.Scaffold.Told.{told_tables, told_mapping}
-use Rattle.manager.proofs.CauseLaws.{or_else_is}
+use Rattle.manager.specs.Scaffold.Told.{told_tables}
+use Rattle.manager.proofs.CauseLaws.{refused_first, refused_then, tables_numbered}
 use Rattle.manager.proofs.refusals.map_refusal.Goals as goal
 
+pub returns-in_err-tables_refusal : goal.returns-in_err-tables_refusal
+returns-in_err-tables_refusal c = refused_first (told_tables _ _ _ _) _ _ _ c.in_err-tables_refusal.ensures c.from_residual.ensures.1
+
 pub returns : goal.returns
-unfolding first_refusal told_tables
-returns c =
-    let a = c.args in
-    cc (or_else_is (told_tables a.board a.seen.kept a.records.now a.protections.now) (told_mapping a.board a.m.space a.m.page a.m.frame a.m.rights a.seen) refl)
+returns c = refused_then (told_tables _ _ _ _) _ (tables_numbered _ _ _ _) c.in_ok-tables_refusal.ensures c.mapping_refusal.ensures

@@ -1,13 +1,17 @@
 -- `manager::refusals::transfer_refusal` meets its contract.
-use mathlib.Core.Path.{refl}
-use mathlib.Core.List.{[], ◌∷◌}
-use Rattle.manager.specs.Refusals.{first_refusal, frame_cause}
+use borrow.Author.Rules.{rules}
+use Rattle.manager.specs.Refusals.{first_refusal}
 use Rattle.manager.specs.Scaffold.Told.{told_tables}
-use Rattle.manager.proofs.CauseLaws.{or_else_is}
+use Rattle.manager.proofs.CauseLaws.{refused_first, refused_then, tables_numbered}
 use Rattle.manager.proofs.refusals.transfer_refusal.Goals as goal
 
+pub returns-in_err-tables_refusal : goal.returns-in_err-tables_refusal
+returns-in_err-tables_refusal c = refused_first (told_tables _ _ _ _) _ _ _ c.in_err-tables_refusal.ensures c.from_residual.ensures.1
+
+pub returns-then-from-board : goal.returns-then-from-board
+unfolding first_refusal
+returns-then-from-board c = refused_then (told_tables _ _ _ _) _ (tables_numbered _ _ _ _) c.in_ok-tables_refusal.ensures (search rules)
+
 pub returns : goal.returns
-unfolding first_refusal told_tables
-returns c =
-    let a = c.args in
-    cc (or_else_is (told_tables a.board a.kept a.records.now a.protections.now) (frame_cause a.board a.frame ∷ []) refl)
+unfolding first_refusal
+returns c = refused_then (told_tables _ _ _ _) _ (tables_numbered _ _ _ _) c.in_ok-tables_refusal.ensures (search rules)
