@@ -122,7 +122,6 @@ refusal_rest (c ∷ cs) ds n e =
 
 -- no refusal's number is 0
 pub some_number : (e : Refusal) → refusal_number e ≡ 0 → ⊥
-some_number refusal.WrongHold z = omega arith
 some_number refusal.WrongLength z = omega arith
 some_number refusal.WrongBatch z = omega arith
 some_number refusal.BrokenRules z = omega arith

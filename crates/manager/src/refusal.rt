@@ -5,8 +5,6 @@ ghost use Rattle.manager.specs.Answers.{refusal_number};
 // The causes of refusal, in the order in which they are tested: of two, the lesser is answered.
 #[derive(Clone, Copy, Debug, PartialEq, Eq, PartialOrd, Ord)]
 pub enum Refusal {
-    // A hold that position hold does not have.
-    WrongHold,
     // A lent buffer of another length.
     WrongLength,
     // A list of more mappings than a batch has, or of not as many as there are answers.
@@ -52,7 +50,6 @@ impl Refusal {
             Refusal::NotWritable => 10,
             Refusal::WrongBatch => 12,
             Refusal::NoSuchPart => 13,
-            Refusal::WrongHold => 14,
             Refusal::Busy => 15,
             Refusal::NoTransfer => 16,
             Refusal::NotFetchable => 17,
