@@ -25,7 +25,7 @@ pub fn within(mask: u32, places: usize) -> bool
     requires { places ≤ width }
     ensures { result ≡ ltb mask (2 ^ places) }
 {
-    wide(mask) >> places == 0
+    u64::from(mask) >> places == 0
 }
 
 // The mask of the first places, all of them.
@@ -35,10 +35,4 @@ pub fn below(places: usize) -> u32
 {
     let limit: u64 = 1 << places;
     (limit - 1) as u32
-}
-
-fn wide(mask: u32) -> u64
-    ensures { result ≡ mask }
-{
-    mask as u64
 }

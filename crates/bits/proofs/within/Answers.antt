@@ -3,4 +3,4 @@ use Rattle.bits.proofs.Mask.{shr_none}
 use Rattle.bits.proofs.within.Goals as goal
 
 pub returns : goal.returns
-returns c = rw c.wide.ensures (shr_none c.args.mask c.args.places)
+returns c = rw c.from.ensures (shr_none c.args.mask c.args.places)
