@@ -7,7 +7,7 @@ use lib.Dec.{eqb}
 use Rattle.bits.specs.Mask.{bit}
 use Rattle.bits.proofs.Tautology.{all4, equal_if, law4, and_left, and_right}
 use Rattle.page_model.specs.declared.FrameRecord.{FrameRecord}
-use Rattle.page_model.specs.Cases.{step_number, row_at}
+pub use Rattle.page_model.specs.Cases.{row_of}
 use Rattle.page_model.specs.Record.{state_from, state_of}
 use Rattle.page_model.specs.Step.{cell_of}
 use Rattle.page_model.specs.Table.{ColourState, empty, present, dirty, stale, Operation, Role, own, other, Cell, Step, read, write, device_read, device_write, device_write_part, begin_read, begin_write, fetch, role_if, own_of}
@@ -30,10 +30,7 @@ apart o s h d = not (h && s)
 abbrev pub state_test : (ColourState → Bool) → Test
 state_test f o s h d = f (state_from s h d)
 
--- the row of the tables that a step takes; a transfer's does not look at the role
-abbrev pub row_of : Step → Role → ColourState → Cell
-row_of step = row_at (step_number step)
-
+-- the cell that a step takes, by its row
 pub row_cell : (s : Step) (r : FrameRecord) (k : ℕ) → cell_of s r k ≡ row_of s (role_if (eqb (own_of s) k)) (state_of r k)
 unfolding cell_of
 row_cell (read c) r k = refl

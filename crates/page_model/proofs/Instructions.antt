@@ -9,7 +9,7 @@ use Rattle.bits.proofs.Mask.{bit_none}
 use Rattle.bits.proofs.Tautology.{and_left, and_right}
 use Rattle.page_model.specs.declared.FrameRecord.{FrameRecord}
 use Rattle.page_model.specs.Busy.{writing}
-use Rattle.page_model.specs.Cases.{step_number, instruction_row_at}
+use Rattle.page_model.specs.Cases.{instruction_row_of}
 use Rattle.page_model.specs.Instructions.{InstructionState, unfetched, fetched, outdated, InstructionCell, ◌⇛◌, left_cell, outdated_cell, fetched_cell}
 use Rattle.page_model.specs.Masks.{masks_of}
 use Rattle.page_model.specs.Record.{instruction_state_from, instruction_state_of, is_fetched, is_outdated}
@@ -24,8 +24,8 @@ each_instruction p e unfetched = search (and_left, and_right)
 each_instruction p e fetched = search (and_left, and_right)
 each_instruction p e outdated = search (and_left, and_right)
 
--- the cell that a step takes by its number's row; only a fetch's looks at the role
-pub instruction_row_lem : (s : Step) (r : FrameRecord) (k : ℕ) → instruction_cell_of s r k ≡ instruction_row_at (step_number s) (role_if (eqb (own_of s) k)) (instruction_state_of r k)
+-- the cell that a step takes by its row; only a fetch's looks at the role
+pub instruction_row_lem : (s : Step) (r : FrameRecord) (k : ℕ) → instruction_cell_of s r k ≡ instruction_row_of s (role_if (eqb (own_of s) k)) (instruction_state_of r k)
 unfolding instruction_cell_of
 instruction_row_lem (read c) r k = refl
 instruction_row_lem (write c) r k = refl

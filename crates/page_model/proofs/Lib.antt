@@ -13,4 +13,3 @@ pub mod Colours
 pub mod Passing
 pub mod Theorems
 pub mod Listed
-pub mod Unused

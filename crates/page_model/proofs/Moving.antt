@@ -13,7 +13,8 @@ use Rattle.bits.proofs.Mask.{all_at, all_of, mask_of_lem, mask_of_lt, mask_of_co
 use Rattle.bits.proofs.Tautology.{and_left, and_right}
 use Rattle.page_model.specs.declared.masks.Masks.{Masks}
 use Rattle.page_model.specs.declared.masks.Classes.{Classes}
-use Rattle.page_model.specs.Masks.{no_masks, masks_of, masks_keep_rules, in_held, in_stale, with_class, number_at, moved}
+use Rattle.page_model.specs.declared.masks.MaskState.{MaskState}
+use Rattle.page_model.specs.Masks.{no_masks, masks_of, masks_keep_rules, in_held, in_stale, with_class, state_at, moved}
 
 -- ---- the rules
 
@@ -61,40 +62,40 @@ module _ (n : ℕ) (h s : ℕ → Bool) where
 
 -- ---- the classes of colours
 
--- the number of the state that each class goes to, where one is given for a colour by whether it is the own one, its stale bit and its held bit
-abbrev pub classes_of : (Bool → Bool → Bool → ℕ) → ℕ → Masks → Classes
-classes_of number c m =
+-- the state that each class goes to, where one is given for a colour by whether it is the own one, its stale bit and its held bit
+abbrev pub classes_of : (Bool → Bool → Bool → MaskState) → ℕ → Masks → Classes
+classes_of state c m =
     record {
-      own = number true (bit m.stale c) (bit m.held c);
-      held = number false false true;
-      stale = number false true false;
-      empty = number false false false;
+      own = state true (bit m.stale c) (bit m.held c);
+      held = state false false true;
+      stale = state false true false;
+      empty = state false false false;
     }
 
 -- it is the one that is given for each colour, if a stale bit hides a held one
-module _ (number : Bool → Bool → Bool → ℕ) (hides : number false true true ≡ number false true false) (c : ℕ) (m : Masks) where
-  number_at_lem : (k : ℕ) → number_at c (classes_of number c m) m k ≡ number (eqb c k) (bit m.stale k) (bit m.held k)
-  number_at_lem k = go (eqb c k) refl
+module _ (state : Bool → Bool → Bool → MaskState) (hides : state false true true ≡ state false true false) (c : ℕ) (m : Masks) where
+  state_at_lem : (k : ℕ) → state_at c (classes_of state c m) m k ≡ state (eqb c k) (bit m.stale k) (bit m.held k)
+  state_at_lem k = go (eqb c k) refl
     where
-      others : (t h : Bool) → cond t (number false true false) (cond h (number false false true) (number false false false)) ≡ number false t h
+      others : (t h : Bool) → cond t (state false true false) (cond h (state false false true) (state false false false)) ≡ state false t h
       others true true = sym hides
       others true false = refl
       others false true = refl
       others false false = refl
 
       go : (o : Bool) → eqb c k ≡ o
-          → cond o (number true (bit m.stale c) (bit m.held c)) (cond (bit m.stale k) (number false true false) (cond (bit m.held k) (number false false true) (number false false false)))
-          ≡ number o (bit m.stale k) (bit m.held k)
-      go true q = ap (λ (j : ℕ). number true (bit m.stale j) (bit m.held j)) (eqb-true c k q)
+          → cond o (state true (bit m.stale c) (bit m.held c)) (cond (bit m.stale k) (state false true false) (cond (bit m.held k) (state false false true) (state false false false)))
+          ≡ state o (bit m.stale k) (bit m.held k)
+      go true q = ap (λ (j : ℕ). state true (bit m.stale j) (bit m.held j)) (eqb-true c k q)
       go false q = others (bit m.stale k) (bit m.held k)
 
   -- so the masks moved by these classes are those of the states that the colours go to
   pub moved_of : (n : ℕ) (h s : ℕ → Bool)
-      → ((k : ℕ) → in_held (number (eqb c k) (bit m.stale k) (bit m.held k)) ≡ h k)
-      → ((k : ℕ) → in_stale (number (eqb c k) (bit m.stale k) (bit m.held k)) ≡ s k)
-      → moved n c (classes_of number c m) m ≡ masks_of n h s
+      → ((k : ℕ) → in_held (state (eqb c k) (bit m.stale k) (bit m.held k)) ≡ h k)
+      → ((k : ℕ) → in_stale (state (eqb c k) (bit m.stale k) (bit m.held k)) ≡ s k)
+      → moved n c (classes_of state c m) m ≡ masks_of n h s
   unfolding moved
-  moved_of n h s eh es = masks_of_cong n _ _ h s (λ k l. ap in_held (number_at_lem k) ∙ eh k) (λ k l. ap in_stale (number_at_lem k) ∙ es k)
+  moved_of n h s eh es = masks_of_cong n _ _ h s (λ k l. ap in_held (state_at_lem k) ∙ eh k) (λ k l. ap in_stale (state_at_lem k) ∙ es k)
 
 -- ---- masks that are moved
 
@@ -112,7 +113,7 @@ abbrev left : Bool → Bool → Bool
 left class taken = cond taken (not class) class
 
 -- a colour is in one of the four classes: own, else stale, else held, else empty
-one_class : (p : ℕ → Bool) (to : Classes) (o s h : Bool)
+one_class : (p : MaskState → Bool) (to : Classes) (o s h : Bool)
     → (left (left (left true o) (left true o && s)) (left (left true o) (left true o && s) && h) && p to.empty
     || (left (left true o) (left true o && s) && h && p to.held || (left true o && s && p to.stale || (o && p to.own || false))))
     ≡ p (cond o to.own (cond s to.stale (cond h to.held to.empty)))
@@ -145,9 +146,9 @@ module _ (n c : ℕ) (to : Classes) (m : Masks) where
   empty = bit_xor rest held
 
   -- the mask of those that go to a state of which a test holds
-  gathered : (p : ℕ → Bool)
+  gathered : (p : MaskState → Bool)
       → bit_or (cond (p to.empty) empty 0) (bit_or (cond (p to.held) held 0) (bit_or (cond (p to.stale) stale 0) (bit_or (cond (p to.own) own 0) 0)))
-      ≡ mask_of n (λ k. p (number_at c to m k))
+      ≡ mask_of n (λ k. p (state_at c to m k))
   gathered p =
       let every-lt = mask_of_lt n (λ k. true) in
       let own-lt : own < 2 ^ n = omega (arith, and_le_l every (with_bit 0 c)) in
@@ -155,7 +156,7 @@ module _ (n c : ℕ) (to : Classes) (m : Masks) where
       let stale_lt : stale < 2 ^ n = omega (arith, and_le_l others m.stale) in
       let rest_lt = xor_lt n others stale others-lt stale_lt in
       let held_lt : held < 2 ^ n = omega (arith, and_le_l rest m.held) in
-      mask_of_lem n _ (λ k. p (number_at c to m k))
+      mask_of_lem n _ (λ k. p (state_at c to m k))
       (or_lt n _ _ (if_lt n (p to.empty) empty (xor_lt n rest held rest_lt held_lt))
       (or_lt n _ _ (if_lt n (p to.held) held held_lt)
       (or_lt n _ _ (if_lt n (p to.stale) stale stale_lt)

@@ -1,9 +1,10 @@
 // The busy mark of a frame (request N6): what transfer that takes a while a device has begun there and not ended.
 ghost use Rattle.std.specs.Prelude.{◌≡◌};
-ghost use Rattle.page_model.specs.Cases.{mark_at};
+ghost use Rattle.page_model.specs.Busy.{mark_after};
+ghost use Rattle.page_model.specs.Cases.{step_of};
 ghost use Rattle.page_model.specs.Record.{mark_fits};
 
-use super::table::{BEGIN_READ, BEGIN_WRITE};
+use super::Step;
 
 // No transfer; a device reads the frame; a device writes it.
 pub const FREE: u32 = 0;
@@ -20,19 +21,17 @@ pub fn mark_fits(mark: u32, flag: u32, held: u32) -> bool
         FREE => true,
         READING => flag == 0,
         WRITING => held == 0,
-        3..=4294967295 => false,
+        _ => false,
     }
 }
 
 // The mark after a step: a beginning sets it, and any other leaves it.
-pub fn mark_at(step: u8, mark: u32) -> u32
-    ensures { result ≡ mark_at step mark }
+pub fn mark_after(step: Step, mark: u32) -> u32
+    ensures { result ≡ mark_after (step_of step) mark }
 {
-    if step == BEGIN_READ {
-        return READING;
+    match step {
+        Step::BeginRead => READING,
+        Step::BeginWrite => WRITING,
+        _ => mark,
     }
-    if step == BEGIN_WRITE {
-        return WRITING;
-    }
-    mark
 }

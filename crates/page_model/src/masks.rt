@@ -1,24 +1,32 @@
 // The masks of the colours that are held and of those that are stale, and how a step moves the colours between them: class by class.
-ghost use Rattle.std.specs.Prelude.{◌≡◌, cond, ◌≤◌, ◌<◌};
-ghost use Rattle.bits.specs.Mask.{width};
+ghost use Rattle.std.specs.Prelude.{◌≡◌, ◌≤◌, ◌<◌};
+ghost use Rattle.bits.specs.Mask.{width, bit};
+ghost use Rattle.page_model.specs.Cases.{instruction_of_code};
 ghost use Rattle.page_model.specs.Masks.{masks_keep_rules, with_class, moved};
-
-use super::table::{DIRTY, PRESENT, STALE};
+ghost use Rattle.page_model.specs.Record.{instruction_state_from};
 
 // Bit c of a mask stands for colour c. Present and dirty colours are held.
-#[derive(Clone, Copy)]
+#[derive(Clone, Copy, Debug, PartialEq, Eq)]
 pub struct Masks {
     pub held: u32,
     pub stale: u32,
 }
 
-// The number of the state that each class of colours goes to: a step's own colour, and of the others those that are held, stale and empty.
-#[derive(Clone, Copy)]
+// What the masks say of a colour. Of the masks for instructions, for which none is dirty, it is the colour's state.
+#[derive(Clone, Copy, Debug, PartialEq, Eq)]
+pub enum MaskState {
+    Empty,
+    Held,
+    Stale,
+}
+
+// What each class of colours becomes: a step's own colour, and of the others those that are held, stale and empty.
+#[derive(Clone, Copy, Debug, PartialEq, Eq)]
 pub struct Classes {
-    pub own: u8,
-    pub held: u8,
-    pub stale: u8,
-    pub empty: u8,
+    pub own: MaskState,
+    pub held: MaskState,
+    pub stale: MaskState,
+    pub empty: MaskState,
 }
 
 impl Masks {
@@ -27,10 +35,21 @@ impl Masks {
         requires { colours ≤ width }
         ensures { result ≡ masks_keep_rules colours self }
     {
-        if !bits::within(self.held | self.stale, colours) {
-            return false;
+        bits::within(self.held | self.stale, colours) && self.held & self.stale == 0
+    }
+
+    // What the masks say of a colour, stale where it is in both.
+    pub fn state(self, colour: usize) -> MaskState
+        requires { colour < width }
+        ensures { instruction_of_code result ≡ instruction_state_from (bit self.stale colour) (bit self.held colour) }
+    {
+        if bits::bit(self.stale, colour) {
+            MaskState::Stale
+        } else if bits::bit(self.held, colour) {
+            MaskState::Held
+        } else {
+            MaskState::Empty
         }
-        self.held & self.stale == 0
     }
 
     // The masks after each class of colours went to its state. A colour that is in both masks counts as stale.
@@ -45,27 +64,27 @@ impl Masks {
         let rest = others ^ stale;
         let held = rest & self.held;
         let empty = rest ^ held;
-        let none = Masks { held: 0, stale: 0 };
-        let after = none.with(own, to.own);
-        let after = after.with(stale, to.stale);
-        let after = after.with(held, to.held);
-        after.with(empty, to.empty)
+        Masks { held: 0, stale: 0 }
+            .with(own, to.own)
+            .with(stale, to.stale)
+            .with(held, to.held)
+            .with(empty, to.empty)
     }
 
-    // The masks with a class of colours, so far in neither, put in the state of a number.
-    fn with(self, class: u32, state: u8) -> Masks
+    // The masks with a class of colours, so far in neither, put in a state.
+    fn with(self, class: u32, state: MaskState) -> Masks
         ensures { result ≡ with_class self class state }
     {
-        Masks {
-            held: pick((state == PRESENT) | (state == DIRTY), class, 0) | self.held,
-            stale: pick(state == STALE, class, 0) | self.stale,
+        match state {
+            MaskState::Empty => self,
+            MaskState::Held => Masks {
+                held: class | self.held,
+                ..self
+            },
+            MaskState::Stale => Masks {
+                stale: class | self.stale,
+                ..self
+            },
         }
     }
-}
-
-// One number if a test holds, and else the other.
-pub fn pick(test: bool, yes: u32, no: u32) -> u32
-    ensures { result ≡ cond test yes no }
-{
-    if test { yes } else { no }
 }

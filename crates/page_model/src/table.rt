@@ -1,223 +1,162 @@
-// Document 01's two tables, request N3's row, request N6's two and request N8's, by cases: what a step makes of one colour's state, own or other, for
-// data and for instructions. Steps, rows and states stand in the papers' order.
+// Document 01's two tables, request N3's row, request N6's two and request N8's: what a step makes of one colour's state, own or other, for data and for
+// instructions. Rows that are alike are one; states stand in the papers' order.
 ghost use Rattle.std.specs.Prelude.{◌≡◌};
-ghost use Rattle.page_model.specs.Cases.{case_at, instruction_case_at};
+ghost use Rattle.page_model.specs.Cases.{step_of, state_of_code, mask_state_of, cell_of_code, row_of, instruction_of_code, instruction_cell_of_code, instruction_row_of};
+ghost use Rattle.page_model.specs.Record.{is_held, is_dirty};
+ghost use Rattle.page_model.specs.Table.{own_of, role_if};
 
-// The states of a colour, by number. PRESENT is what document 01 calls held. No colour is dirty for instructions.
-pub const EMPTY: u8 = 0;
+use super::masks::MaskState;
+use ColourState::{Dirty, Empty, Present, Stale};
+use Operation::{Flush, Purge};
 
-pub const PRESENT: u8 = 1;
+// The state of a colour. Present is what document 01 calls held.
+#[derive(Clone, Copy, Debug, PartialEq, Eq)]
+pub enum ColourState {
+    Empty,
+    Present,
+    Dirty,
+    Stale,
+}
 
-pub const DIRTY: u8 = 2;
+// An operation on a colour, which document 01 calls an order.
+#[derive(Clone, Copy, Debug, PartialEq, Eq)]
+pub enum Operation {
+    Flush,
+    Purge,
+}
 
-pub const STALE: u8 = 3;
+// A step: a read, write or fetch of the processor through a colour, or a device's transfer or the beginning of one.
+#[derive(Clone, Copy, Debug, PartialEq, Eq)]
+pub enum Step {
+    Read(usize),
+    Write(usize),
+    DeviceRead,
+    DeviceWrite,
+    DeviceWritePart,
+    BeginRead,
+    BeginWrite,
+    Fetch(usize),
+}
 
-// The operations on a colour, which document 01 calls orders, by number.
-pub const NONE: u8 = 0;
+// A cell of the tables: an operation, if any, and the state after it.
+#[derive(Clone, Copy, Debug, PartialEq, Eq)]
+pub struct Cell<S> {
+    pub operation: Option<Operation>,
+    pub next: S,
+}
 
-pub const FLUSH: u8 = 1;
-
-pub const PURGE: u8 = 2;
-
-// The steps, by number.
-pub const READ: u8 = 0;
-
-pub const WRITE: u8 = 1;
-
-pub const DEVICE_READ: u8 = 2;
-
-pub const DEVICE_WRITE: u8 = 3;
-
-pub const DEVICE_WRITE_PART: u8 = 4;
-
-pub const BEGIN_READ: u8 = 5;
-
-pub const BEGIN_WRITE: u8 = 6;
-
-pub const FETCH: u8 = 7;
-
-// A cell of the tables: an operation, and the state after it.
-#[derive(Clone, Copy)]
-pub struct Case(pub u8, pub u8);
-
-// The cell of a step at a colour, its own or another, in a state. A number that stands for no step or no state gives no operation, and
-// leaves the state's number as it is.
-pub fn case_at(step: u8, own: bool, state: u8) -> Case
-    ensures { result ≡ case_at step own state }
-{
-    match step {
-        // processor read
-        READ => {
-            if own {
-                // own colour
-                match state {
-                    EMPTY => Case(NONE, PRESENT),
-                    PRESENT => Case(NONE, PRESENT),
-                    DIRTY => Case(NONE, DIRTY),
-                    STALE => Case(PURGE, PRESENT),
-                    4..=255 => Case(NONE, state),
-                }
-            } else {
-                // others
-                match state {
-                    EMPTY => Case(NONE, EMPTY),
-                    PRESENT => Case(NONE, PRESENT),
-                    DIRTY => Case(FLUSH, PRESENT),
-                    STALE => Case(NONE, STALE),
-                    4..=255 => Case(NONE, state),
-                }
-            }
-        }
-        // processor write
-        WRITE => {
-            if own {
-                // own colour
-                match state {
-                    EMPTY => Case(NONE, DIRTY),
-                    PRESENT => Case(NONE, DIRTY),
-                    DIRTY => Case(NONE, DIRTY),
-                    STALE => Case(PURGE, DIRTY),
-                    4..=255 => Case(NONE, state),
-                }
-            } else {
-                // others
-                match state {
-                    EMPTY => Case(NONE, EMPTY),
-                    PRESENT => Case(NONE, STALE),
-                    DIRTY => Case(FLUSH, STALE),
-                    STALE => Case(NONE, STALE),
-                    4..=255 => Case(NONE, state),
-                }
-            }
-        }
-        // device read (memory to device), every colour
-        DEVICE_READ => match state {
-            EMPTY => Case(NONE, EMPTY),
-            PRESENT => Case(NONE, PRESENT),
-            DIRTY => Case(FLUSH, PRESENT),
-            STALE => Case(NONE, STALE),
-            4..=255 => Case(NONE, state),
-        },
-        // device write (device to memory), every colour
-        DEVICE_WRITE => match state {
-            EMPTY => Case(NONE, EMPTY),
-            PRESENT => Case(NONE, STALE),
-            DIRTY => Case(PURGE, EMPTY),
-            STALE => Case(NONE, STALE),
-            4..=255 => Case(NONE, state),
-        },
-        // part transfer, every colour
-        DEVICE_WRITE_PART => match state {
-            EMPTY => Case(NONE, EMPTY),
-            PRESENT => Case(NONE, STALE),
-            DIRTY => Case(FLUSH, STALE),
-            STALE => Case(NONE, STALE),
-            4..=255 => Case(NONE, state),
-        },
-        // begin read, every colour
-        BEGIN_READ => match state {
-            EMPTY => Case(NONE, EMPTY),
-            PRESENT => Case(NONE, PRESENT),
-            DIRTY => Case(FLUSH, PRESENT),
-            STALE => Case(NONE, STALE),
-            4..=255 => Case(NONE, state),
-        },
-        // begin write, every colour
-        BEGIN_WRITE => match state {
-            EMPTY => Case(NONE, EMPTY),
-            PRESENT => Case(NONE, STALE),
-            DIRTY => Case(FLUSH, STALE),
-            STALE => Case(NONE, STALE),
-            4..=255 => Case(NONE, state),
-        },
-        // fetch, every colour
-        FETCH => match state {
-            EMPTY => Case(NONE, EMPTY),
-            PRESENT => Case(NONE, PRESENT),
-            DIRTY => Case(FLUSH, PRESENT),
-            STALE => Case(NONE, STALE),
-            4..=255 => Case(NONE, state),
-        },
-        // no step
-        8..=255 => Case(NONE, state),
+impl<S> Cell<S> {
+    // A cell of this operation and this state.
+    fn new(operation: Option<Operation>, next: S) -> Self
+        ensures { result ≡ record { operation = operation; next = next } }
+    {
+        Cell { operation, next }
     }
 }
 
-// The same for instructions: the operation is one in the instruction cache, and the number of dirty is unused.
-pub fn instruction_case_at(step: u8, own: bool, state: u8) -> Case
-    ensures { result ≡ instruction_case_at step own state }
-{
-    match step {
-        // processor read, every colour
-        READ => match state {
-            EMPTY => Case(NONE, EMPTY),
-            PRESENT => Case(NONE, PRESENT),
-            STALE => Case(NONE, STALE),
-            DIRTY | 4..=255 => Case(NONE, state),
-        },
-        // processor write, every colour
-        WRITE => match state {
-            EMPTY => Case(NONE, EMPTY),
-            PRESENT => Case(NONE, STALE),
-            STALE => Case(NONE, STALE),
-            DIRTY | 4..=255 => Case(NONE, state),
-        },
-        // device read, every colour
-        DEVICE_READ => match state {
-            EMPTY => Case(NONE, EMPTY),
-            PRESENT => Case(NONE, PRESENT),
-            STALE => Case(NONE, STALE),
-            DIRTY | 4..=255 => Case(NONE, state),
-        },
-        // device write, every colour
-        DEVICE_WRITE => match state {
-            EMPTY => Case(NONE, EMPTY),
-            PRESENT => Case(NONE, STALE),
-            STALE => Case(NONE, STALE),
-            DIRTY | 4..=255 => Case(NONE, state),
-        },
-        // part transfer, every colour
-        DEVICE_WRITE_PART => match state {
-            EMPTY => Case(NONE, EMPTY),
-            PRESENT => Case(NONE, STALE),
-            STALE => Case(NONE, STALE),
-            DIRTY | 4..=255 => Case(NONE, state),
-        },
-        // begin read, every colour
-        BEGIN_READ => match state {
-            EMPTY => Case(NONE, EMPTY),
-            PRESENT => Case(NONE, PRESENT),
-            STALE => Case(NONE, STALE),
-            DIRTY | 4..=255 => Case(NONE, state),
-        },
-        // begin write, every colour
-        BEGIN_WRITE => match state {
-            EMPTY => Case(NONE, EMPTY),
-            PRESENT => Case(NONE, STALE),
-            STALE => Case(NONE, STALE),
-            DIRTY | 4..=255 => Case(NONE, state),
-        },
-        // fetch
-        FETCH => {
-            if own {
-                // own colour
-                match state {
-                    EMPTY => Case(NONE, PRESENT),
-                    PRESENT => Case(NONE, PRESENT),
-                    STALE => Case(PURGE, PRESENT),
-                    DIRTY | 4..=255 => Case(NONE, state),
-                }
-            } else {
-                // others
-                match state {
-                    EMPTY => Case(NONE, EMPTY),
-                    PRESENT => Case(NONE, PRESENT),
-                    STALE => Case(NONE, STALE),
-                    DIRTY | 4..=255 => Case(NONE, state),
-                }
-            }
+impl ColourState {
+    // Whether a colour in this state is held, present or dirty.
+    pub fn is_held(self) -> bool
+        ensures { result ≡ is_held (state_of_code self) }
+    {
+        matches!(self, Present | Dirty)
+    }
+
+    // Whether it is dirty.
+    pub fn is_dirty(self) -> bool
+        ensures { result ≡ is_dirty (state_of_code self) }
+    {
+        matches!(self, Dirty)
+    }
+
+    // Where the masks have a colour in this state.
+    pub fn in_masks(self) -> MaskState
+        ensures { result ≡ mask_state_of (state_of_code self) }
+    {
+        match self {
+            Empty => MaskState::Empty,
+            Present | Dirty => MaskState::Held,
+            Stale => MaskState::Stale,
         }
-        // no step
-        8..=255 => Case(NONE, state),
+    }
+}
+
+impl Step {
+    // The colour that a step goes through; a transfer goes through none, and 0 stands for that: its cells do not look at it.
+    pub fn colour(self) -> usize
+        ensures { result ≡ own_of (step_of self) }
+    {
+        match self {
+            Step::Read(colour) | Step::Write(colour) | Step::Fetch(colour) => colour,
+            _ => 0,
+        }
+    }
+
+    // The cell of a step at a colour, its own or another, in a state.
+    pub fn cell(self, own: bool, state: ColourState) -> Cell<ColourState>
+        ensures { cell_of_code result ≡ row_of (step_of self) (role_if own) (state_of_code state) }
+    {
+        match self {
+            // processor read, own colour
+            Step::Read(_) if own => match state {
+                Empty => Cell::new(None, Present),
+                Present => Cell::new(None, Present),
+                Dirty => Cell::new(None, Dirty),
+                Stale => Cell::new(Some(Purge), Present),
+            },
+            // processor write, own colour
+            Step::Write(_) if own => match state {
+                Empty => Cell::new(None, Dirty),
+                Present => Cell::new(None, Dirty),
+                Dirty => Cell::new(None, Dirty),
+                Stale => Cell::new(Some(Purge), Dirty),
+            },
+            // processor read, others; device read (memory to device), begin read and fetch, every colour
+            Step::Read(_) | Step::DeviceRead | Step::BeginRead | Step::Fetch(_) => match state {
+                Empty => Cell::new(None, Empty),
+                Present => Cell::new(None, Present),
+                Dirty => Cell::new(Some(Flush), Present),
+                Stale => Cell::new(None, Stale),
+            },
+            // processor write, others; part transfer and begin write, every colour
+            Step::Write(_) | Step::DeviceWritePart | Step::BeginWrite => match state {
+                Empty => Cell::new(None, Empty),
+                Present => Cell::new(None, Stale),
+                Dirty => Cell::new(Some(Flush), Stale),
+                Stale => Cell::new(None, Stale),
+            },
+            // device write (device to memory), every colour
+            Step::DeviceWrite => match state {
+                Empty => Cell::new(None, Empty),
+                Present => Cell::new(None, Stale),
+                Dirty => Cell::new(Some(Purge), Empty),
+                Stale => Cell::new(None, Stale),
+            },
+        }
+    }
+
+    // The same for instructions, whose state is what the masks say: the operation is one in the instruction cache.
+    pub fn instruction_cell(self, own: bool, state: MaskState) -> Cell<MaskState>
+        ensures { instruction_cell_of_code result ≡ instruction_row_of (step_of self) (role_if own) (instruction_of_code state) }
+    {
+        match self {
+            // fetch, own colour
+            Step::Fetch(_) if own => match state {
+                MaskState::Empty => Cell::new(None, MaskState::Held),
+                MaskState::Held => Cell::new(None, MaskState::Held),
+                MaskState::Stale => Cell::new(Some(Purge), MaskState::Held),
+            },
+            // processor read, device read and begin read, every colour; fetch, others
+            Step::Read(_) | Step::DeviceRead | Step::BeginRead | Step::Fetch(_) => {
+                Cell::new(None, state)
+            }
+            // processor write, device write, part transfer and begin write, every colour
+            Step::Write(_) | Step::DeviceWrite | Step::DeviceWritePart | Step::BeginWrite =>
+                match state {
+                    MaskState::Empty => Cell::new(None, MaskState::Empty),
+                    MaskState::Held => Cell::new(None, MaskState::Stale),
+                    MaskState::Stale => Cell::new(None, MaskState::Stale),
+                },
+        }
     }
 }

@@ -1,20 +1,35 @@
 -- `page_model::FrameRecord::step` meets its contract.
-use mathlib.Core.Path.{◌≡◌, refl, ap, ◌∙◌}
-use mathlib.Core.Bool.{true, false, cond}
-use Prim.Native.Nat.{ℕ}
+use mathlib.Core.Path.{◌≡◌, refl, sym, ap, ◌∙◌}
+use mathlib.Core.Bool.{Bool, cond}
+use Prim.Native.Nat.{ℕ, ◌≤◌, ◌<◌}
 use native.Mathlib.Omega.{arith}
-use borrow.Author.Rules.{rules}
 use lib.Dec.{eqb}
+use Rattle.bits.specs.Mask.{width, digit}
+use Rattle.page_model.specs.declared.masks.MaskState.{MaskState}
+use Rattle.page_model.specs.declared.masks.MaskState.TheVariants.{Empty, Held, Stale}
 use Rattle.page_model.specs.declared.Op.{Op}
 use Rattle.page_model.specs.declared.Op.TheVariants.{None, Flush, Purge, PurgeInstructions}
-use Rattle.page_model.specs.Cases.{state_number, step_number, case_at, instruction_number, instruction_case_at, instruction_classes, mark_at, operation_at, instruction_operation_at}
-use Rattle.page_model.specs.Record.{state_of, instruction_state_of}
+use Rattle.page_model.specs.Cases.{step_of, mask_state_of, row_of, instruction_of_code, code_instruction, instruction_row_of, instruction_classes, operation_at, instruction_operation_at}
+use Rattle.page_model.specs.Instructions.{InstructionCell}
+use Rattle.page_model.specs.Record.{state_of, instruction_state_of, is_dirty}
 use Rattle.page_model.specs.Step.{op_list, first_two}
 use Rattle.page_model.specs.Masks.{moved}
-use Rattle.page_model.specs.Table.{empty, dirty, stale}
+use Rattle.page_model.specs.Table.{Cell, own, other, Step, read, write, device_read, device_write, device_write_part, begin_read, begin_write, fetch, own_of, reach}
 use Rattle.page_model.proofs.Rules.{keeps}
-use Rattle.page_model.proofs.Colours.{case_cell, instruction_case, mark_number, step_record, step_is}
+use Rattle.page_model.proofs.Colours.{step_record, step_is}
 use Rattle.page_model.proofs.FrameRecord.step.Goals as goal
+use Rattle.page_model.proofs.FrameRecord.step.Goals.{then-dirty, else-dirty}
+
+-- a step that reaches no colour past a board's goes through one that a mask has
+own_below : (s : Step) (n : ℕ) → n ≤ width → reach s ≤ n → own_of s < width
+own_below (read c) n l h = omega arith
+own_below (write c) n l h = omega arith
+own_below device_read n l h = omega arith
+own_below device_write n l h = omega arith
+own_below device_write_part n l h = omega arith
+own_below begin_read n l h = omega arith
+own_below begin_write n l h = omega arith
+own_below (fetch c) n l h = omega arith
 
 -- the operation that stands last
 last_one : (o : Op) → record { first = o; second = None } ≡ first_two (op_list o)
@@ -23,33 +38,61 @@ last_one (Flush c) = refl
 last_one (Purge c) = refl
 last_one (PurgeInstructions c) = refl
 
-pub overflow_cast-colour : goal.overflow_cast-colour
-overflow_cast-colour c = let given = c.requires in omega arith
+-- what the masks say, from the state for instructions that it is
+from_instruction : (m : MaskState) → m ≡ code_instruction (instruction_of_code m)
+from_instruction Empty = refl
+from_instruction Held = refl
+from_instruction Stale = refl
 
-pub overflow_cast-colours : goal.overflow_cast-colours
-overflow_cast-colours c = let given = c.requires in omega arith
+pub state-requires-2 : goal.state-requires-2
+state-requires-2 c = let a = c.args in omega (arith, c.colour-colour.ensures, own_below (step_of a.step) a.colours c.requires.0 c.requires.1)
+
+pub moved-requires : goal.moved-requires
+moved-requires c = let a = c.args in (c.requires.0, omega (arith, c.colour-colour.ensures, own_below (step_of a.step) a.colours c.requires.0 c.requires.1))
+
+pub overflow_cast-next : goal.overflow_cast-next
+overflow_cast-next c =
+    let a = c.args in
+    let l = own_below (step_of a.step) a.colours c.requires.0 c.requires.1 in
+    let given = c.requires.0 in
+    elim c.if-dirty.branch [ then-dirty w ↦ omega (arith, c.colour-colour.ensures) | else-dirty w ↦ omega arith ]
+
+pub instructions_after-requires : goal.instructions_after-requires
+instructions_after-requires c = let a = c.args in (c.requires.0, omega (arith, c.colour-colour.ensures, own_below (step_of a.step) a.colours c.requires.0 c.requires.1))
 
 pub returns : goal.returns
-returns c s step own reaches rules =
+unfolding state_of instruction_state_of
+returns c rules_hold =
     let a = c.args in
     let r = a.self in
-    let kr = keeps _ _ rules in
-    let own-case = c.case_at-own.ensures ∙ (λ i. case_at (step i) true ((c.state.ensures ∙ ap (λ (k : ℕ). state_number (state_of r k)) own) i)) ∙ case_cell (step_number s) true _ in
-    let held-case = c.case_at-held.ensures ∙ (λ i. case_at (step i) false (c.held_state.ensures i)) ∙ case_cell (step_number s) false _ in
-    let stale-case = c.case_at-stale.ensures ∙ ap (λ (k : ℕ). case_at k false (state_number stale)) step ∙ case_cell (step_number s) false stale in
-    let empty-case = c.case_at-empty.ensures ∙ ap (λ (k : ℕ). case_at k false (state_number empty)) step ∙ case_cell (step_number s) false empty in
-    let fetched-case = c.instruction_case_at-fetched.ensures
-    ∙ (λ i. instruction_case_at (step i) true ((c.instruction_state.ensures ∙ ap (λ (k : ℕ). instruction_number (instruction_state_of r k)) own) i))
-    ∙ instruction_case (step_number s) true _ in
-    let after = c.moved-after.ensures
-    ∙ (λ i. moved a.colours (own i) (record { own = (own-case i).1; held = (held-case i).1; stale = (stale-case i).1; empty = (empty-case i).1 }) r.masks) in
-    let flag = c.pick.ensures ∙ (λ i. cond (eqb (own-case i).1 (state_number dirty)) 1 0) in
-    let mark = c.mark_at.ensures ∙ ap (λ (k : ℕ). mark_at k r.busy) step ∙ mark_number s r.busy in
-    let dirty_colour = c.pick-2.ensures ∙ (λ i. cond (eqb (own-case i).1 (state_number dirty)) (own i) a.colours) in
-    let instructions = c.instructions_after-instructions.ensures ∙ (λ i. moved a.colours (own i) (instruction_classes (step i) (fetched-case i).1) r.instructions) in
+    let s = step_of a.step in
+    let kr = keeps _ _ rules_hold in
+    let reaches = c.requires.1 in
+    let colour = c.colour-colour.ensures in
+    let own-cell = c.cell-own.ensures ∙ (λ i. row_of s own ((c.state.ensures ∙ ap (λ (k : ℕ). state_of r k) colour) i)) in
+    let held-cell = c.cell-held.ensures ∙ ap (row_of s other) c.held_state.ensures in
+    let fetched-cell = c.instruction_cell-fetched.ensures ∙ (λ i. instruction_row_of s own ((c.state-2.ensures ∙ ap (λ (k : ℕ). instruction_state_of r k) colour) i)) in
+    let masks = c.moved.ensures
+    ∙ (λ i.
+    moved a.colours (colour i)
+    (record {
+      own = (c.in_masks.ensures ∙ ap (λ (x : Cell). mask_state_of x.next) own-cell) i;
+      held = (c.in_masks-2.ensures ∙ ap (λ (x : Cell). mask_state_of x.next) held-cell) i;
+      stale = (c.in_masks-3.ensures ∙ ap (λ (x : Cell). mask_state_of x.next) c.cell-stale.ensures) i;
+      empty = (c.in_masks-4.ensures ∙ ap (λ (x : Cell). mask_state_of x.next) c.cell-empty.ensures) i;
+    })
+    r.masks) in
+    let dirty = c.is_dirty-dirty.ensures ∙ ap (λ (x : Cell). is_dirty x.next) own-cell in
+    let flag = c.from.ensures ∙ ap digit dirty in
+    let dirty_colour : c.if-dirty.next ≡ cond (is_dirty (row_of s own (state_of r (own_of s))).next) (own_of s) a.colours = elim c.if-dirty.branch [
+      | then-dirty w ↦ w.next-is ∙ colour ∙ ap (λ (b : Bool). cond b (own_of s) a.colours) (sym w.if-dirty.true ∙ dirty)
+      | else-dirty w ↦ w.next-is ∙ ap (λ (b : Bool). cond b (own_of s) a.colours) (sym w.if-dirty.false ∙ dirty)
+    ] in
+    let instructions = c.instructions_after.ensures
+    ∙ (λ i. moved a.colours (colour i) (instruction_classes s ((from_instruction _ ∙ ap (λ (x : InstructionCell). code_instruction x.next) fetched-cell) i)) r.instructions) in
     step_is a.colours r kr s reaches
-    (step_record a.colours r kr s reaches _ after flag mark dirty_colour instructions)
+    (step_record a.colours r kr s reaches _ masks flag c.mark_after.ensures dirty_colour instructions)
     (c.put_first-ops.ensures _ (c.put_first.ensures _ (last_one _)))
-    (c.elsewhere-first.ensures ∙ (λ i. cond (eqb r.dirty_colour (own i)) None (operation_at (held-case i).0 r.dirty_colour)))
-    (c.operation-second.ensures ∙ (λ i. operation_at (own-case i).0 (own i)))
-    (c.instruction_operation-third.ensures ∙ (λ i. instruction_operation_at (fetched-case i).0 (own i)))
+    (c.elsewhere-first.ensures ∙ (λ i. cond (eqb r.dirty_colour (colour i)) None (operation_at (held-cell i).operation r.dirty_colour)))
+    (c.operation-second.ensures ∙ (λ i. operation_at (own-cell i).operation (colour i)))
+    (c.instruction_operation.ensures ∙ (λ i. instruction_operation_at (fetched-cell i).operation (colour i)))
