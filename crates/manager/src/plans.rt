@@ -13,7 +13,7 @@ use super::refusals::{access_refusal, map_refusal, page_refusal, part_refusal, t
 use super::{AccessKind, Change, ListPlan, Plan};
 use board::Board;
 use mapping::{Mapping, MappingList, Seen};
-use page_model::Stepped;
+use page_model::{Step, Stepped};
 
 // Whether a mapping can be listed, and where.
 pub fn plan_map(
@@ -79,16 +79,20 @@ pub fn plan_access(
     match kind {
         AccessKind::Read => step_of(
             frame,
-            record.bars_read(),
-            record.read(board.colours, colour),
+            record.bars(Step::Read(colour)),
+            record.step(Step::Read(colour), board.colours),
         ),
         AccessKind::Write => {
-            step_of(frame, record.is_busy(), record.write(board.colours, colour))
+            step_of(
+                frame,
+                record.bars(Step::Write(colour)),
+                record.step(Step::Write(colour), board.colours),
+            )
         }
         AccessKind::Fetch => step_of(
             frame,
-            record.bars_fetch(),
-            record.fetch(board.colours, colour),
+            record.bars(Step::Fetch(colour)),
+            record.step(Step::Fetch(colour), board.colours),
         ),
     }
 }
@@ -110,7 +114,11 @@ pub fn plan_device_read(
         return Plan::Refused(refusal);
     }
     let record = record_at(records, frame);
-    step_of(frame, record.is_busy(), record.device_read(board.colours))
+    step_of(
+        frame,
+        record.bars(Step::DeviceRead),
+        record.step(Step::DeviceRead, board.colours),
+    )
 }
 
 // What a device's write of so many words from an offset on makes of a frame.
@@ -135,11 +143,15 @@ pub fn plan_device_write_part(
     if number < board.page {
         return step_of(
             frame,
-            record.is_busy(),
-            record.device_write_part(board.colours),
+            record.bars(Step::DeviceWritePart),
+            record.step(Step::DeviceWritePart, board.colours),
         );
     }
-    step_of(frame, record.is_busy(), record.device_write(board.colours))
+    step_of(
+        frame,
+        record.bars(Step::DeviceWrite),
+        record.step(Step::DeviceWrite, board.colours),
+    )
 }
 
 // What the beginning of a device's transfer makes of a frame, a write or a read.
@@ -161,9 +173,17 @@ pub fn plan_begin(
     }
     let record = record_at(records, frame);
     if writes {
-        return step_of(frame, record.is_busy(), record.begin_write(board.colours));
+        return step_of(
+            frame,
+            record.bars(Step::BeginWrite),
+            record.step(Step::BeginWrite, board.colours),
+        );
     }
-    step_of(frame, record.is_busy(), record.begin_read(board.colours))
+    step_of(
+        frame,
+        record.bars(Step::BeginRead),
+        record.step(Step::BeginRead, board.colours),
+    )
 }
 
 // The plan of a step of one frame's record, which its mark may bar.

@@ -16,7 +16,7 @@ returns-in-Read c l long looked =
     let kept = access_rules a.board l _ _ a.space a.page a.kind looked long told c.if-refusal-ne0.false c.record_at-record.ensures in
     c.step_of.ensures
     ∙ access_planned a.board l _ _ a.space a.page a.kind looked long told c.if-refusal-ne0.false c.record_at-record.ensures
-    c.in-Read.is c.colour_of-colour.ensures.value (c.bars_read.ensures (colour_of a.board a.page)) (c.read.ensures kept)
+    c.in-Read.is c.colour_of-colour.ensures.value c.bars.ensures (c.step.ensures kept)
 
 pub returns-in-Write : goal.returns-in-Write
 returns-in-Write c l long looked =
@@ -25,7 +25,7 @@ returns-in-Write c l long looked =
     let kept = access_rules a.board l _ _ a.space a.page a.kind looked long told c.if-refusal-ne0.false c.record_at-record.ensures in
     c.step_of-in-Write.ensures
     ∙ access_planned a.board l _ _ a.space a.page a.kind looked long told c.if-refusal-ne0.false c.record_at-record.ensures
-    c.in-Write.is c.colour_of-colour.ensures.value c.is_busy.ensures (c.write.ensures kept)
+    c.in-Write.is c.colour_of-colour.ensures.value c.bars-in-Write.ensures (c.step-in-Write.ensures kept)
 
 pub returns-in-Fetch : goal.returns-in-Fetch
 returns-in-Fetch c l long looked =
@@ -34,4 +34,4 @@ returns-in-Fetch c l long looked =
     let kept = access_rules a.board l _ _ a.space a.page a.kind looked long told c.if-refusal-ne0.false c.record_at-record.ensures in
     c.step_of-in-Fetch.ensures
     ∙ access_planned a.board l _ _ a.space a.page a.kind looked long told c.if-refusal-ne0.false c.record_at-record.ensures
-    c.in-Fetch.is c.colour_of-colour.ensures.value (c.bars_fetch.ensures (colour_of a.board a.page)) (c.fetch.ensures kept)
+    c.in-Fetch.is c.colour_of-colour.ensures.value c.bars-in-Fetch.ensures (c.step-in-Fetch.ensures kept)

@@ -58,8 +58,8 @@ returns-then-refusal-ne0 c =
 
 pub returns-then-writes : goal.returns-then-writes
 returns-then-writes c =
-    rw c.if-writes.true (c.step_of.ensures ∙ begun c begin_write c.is_busy.ensures (c.begin_write.ensures (kept c)))
+    rw c.if-writes.true (c.step_of.ensures ∙ begun c begin_write c.bars.ensures (c.step.ensures (kept c)))
 
 pub returns : goal.returns
 returns c =
-    rw c.if-writes.false (c.step_of-2.ensures ∙ begun-2 c begin_read c.is_busy-2.ensures (c.begin_read.ensures (kept-2 c)))
+    rw c.if-writes.false (c.step_of-2.ensures ∙ begun-2 c begin_read c.bars-2.ensures (c.step-2.ensures (kept-2 c)))

@@ -28,6 +28,6 @@ returns c =
     let kept = ap (keeps_rules _) same ∙ transfer_rules _ ((tables c.args.list c.args.records.now c.args.protections.now)) _ [] refl none in
     c.step_of.ensures
     ∙ planned_barred a.board ((tables c.args.list c.args.records.now c.args.protections.now)) ((table_causes c.args.board ((tables c.args.list c.args.records.now c.args.protections.now)) ++ frame_cause c.args.board c.args.frame ∷ [])) a.frame device_read refl none
-    (c.is_busy.ensures ∙ ap (λ (r : FrameRecord). bars r.busy device_read) same)
+    (c.bars.ensures ∙ ap (λ (r : FrameRecord). bars r.busy device_read) same)
     refl
-    (c.device_read.ensures kept ∙ ap (stepped a.board.colours device_read) same)
+    (c.step.ensures kept ∙ ap (stepped a.board.colours device_read) same)

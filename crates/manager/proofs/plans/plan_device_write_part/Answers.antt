@@ -72,9 +72,9 @@ returns-then-refusal-ne0 c =
 pub returns-then-number-board : goal.returns-then-number-board
 returns-then-number-board c =
     rw (lt-ltb c.args.number c.args.board.page c.if-number-board.true)
-    (c.step_of.ensures ∙ sent c device_write_part (λ m. refl) c.is_busy.ensures (c.device_write_part.ensures (kept c)))
+    (c.step_of.ensures ∙ sent c device_write_part (λ m. refl) c.bars.ensures (c.step.ensures (kept c)))
 
 pub returns : goal.returns
 returns c =
     rw (le-ltb c.args.number c.args.board.page c.if-number-board.false)
-    (c.step_of-2.ensures ∙ sent-2 c device_write (λ m. refl) c.is_busy-2.ensures (c.device_write.ensures (kept-2 c)))
+    (c.step_of-2.ensures ∙ sent-2 c device_write (λ m. refl) c.bars-2.ensures (c.step-2.ensures (kept-2 c)))
