@@ -16,19 +16,6 @@ use Rattle.tariff.specs.Tariff.{OrderSet, none, flush, purge, both, tariff, kind
 
 -- ---- the table
 
-pub kind_below : (kind : ChargeKind) → kind_number kind < 5
-kind_below Read = omega arith
-kind_below Write = omega arith
-kind_below Fetch = omega arith
-kind_below DeviceRead = omega arith
-kind_below DeviceWrite = omega arith
-
-pub set_below : (s : OrderSet) → set_number s < 4
-set_below none = omega arith
-set_below flush = omega arith
-set_below purge = omega arith
-set_below both = omega arith
-
 -- a row of the code's table is that of the tariff
 abbrev row : ChargeKind → List ℕ
 row kind = tariff kind none ∷ tariff kind flush ∷ tariff kind purge ∷ tariff kind both ∷ []

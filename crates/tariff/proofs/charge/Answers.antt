@@ -1,31 +1,25 @@
--- `tariff::charge` meets its contract.
-use mathlib.Core.Path.{subst⁻¹}
-use Prim.Native.Nat.{ℕ, ◌<◌}
-use native.Mathlib.Omega.{arith}
-use Rattle.tariff.specs.Tariff.{order_set, charge}
-use Rattle.tariff.proofs.Laws.{kind_below, set_below, cell}
+-- `tariff::charge` meets its contract: each arm is a column of the table, and the kind's number its row.
+use mathlib.Core.Path.{◌∙◌}
+use Rattle.tariff.specs.Tariff.{none, flush, purge, both, tariff, set_of, charge}
+use Rattle.tariff.proofs.Laws.{cell}
 use Rattle.tariff.proofs.charge.Goals as goal
 
-row_below : (c : goal.After-result-1) → c.row_of-row.result < 5
-row_below c = subst⁻¹ (λ (k : ℕ). k < 5) c.row_of-row.ensures (kind_below c.args.kind)
-
-column-below : (c : goal.After-result-1) → c.column_of-column.result < 4
-column-below c = subst⁻¹ (λ (k : ℕ). k < 4) c.column_of-column.ensures (set_below (order_set c.args.ops))
-
-pub offset_bounds-row : goal.offset_bounds-row
-offset_bounds-row c = omega (arith, row_below c)
-
-pub offset_bounds-row-column : goal.offset_bounds-row-column
-offset_bounds-row-column c = omega (arith, column-below c)
-
-pub bounds-row : goal.bounds-row
-bounds-row c = row_below c
-
-pub bounds-column : goal.bounds-column
-bounds-column c = column-below c
-
-pub returns : goal.returns
+pub returns-in-true-true : goal.returns-in-true-true
 unfolding charge
-returns c =
-    rw (c.row_of-row.ensures, c.column_of-column.ensures)
-    (cell c.args.kind (order_set c.args.ops))
+returns-in-true-true c =
+    rw c.row_of.ensures (cell c.args.kind both) ∙ (λ i. tariff c.args.kind (set_of (c.in-true-true.ensures i) (c.in-true-true.ensures' i)))
+
+pub returns-in-true-false : goal.returns-in-true-false
+unfolding charge
+returns-in-true-false c =
+    rw c.row_of.ensures (cell c.args.kind flush) ∙ (λ i. tariff c.args.kind (set_of (c.in-true-false.ensures i) (c.in-true-false.ensures' i)))
+
+pub returns-in-false-true : goal.returns-in-false-true
+unfolding charge
+returns-in-false-true c =
+    rw c.row_of.ensures (cell c.args.kind purge) ∙ (λ i. tariff c.args.kind (set_of (c.in-false-true.ensures i) (c.in-false-true.ensures' i)))
+
+pub returns-in-false-false : goal.returns-in-false-false
+unfolding charge
+returns-in-false-false c =
+    rw c.row_of.ensures (cell c.args.kind none) ∙ (λ i. tariff c.args.kind (set_of (c.in-false-false.ensures i) (c.in-false-false.ensures' i)))

@@ -17,7 +17,7 @@ overflow_add-accounts c =
     let a = c.args in
     let held = balance a.accounts.now a.account in
     let cycles = charge a.kind a.ops in
-    let h : held < 4294967296 = omega (arith, c.slice_known-2-1.given a.account) in
+    let h : held < 4294967296 = omega arith in
     let sum : held + cycles < 4294967296 = fits held cycles h c.requires.1 in
     let e : c.charge-cycles.result ≡ cycles = c.charge-cycles.ensures in
     omega arith
