@@ -5,7 +5,7 @@ ghost use Rattle.std.specs.Prelude.{◌≡◌, ◌+◌, ◌≤◌, ◌<◌};
 ghost use Rattle.board.specs.Board.{Regular, colour_of, cache_pages, instruction_page, page_lines, data_lines, lines, cache_words, memory_words, line_of, colour_line, line_at, cache_at, line_offset, memory_at};
 
 // A board: words in a page, words in a line, colours (pages of the data cache, and of the instruction cache), frames (physical pages).
-#[derive(Clone, Copy)]
+#[derive(Clone, Copy, Debug, PartialEq, Eq)]
 pub struct Board {
     pub page: usize,
     pub line: usize,

@@ -5,7 +5,7 @@ ghost use Rattle.cache.specs.Store.{store, WellFormedStore};
 ghost use Rattle.cache.specs.Cache.{replace, access, read_word, put_word, write_word};
 
 use crate::line::{fill, write_back};
-use crate::tag::{dirty_tag, names};
+use crate::tag::{Tag, names};
 use board::Board;
 
 // Reads the word, after the access that it takes.
@@ -45,7 +45,7 @@ pub fn write_word(
     let at = board::cache_at(board, colour, offset);
     words[at] = word;
     let line = board::line_of(board, colour, offset);
-    tags[line] = dirty_tag(frame);
+    tags[line] = Tag::Dirty(frame).byte();
 }
 
 // Has the word's line hold the frame's words: nothing is done on a hit, and on a miss the line is replaced.

@@ -7,5 +7,5 @@ pub returns : goal.returns
 unfolding write_word
 returns c =
     let a = c.args in
-    rw (c.cache_at-at.ensures.value, c.line_of-line.ensures.value, c.dirty_tag.ensures)
+    rw (c.cache_at-at.ensures.value, c.line_of-line.ensures.value, c.byte.ensures)
     (ap (put_word a.board a.frame a.colour a.offset a.word) c.access.ensures)

@@ -11,4 +11,4 @@ pub returns : goal.returns
 unfolding device_write
 returns c words tags =
     ap (λ (m : List ℕ). store m words tags)
-    (part_back c.args.memory.now _ c.memory_at-at.ensures.value c.copy.ensures refl)
+    (part_back c.args.memory.now _ c.memory_at-at.ensures.value c.copy_from_slice.ensures.after refl)

@@ -9,7 +9,7 @@ use Rattle.cache.proofs.operation.flush_line.Goals as goal
 pub returns-then-names : goal.returns-then-names
 unfolding write_back_as
 returns-then-names c =
-    ap₂ (λ (t : ℕ) (s : Store). with_tag c.args.line t s) c.clean_tag.ensures c.write_back.ensures
+    ap₂ (λ (t : ℕ) (s : Store). with_tag c.args.line t s) c.byte.ensures.0 c.write_back.ensures
     ∙ sym (flush_line_named _ leaving c.args.frame c.args.line _ (sym c.names.ensures ∙ c.if-names.true))
 
 pub returns-else-names : goal.returns-else-names

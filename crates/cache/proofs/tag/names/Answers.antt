@@ -1,12 +1,14 @@
 -- `cache::tag::names` meets its contract.
-use borrow.Author.Tests.{eq-eqb, ne_eqb}
+use mathlib.Core.Logic.{inl, inr}
+use native.Mathlib.Omega.{arith}
+use Rattle.std.proofs.lemmas.Bool.Decides.{nat_tests}
 use Rattle.cache.specs.Tag.{names}
 use Rattle.cache.proofs.tag.names.Goals as goal
 
-pub returns-then-t-frame : goal.returns-then-t-frame
+pub returns-in-Empty : goal.returns-in-Empty
 unfolding names
-returns-then-t-frame c = rw (eq-eqb _ _ c.if-t-frame.true)
+returns-in-Empty c = let e = c.in-Empty.ensures in grind (arith, nat_tests)
 
-pub returns-else-t-frame : goal.returns-else-t-frame
+pub returns-in-Clean : goal.returns-in-Clean
 unfolding names
-returns-else-t-frame c = rw (ne_eqb _ _ c.if-t-frame.false)
+returns-in-Clean c = elim c.in-Clean.is [ inl e ↦ let h = rw e at c.from.ensures in grind (arith, nat_tests) | inr e ↦ let h = rw e at c.from.ensures in grind (arith, nat_tests) ]

@@ -1,14 +1,14 @@
 -- `cache::tag::tag_keeps_rules` meets its contract.
-use mathlib.Core.Path.{sym}
-use borrow.Author.Tests.{lt-leb, le-leb}
-use Rattle.cache.specs.Tag.{is_dirty_tag}
-use Rattle.cache.proofs.Laws.Tag.{rules_below, rules_above}
+use mathlib.Core.Logic.{inl, inr}
+use native.Mathlib.Omega.{arith}
+use Rattle.std.proofs.lemmas.Bool.Decides.{nat_tests}
+use Rattle.cache.specs.Tag.{is_dirty_tag, frame_of, tag_keeps_rules}
 use Rattle.cache.proofs.tag.tag_keeps_rules.Goals as goal
 
-pub returns-then-t-lt-DIRTY : goal.returns-then-t-lt-DIRTY
-unfolding is_dirty_tag
-returns-then-t-lt-DIRTY c = sym (rules_below _ c.requires _ (lt-leb _ _ c.if-t-lt-DIRTY.true))
+pub returns-in-Empty : goal.returns-in-Empty
+unfolding tag_keeps_rules
+returns-in-Empty c = let e = c.in-Empty.ensures in grind (arith, nat_tests)
 
-pub returns : goal.returns
-unfolding is_dirty_tag
-returns c = sym (rules_above _ c.requires _ (le-leb _ _ c.if-t-lt-DIRTY.false))
+pub returns-in-Clean : goal.returns-in-Clean
+unfolding tag_keeps_rules frame_of is_dirty_tag
+returns-in-Clean c = elim c.in-Clean.is [ inl e ↦ let h = rw e at c.from.ensures in grind (arith, nat_tests) | inr e ↦ let h = rw e at c.from.ensures in grind (arith, nat_tests) ]
