@@ -1,4 +1,6 @@
 // One step of the cache each, and a line of text on what it left. A step whose tags break the rules is left out.
+#![tactic(auto, using(crate::proofs::Document01::regular, crate::proofs::Document01::memory_words_is, crate::proofs::Document01::cache_words_is, crate::proofs::Document01::lines_is, crate::proofs::Document01::well_formed))]
+
 ghost use Rattle.std.specs.Prelude.{◌+◌, ◌<◌, ◌≤◌, length};
 ghost use Rattle.board.specs.Board.{board01, cache_pages};
 
