@@ -9,6 +9,7 @@ use crate::tag::{Tag, names};
 use board::Board;
 
 // Reads the word, after the access that it takes.
+#[tactic(auto, unfolding(crate::specs::Cache::read_word))]
 pub fn read_word(
     board: Board,
     memory: &mut [u32],
@@ -28,6 +29,7 @@ pub fn read_word(
 }
 
 // Writes the word, after the access that it takes, and makes its line dirty.
+#[tactic(auto, unfolding(crate::specs::Cache::write_word, crate::specs::Cache::put_word))]
 pub fn write_word(
     board: Board,
     memory: &mut [u32],
@@ -49,6 +51,7 @@ pub fn write_word(
 }
 
 // Has the word's line hold the frame's words: nothing is done on a hit, and on a miss the line is replaced.
+#[tactic(auto, using(crate::proofs::Laws::Access::access_hit, crate::proofs::Laws::Access::access_miss))]
 pub fn access(
     board: Board,
     memory: &mut [u32],
@@ -68,6 +71,7 @@ pub fn access(
 }
 
 // Writes a line back if it is dirty, and fills it from a frame.
+#[tactic(auto, using(crate::proofs::Laws::WriteBack::write_back_kept), unfolding(crate::specs::Cache::replace))]
 fn replace(
     board: Board,
     memory: &mut [u32],

@@ -16,6 +16,7 @@ pub fn device_read(board: Board, memory: &[u32], buffer: &mut [u32], frame: usiz
 }
 
 // Copies the words of the device's buffer, of which there are some, to a frame's words in memory from an offset on.
+#[tactic(auto, using(crate::proofs::Laws::Part::part_back), unfolding(crate::specs::Cache::device_write))]
 pub fn device_write(board: Board, memory: &mut [u32], buffer: &[u32], frame: usize, first: usize)
     requires { (length memory.old ≡ memory_words board) × (0 < length buffer.now) × (first + length buffer.now ≤ board.page) × (frame < board.frames) × Regular board }
     ensures { (words tags : List ℕ) → store memory.new words tags ≡ device_write board frame first buffer.now (store memory.old words tags) }
@@ -25,6 +26,7 @@ pub fn device_write(board: Board, memory: &mut [u32], buffer: &[u32], frame: usi
 }
 
 // Stores a word that a device brings at an offset of a frame.
+#[tactic(auto, unfolding(crate::specs::Cache::bring_word))]
 pub fn bring_word(board: Board, memory: &mut [u32], frame: usize, offset: usize, word: u32)
     requires { (length memory.old ≡ memory_words board) × (frame < board.frames) × (offset < board.page) × Regular board }
     ensures { (words tags : List ℕ) → store memory.new words tags ≡ bring_word board frame offset word (store memory.old words tags) }

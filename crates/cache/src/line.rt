@@ -8,6 +8,7 @@ use crate::tag::Tag;
 use board::Board;
 
 // Writes a line back to memory if its tag is dirty.
+#[tactic(auto, using(crate::proofs::Laws::Tag::says_not_dirty, crate::proofs::Laws::WriteBack::write_back_clean))]
 pub fn write_back(board: Board, memory: &mut [u32], words: &[u32], tags: &[u8], line: usize)
     requires { WellFormedStore board (store memory.old words.now tags.now) × (line < lines board) × Regular board }
     ensures { store memory.new words.now tags.now ≡ write_back board line (store memory.old words.now tags.now) }
@@ -18,6 +19,7 @@ pub fn write_back(board: Board, memory: &mut [u32], words: &[u32], tags: &[u8], 
 }
 
 // Writes a line back if its tag is dirty, and empties it.
+#[tactic(auto, unfolding(crate::specs::Cache::evict, crate::specs::Cache::empty))]
 pub fn evict(board: Board, memory: &mut [u32], words: &[u32], tags: &mut [u8], line: usize)
     requires { WellFormedStore board (store memory.old words.now tags.old) × (line < lines board) × Regular board }
     ensures { store memory.new words.now tags.new ≡ evict board line (store memory.old words.now tags.old) }

@@ -43,6 +43,7 @@ pub fn purge(board: Board, tags: &mut [u8], frame: usize, colour: usize)
 }
 
 // Writes back a line that names a frame if it is dirty, and leaves it clean; another stays.
+#[tactic(auto, using(crate::proofs::Laws::Operations::flush_line_named, crate::proofs::Laws::Operations::flush_line_other), unfolding(crate::specs::Cache::write_back_as))]
 fn flush_line(
     board: Board,
     memory: &mut [u32],
@@ -61,6 +62,7 @@ fn flush_line(
 }
 
 // Empties a line that names a frame; another stays.
+#[tactic(auto, using(crate::proofs::Laws::Operations::purge_line_named, crate::proofs::Laws::Operations::purge_line_other), unfolding(crate::specs::Cache::empty))]
 fn purge_line(board: Board, tags: &mut [u8], frame: usize, line: usize)
     requires { (length tags.old ≡ lines board) × (frame < board.frames) × (line < lines board) × Regular board }
     ensures { (memory words : List ℕ) → store memory words tags.new ≡ purge_line frame line (store memory words tags.old) }

@@ -57,6 +57,7 @@ pub fn tags_keep_rules(board: Board, tags: &[u8]) -> bool
 }
 
 // Whether a line's tag keeps the rules: it is empty or names a frame of the board, and an instruction line's is not dirty.
+#[tactic(auto, unfolding(crate::specs::Tag::line_keeps_rules, crate::specs::Tag::tag_keeps_rules, crate::specs::Tag::frame_of, crate::specs::Tag::is_dirty_tag))]
 pub fn line_keeps_rules(board: Board, line: usize, tag: u8) -> bool
     requires { Regular board }
     ensures { result ≡ line_keeps_rules board line tag }
@@ -69,6 +70,7 @@ pub fn line_keeps_rules(board: Board, line: usize, tag: u8) -> bool
 }
 
 // Whether a tag is empty or names a frame of the board.
+#[tactic(auto, unfolding(crate::specs::Tag::tag_keeps_rules, crate::specs::Tag::frame_of, crate::specs::Tag::is_dirty_tag))]
 pub fn tag_keeps_rules(board: Board, tag: u8) -> bool
     requires { Regular board }
     ensures { result ≡ tag_keeps_rules board tag }
@@ -80,6 +82,7 @@ pub fn tag_keeps_rules(board: Board, tag: u8) -> bool
 }
 
 // Whether a tag names a frame.
+#[tactic(auto, unfolding(crate::specs::Tag::names))]
 pub fn names(tag: u8, frame: usize) -> bool
     requires { frame < 127 }
     ensures { result ≡ names tag frame }

@@ -1,7 +1,6 @@
 -- `cache::line::write_back` meets its contract.
 use mathlib.Core.Path.{sym, ◌∙◌}
-use Rattle.cache.proofs.Laws.Tag.{says_not_dirty}
-use Rattle.cache.proofs.Laws.WriteBack.{write_back_clean, write_back_dirty, dirty_frame_lt}
+use Rattle.cache.proofs.Laws.WriteBack.{write_back_dirty, dirty_frame_lt}
 use Rattle.cache.proofs.line.write_back.Goals as goal
 
 pub copy_out-requires : goal.copy_out-requires
@@ -16,7 +15,3 @@ copy_out-requires c = (
 pub returns-in-Dirty : goal.returns-in-Dirty
 returns-in-Dirty c =
     c.copy_out.ensures _ ∙ sym (write_back_dirty _ c.requires.2 _ c.requires.0 c.args.line c.in-Dirty.frame c.in-Dirty.ensures)
-
-pub returns-in_default : goal.returns-in_default
-returns-in_default c =
-    sym (write_back_clean _ c.requires.2 _ c.requires.0 c.args.line (says_not_dirty _ _ c.from.ensures c.in_default.not-Dirty))
