@@ -18,5 +18,5 @@ returns c tags =
     ap (λ (m : List ℕ). store m words tags)
     (part_back c.args.memory.now _
     (c.memory_at-at.ensures.value ∙ ap (memory_at board c.args.frame) c.line_offset.ensures.value)
-    (c.copy.ensures ∙ part_lent words _ c.line_at-from.ensures.value)
+    (c.copy_from_slice.ensures.after ∙ part_lent words _ c.line_at-from.ensures.value)
     (length_part words (line_at board c.args.line) _ (omega (arith, c.requires, line_at_end _ c.requires.4 _ c.requires.3))))

@@ -20,6 +20,6 @@ returns c =
     let line = c.args.line in
     ap₂ (λ (w : List ℕ) (t : ℕ). store memory w (set c.args.tags.now line t))
     (part_back c.args.words.now _ c.line_at-at.ensures.value
-    (c.copy.ensures ∙ part_lent memory _ (c.memory_at-from.ensures.value ∙ ap (memory_at board frame) c.line_offset.ensures.value))
+    (c.copy_from_slice.ensures.after ∙ part_lent memory _ (c.memory_at-from.ensures.value ∙ ap (memory_at board frame) c.line_offset.ensures.value))
     (length_part memory (memory_at board frame (line_offset board line)) _ (omega (arith, c.requires, memory_at_line_end _ c.requires.3 frame line c.requires.1))))
-    c.clean_tag.ensures
+    c.byte.ensures.0

@@ -10,12 +10,12 @@ use Rattle.cache.proofs.operation.flush.Goals as goal
 
 pub loop-i-init : goal.loop-i-init
 unfolding sweep
-loop-i-init c = (search rules, refl, refl, refl)
+loop-i-init c = refl
 
 pub flush_line-requires : goal.flush_line-requires
 flush_line-requires c =
     let pre = c.requires in (
-      subst⁻¹ (WellFormedStore c.args.board) c.loop-i.invariant.3
+      subst⁻¹ (WellFormedStore c.args.board) c.loop-i.invariant
           (turn_kept _ pre.3 c.args.frame _ (flush_line_retags _ pre.3 leaving c.args.frame pre.1) c.args.colour pre.2 _ pre.0 c.loop-i.i (omega arith)),
       pre.1,
       search rules,
@@ -26,15 +26,11 @@ pub loop-i-preserved : goal.loop-i-preserved
 loop-i-preserved c =
     let board = c.args.board in
     let frame = c.args.frame in
-    let colour = c.args.colour in (
-      search rules,
-      c.flush_line.auto.memory ∙ c.loop-i.invariant.1,
-      c.flush_line.auto.tags ∙ c.loop-i.invariant.2,
-      c.flush_line.ensures
-          ∙ ap₂ (flush_line board leaving frame) c.colour_line.ensures.value c.loop-i.invariant.3
-          ∙ sym (sweep_more board (flush_line board leaving frame) colour c.loop-i.i _),
-    )
+    let colour = c.args.colour in
+    c.flush_line.ensures
+    ∙ ap₂ (flush_line board leaving frame) c.colour_line.ensures.value c.loop-i.invariant
+    ∙ sym (sweep_more board (flush_line board leaving frame) colour c.loop-i.i _)
 
 pub returns : goal.returns
 returns c =
-    c.loop-i.invariant.3 ∙ flush_done c.args.board leaving c.args.frame c.args.colour c.loop-i.i _ (omega arith)
+    c.loop-i.invariant ∙ flush_done c.args.board leaving c.args.frame c.args.colour c.loop-i.i _ (omega arith)
