@@ -1,8 +1,8 @@
 // The frame records, one after the other in lent words, and the protections.
-ghost use Rattle.std.specs.Prelude.{◌≡◌, length, get_or, set};
+ghost use Rattle.std.specs.Prelude.{◌≡◌, ◌<◌, ◌+◌, ◌*◌, ℕ, length, get_or, set};
 ghost use Rattle.board.specs.declared.Board as any;
 ghost use Rattle.board.specs.Board.{Regular};
-ghost use Rattle.manager.specs.Tables.{record_at, put_record, start_word, records_keep_rules, mapping_state, instructions_of, protection, protection_at, tabulate, Colours};
+ghost use Rattle.manager.specs.Tables.{record_words, record_at, put_record, start_word, records_keep_rules, mapping_state, instructions_of, protection, protection_at, tabulate, Colours};
 
 use board::Board;
 use mapping::{Mapping, MappingList};
@@ -16,7 +16,7 @@ pub const RECORD_WORDS: usize = 7;
 fn word_at(words: &[u32], i: usize) -> u32
     ensures { result ≡ get_or words.now i 0 }
 {
-    if i < words.len() { words[i] } else { 0 }
+    words.get(i).copied().unwrap_or(0)
 }
 
 // Stores a word at a place; past the end nothing changes.
@@ -32,38 +32,35 @@ fn put_word(words: &mut [u32], i: usize, word: u32)
 pub fn record_at(records: &[u32], frame: u8) -> FrameRecord
     ensures { result ≡ record_at records.now frame }
 {
-    let at = frame as usize * RECORD_WORDS;
-    if at + 6 < records.len() {
-        let masks = Masks {
-            held: records[at],
-            stale: records[at + 1],
-        };
-        let instructions = Masks {
-            held: records[at + 5],
-            stale: records[at + 6],
-        };
-        return FrameRecord {
-            masks,
-            dirty: records[at + 2],
-            busy: records[at + 3],
-            dirty_colour: records[at + 4],
-            instructions,
-        };
-    }
-    let masks = Masks {
-        held: word_at(records, at),
-        stale: word_at(records, at + 1),
-    };
-    let instructions = Masks {
-        held: word_at(records, at + 5),
-        stale: word_at(records, at + 6),
-    };
+    let [
+        held,
+        stale,
+        dirty,
+        busy,
+        dirty_colour,
+        fetched,
+        fetched_stale,
+    ] = words_at(records, frame);
     FrameRecord {
-        masks,
-        dirty: word_at(records, at + 2),
-        busy: word_at(records, at + 3),
-        dirty_colour: word_at(records, at + 4),
-        instructions,
+        masks: Masks { held, stale },
+        dirty,
+        busy,
+        dirty_colour,
+        instructions: Masks {
+            held: fetched,
+            stale: fetched_stale,
+        },
+    }
+}
+
+// The words of a frame's record, 0 where they lie past the end. One test says that none does.
+fn words_at(records: &[u32], frame: u8) -> [u32; RECORD_WORDS]
+    ensures { (k : ℕ) → k < record_words → get_or result k 0 ≡ get_or records.now (frame * record_words + k) 0 }
+{
+    let at = usize::from(frame) * RECORD_WORDS;
+    match records.get(at..at + RECORD_WORDS) {
+        Some(words) => words.try_into().unwrap(),
+        None => std::array::from_fn(|i| word_at(records, at + i)),
     }
 }
 
@@ -71,7 +68,7 @@ pub fn record_at(records: &[u32], frame: u8) -> FrameRecord
 pub fn put_record(records: &mut [u32], frame: u8, record: FrameRecord)
     ensures { records.new ≡ put_record records.old frame «record» }
 {
-    let at = frame as usize * RECORD_WORDS;
+    let at = usize::from(frame) * RECORD_WORDS;
     put_word(records, at, record.masks.held);
     put_word(records, at + 1, record.masks.stale);
     put_word(records, at + 2, record.dirty);
@@ -86,10 +83,8 @@ pub fn start(colours: usize, records: &mut [u32])
     requires { Colours colours }
     ensures { records.new ≡ tabulate (length records.old) (start_word colours) }
 {
-    let mut at = 0;
-    while at < records.len() {
-        records[at] = start_word(colours, at);
-        at += 1;
+    for (at, word) in records.iter_mut().enumerate() {
+        *word = start_word(colours, at);
     }
 }
 
@@ -109,14 +104,8 @@ pub fn records_keep_rules(board: Board, records: &[u32]) -> bool
     requires { Regular board }
     ensures { result ≡ records_keep_rules board records.now }
 {
-    let mut frame: u8 = 0;
-    while (frame as usize) < board.frames {
-        if !record_at(records, frame).keeps_rules(board.colours) {
-            return false;
-        }
-        frame += 1;
-    }
-    true
+    let frames = u8::try_from(board.frames).unwrap();
+    (0..frames).all(|frame| record_at(records, frame).keeps_rules(board.colours))
 }
 
 // What a mapping lets its program do without a stop: 0 nothing, 1 read, 2 read and write, and 4 more to fetch. The sum of three tests, not a branch on
@@ -126,10 +115,10 @@ fn protection_of(colours: usize, records: &[u32], m: Mapping) -> u8
     ensures { (b : any.Board) → b.colours ≡ colours → result ≡ protection (mapping_state b records.now m) (instructions_of b records.now m) m.rights }
 {
     let r = record_at(records, m.frame);
-    let colour = m.page as usize % colours;
+    let colour = usize::from(m.page) % colours;
     let written = r.holds_dirty(colour) & (m.rights == mapping::READ_WRITE);
     let fetched = r.holds_instructions(colour) & (m.rights == mapping::READ_FETCH);
-    r.holds(colour) as u8 + written as u8 + 4 * (fetched as u8)
+    u8::from(r.holds(colour)) + u8::from(written) + 4 * u8::from(fetched)
 }
 
 // Fills the whole buffer of protections as the list and the records say, where a page's colour is its number modulo colours. The list is read
@@ -139,19 +128,10 @@ pub fn refill(colours: usize, list: MappingList, records: &[u32], protections: &
     ensures { (b : any.Board) → b.colours ≡ colours
         → protections.new ≡ tabulate (length protections.old) (protection_at b list records.now) }
 {
-    let count = list.count;
-    let mut i = 0;
-    while i < protections.len() && i < count {
-        let m = if i < mapping::CAPACITY {
-            list.items[i]
-        } else {
-            Mapping::zero()
-        };
-        protections[i] = protection_of(colours, records, m);
-        i += 1;
-    }
-    while i < protections.len() {
-        protections[i] = 0;
-        i += 1;
+    protections.fill(0);
+    let listed = list.count.min(protections.len());
+    for (i, protection) in protections[..listed].iter_mut().enumerate() {
+        let m = list.items.get(i).copied().unwrap_or(Mapping::zero());
+        *protection = protection_of(colours, records, m);
     }
 }

@@ -2,6 +2,9 @@
 ghost use Rattle.std.specs.Prelude.{◌≡◌};
 ghost use Rattle.manager.specs.Answers.{refusal_number};
 
+use std::error::Error;
+use std::fmt;
+
 // The causes of refusal, in the order in which they are tested: of two, the lesser is answered.
 #[derive(Clone, Copy, Debug, PartialEq, Eq, PartialOrd, Ord)]
 pub enum Refusal {
@@ -56,3 +59,29 @@ impl Refusal {
         }
     }
 }
+
+impl fmt::Display for Refusal {
+    fn fmt<W: fmt::Write>(&self, f: &mut fmt::Formatter<W>) -> fmt::Result {
+        let cause = match self {
+            Refusal::WrongHold => "no such position hold",
+            Refusal::WrongLength => "a lent buffer of another length",
+            Refusal::WrongBatch => "too many mappings, or not as many as answers",
+            Refusal::BrokenRules => "what is lent breaks its rules",
+            Refusal::NoSuchPage => "no such page",
+            Refusal::NoSuchFrame => "no such frame",
+            Refusal::NoSuchRights => "no such rights",
+            Refusal::NoSuchOffset => "no such offset or line",
+            Refusal::NoSuchPart => "no such part of a page",
+            Refusal::AlreadyMapped => "the page is mapped already",
+            Refusal::NotMapped => "the page is not mapped",
+            Refusal::ListFull => "the mapping list is full",
+            Refusal::NotWritable => "the rights do not allow a write",
+            Refusal::NotFetchable => "the rights do not allow a fetch",
+            Refusal::Busy => "a transfer of the frame bars the call",
+            Refusal::NoTransfer => "the frame has no such transfer",
+        };
+        f.write_str(cause)
+    }
+}
+
+impl Error for Refusal {}
