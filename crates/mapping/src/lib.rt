@@ -5,7 +5,7 @@ pub mod lent;
 
 ghost use Rattle.std.specs.Prelude.{◌≡◌, true};
 ghost use Rattle.board.specs.declared.Board as any;
-ghost use Rattle.mapping.specs.Entry.{is_rights, zero_mapping, in_range, is_at, is_before};
+ghost use Rattle.mapping.specs.Entry.{is_rights, zero_mapping, in_range, is_zero, is_at, is_before};
 ghost use Rattle.mapping.specs.Rules.{keeps_rules};
 ghost use Rattle.mapping.specs.Change.{empty, insert_at, remove};
 ghost use Rattle.mapping.specs.Look.{find, look, ToldWithin};
@@ -95,6 +95,16 @@ impl Mapping {
     {
         (self.space, self.page) < (space, page)
     }
+
+    // Whether all fields are 0. Three of them make up a word, so that they are read at once.
+    fn is_zero(self) -> bool
+        ensures { result ≡ is_zero self }
+    {
+        let word = u32::from(self.page)
+            | u32::from(self.frame) << 16
+            | u32::from(self.rights) << 24;
+        self.space == 0 && word == 0
+    }
 }
 
 // What one look at the list tells a call of a page of a space, or nothing where the list breaks its rules.
@@ -118,7 +128,7 @@ pub fn keeps_rules(board: Board, list: MappingList) -> bool
     let (listed, rest) = list.items.split_at(list.count);
     listed.iter().all(|m| m.in_range(board))
         && listed.is_sorted_by(|m, n| m.is_before(n.space, n.page))
-        && rest.iter().all(|m| *m == Mapping::zero())
+        && rest.iter().all(|m| m.is_zero())
 }
 
 // What a list that keeps its rules tells of a page of a space, found by halving. The rules are not tested. In a list that breaks them the place is

@@ -18,7 +18,6 @@ pub returns-then-list-gt-CAPACITY : goal.returns-then-list-gt-CAPACITY
 returns-then-list-gt-CAPACITY c = sym (keeps_over _ _ c.if-list-gt-CAPACITY.true)
 
 pub returns-then-is_sorted_by : goal.returns-then-is_sorted_by
-unfolding is_zero
 returns-then-is_sorted_by c =
     let l = c.args.list in
     let inside : l.count ≤ length l.items = omega (arith, items_length l _ c.well_formed.1.0) in
