@@ -67,10 +67,10 @@ pub fn write(
         (call.write space page offset word) }
 {
     let own = plans::access_refusal(BOARD01, memory, words, tags, BOARD01.page, offset);
-    let seen = mapping::look(BOARD01, list, space, page);
+    let looked = mapping::look(BOARD01, list, space, page);
     let managers = plan_access(
         BOARD01,
-        seen,
+        looked,
         records,
         protections,
         space,
@@ -163,9 +163,9 @@ fn load(
         (loads cache space page offset) }
 {
     let own = plans::access_refusal(BOARD01, memory, words, tags, BOARD01.page, offset);
-    let seen = mapping::look(BOARD01, list, space, page);
+    let looked = mapping::look(BOARD01, list, space, page);
     let kind = cache.access();
-    let managers = plan_access(BOARD01, seen, records, protections, space, page, kind);
+    let managers = plan_access(BOARD01, looked, records, protections, space, page, kind);
     let change = plans::earlier(own, managers)?;
     let operations = manager::commits::carry_out(COLOURS, list, records, protections, change);
     let through = cache.page(board::colour_of(BOARD01, usize::from(page)));

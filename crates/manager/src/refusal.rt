@@ -63,7 +63,6 @@ impl Refusal {
 impl fmt::Display for Refusal {
     fn fmt<W: fmt::Write>(&self, f: &mut fmt::Formatter<W>) -> fmt::Result {
         let cause = match self {
-            Refusal::WrongHold => "no such position hold",
             Refusal::WrongLength => "a lent buffer of another length",
             Refusal::WrongBatch => "too many mappings, or not as many as answers",
             Refusal::BrokenRules => "what is lent breaks its rules",

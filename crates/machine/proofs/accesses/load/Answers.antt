@@ -67,7 +67,7 @@ returns-in_err-change c =
     let call = loads a.cache a.space a.page a.offset in
     loaded_refused board01 _ call _ _ (unlent a.cache a.space a.page a.offset)
     (plan_refused board01 _ call _ _ (load_planned board01 _ a.cache a.space a.page a.offset c.in_err-change.ensures.plan c.access_refusal-own.ensures
-    (managers a.list _ _ a.space a.page c.access-kind.ensures (c.plan_access-managers.ensures a.list (items_length a.list _ c.well_formed.0) c.look-seen.ensures))))
+    (managers a.list _ _ a.space a.page c.access-kind.ensures (c.plan_access-managers.ensures a.list (items_length a.list _ c.well_formed.0) c.look-looked.ensures))))
     c.from_residual.ensures.1
 
 pub colour_of-requires : goal.colour_of-requires
@@ -79,7 +79,7 @@ load-word-requires c =
     let st = machine_of a.list a.records.now a.protections.now a.memory.now a.words.now a.tags.now in
     access_requires board01 st (loads a.cache a.space a.page a.offset) _ _ (effect board01 st a.cache a.space a.page a.offset) a.offset board01_regular c.carry_out-operations.ensures.operations
     (sym (load_planned board01 st a.cache a.space a.page a.offset c.in_ok-change.ensures.plan c.access_refusal-own.ensures
-    (managers a.list _ _ a.space a.page c.access-kind.ensures (c.plan_access-managers.ensures a.list (items_length a.list _ c.well_formed.0) c.look-seen.ensures))))
+    (managers a.list _ _ a.space a.page c.access-kind.ensures (c.plan_access-managers.ensures a.list (items_length a.list _ c.well_formed.0) c.look-looked.ensures))))
     (tested board01 st a.cache a.space a.page a.offset) c.page-through.ensures.within
 
 pub returns : goal.returns
@@ -87,7 +87,7 @@ returns c =
     let a = c.args in
     access_made board01 _ (loads a.cache a.space a.page a.offset) _
     (sym (load_planned board01 _ a.cache a.space a.page a.offset c.in_ok-change.ensures.plan c.access_refusal-own.ensures
-    (managers a.list _ _ a.space a.page c.access-kind.ensures (c.plan_access-managers.ensures a.list (items_length a.list _ c.well_formed.0) c.look-seen.ensures))))
+    (managers a.list _ _ a.space a.page c.access-kind.ensures (c.plan_access-managers.ensures a.list (items_length a.list _ c.well_formed.0) c.look-looked.ensures))))
     c.carry_out-operations.ensures.operations
     (page_through board01 a.cache (colour_of board01 a.page)) (λ f k x. some (hardware.read_word board01 f k a.offset x)) (λ f k. hardware.access board01 f k a.offset)
     (accepted-call board01 _ a.cache a.space a.page a.offset)

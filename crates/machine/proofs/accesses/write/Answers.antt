@@ -24,7 +24,7 @@ returns-in_err-change c =
     let call = write a.space a.page a.offset a.word in
     call_refused board01 _ call _ _ refl
     (plan_refused board01 _ call _ _ (write_planned board01 _ a.space a.page a.offset a.word c.in_err-change.ensures.plan c.access_refusal-own.ensures
-    (c.plan_access-managers.ensures a.list (items_length a.list _ c.well_formed.0) c.look-seen.ensures)))
+    (c.plan_access-managers.ensures a.list (items_length a.list _ c.well_formed.0) c.look-looked.ensures)))
     c.from_residual.ensures.1
 
 pub colour_of-colour-requires : goal.colour_of-colour-requires
@@ -35,7 +35,7 @@ unfolding causes
 put-requires c =
     let a = c.args in (
       access_requires board01 _ (write a.space a.page a.offset a.word) _ _ refl a.offset board01_regular c.carry_out-operations.ensures.operations
-          (sym (write_planned board01 _ a.space a.page a.offset a.word c.in_ok-change.ensures.plan c.access_refusal-own.ensures (c.plan_access-managers.ensures a.list (items_length a.list _ c.well_formed.0) c.look-seen.ensures))) refl (data_page board01 board01_regular _ c.colour_of-colour.ensures.within),
+          (sym (write_planned board01 _ a.space a.page a.offset a.word c.in_ok-change.ensures.plan c.access_refusal-own.ensures (c.plan_access-managers.ensures a.list (items_length a.list _ c.well_formed.0) c.look-looked.ensures))) refl (data_page board01 board01_regular _ c.colour_of-colour.ensures.within),
       c.colour_of-colour.ensures.within,
     )
 
@@ -43,7 +43,7 @@ pub returns : goal.returns
 unfolding accept
 returns c =
     let a = c.args in
-    access_made board01 _ (write a.space a.page a.offset a.word) _ (sym (write_planned board01 _ a.space a.page a.offset a.word c.in_ok-change.ensures.plan c.access_refusal-own.ensures (c.plan_access-managers.ensures a.list (items_length a.list _ c.well_formed.0) c.look-seen.ensures)))
+    access_made board01 _ (write a.space a.page a.offset a.word) _ (sym (write_planned board01 _ a.space a.page a.offset a.word c.in_ok-change.ensures.plan c.access_refusal-own.ensures (c.plan_access-managers.ensures a.list (items_length a.list _ c.well_formed.0) c.look-looked.ensures)))
     c.carry_out-operations.ensures.operations
     (colour_of board01 a.page) (λ f k x. none) (λ f k. hardware.write_word board01 f k a.offset a.word) refl
     (c.colour_of-colour.ensures.value ∙ ap (colour_of board01) c.from.ensures) refl (c.carry_out-operations.ensures.tables board01 refl) c.put.ensures
