@@ -42,6 +42,7 @@ pub fn lacks_room(accounts: &[u32], account: usize, kind: ChargeKind, ops: Ops) 
 }
 
 // Charges an account for a step with these orders.
+#[tactic(auto, using(crate::proofs::Laws::fits), unfolding(crate::specs::Accounts::charged))]
 pub fn pay(accounts: &mut [u32], account: usize, kind: ChargeKind, ops: Ops)
     requires { (account < length accounts.old) × (overdrawn (balance accounts.old account) (charge kind ops) ≡ false) }
     ensures { accounts.new ≡ charged accounts.old account (charge kind ops) }
@@ -51,6 +52,7 @@ pub fn pay(accounts: &mut [u32], account: usize, kind: ChargeKind, ops: Ops)
 }
 
 // What a step with these orders costs.
+#[tactic(auto, using(crate::proofs::Laws::cell), unfolding(crate::specs::Tariff::charge))]
 fn charge(kind: ChargeKind, ops: Ops) -> u32
     ensures { result ≡ charge kind ops }
 {
@@ -96,6 +98,7 @@ fn balance(accounts: &[u32], account: usize) -> u32
 }
 
 // Whether a charge above 0 would take an account that holds so much past the limit.
+#[tactic(auto, unfolding(crate::specs::Accounts::overdrawn))]
 fn overdrawn(held: u32, cycles: u32) -> bool
     ensures { result ≡ overdrawn held cycles }
 {
