@@ -29,6 +29,7 @@ pub fn evict(board: Board, memory: &mut [u32], words: &[u32], tags: &mut [u8], l
 }
 
 // Fills a line from memory of a frame, as clean.
+#[tactic(auto, using(crate::proofs::Laws::Part::length_part, crate::proofs::Laws::Part::part_lent, crate::proofs::Laws::Part::part_back), unfolding(crate::specs::Cache::fill))]
 pub fn fill(
     board: Board,
     memory: &[u32],
@@ -47,6 +48,7 @@ pub fn fill(
 }
 
 // Copies a line's words to memory of a frame.
+#[tactic(auto, using(crate::proofs::Laws::Part::length_part, crate::proofs::Laws::Part::part_lent, crate::proofs::Laws::Part::part_back), unfolding(crate::specs::Cache::copy_out, crate::specs::Cache::line_words_of))]
 fn copy_out(board: Board, memory: &mut [u32], words: &[u32], frame: usize, line: usize)
     requires { (length memory.old ≡ memory_words board) × (length words.now ≡ cache_words board) × (frame < board.frames) × (line < lines board) × Regular board }
     ensures { (tags : List ℕ) → store memory.new words.now tags ≡ copy_out board frame line (store memory.old words.now tags) }

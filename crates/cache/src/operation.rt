@@ -9,6 +9,7 @@ use crate::tag::{Tag, names};
 use board::Board;
 
 // Writes back each dirty line of a frame in a page of the caches, and leaves the lines that name the frame there in, clean.
+#[tactic(auto, using(crate::proofs::Laws::Sweep::sweep_more, crate::proofs::Laws::Operations::flush_done), unfolding(crate::specs::Cache::sweep))]
 pub fn flush(
     board: Board,
     memory: &mut [u32],
@@ -33,6 +34,7 @@ pub fn flush(
 }
 
 // Empties every line that names a frame in a page of the caches, and writes none back.
+#[tactic(auto, using(crate::proofs::Laws::Sweep::sweep_more), unfolding(crate::specs::Cache::sweep))]
 pub fn purge(board: Board, tags: &mut [u8], frame: usize, colour: usize)
     requires { (length tags.old ≡ lines board) × (frame < board.frames) × (colour < cache_pages board) × Regular board }
     ensures { (memory words : List ℕ) → store memory words tags.new ≡ purge board frame colour (store memory words tags.old) }

