@@ -1,7 +1,7 @@
 -- The plan of a step of a frame's record, by the causes that are tested before the frame's mark, and by the mark; the plan of an access; and a call
 -- without orders.
 use mathlib.Core.Path.{◌≡◌, refl, sym, ap, ap₂, ◌∙◌}
-use mathlib.Core.Bool.{Bool, true, cond}
+use mathlib.Core.Bool.{true, cond}
 use mathlib.Core.List.{List, [], ◌∷◌, ◌++◌}
 use Prim.Native.Nat.{ℕ, zero, suc}
 use lib.ListN.{length}
@@ -10,11 +10,8 @@ use Rattle.std.proofs.lemmas.Result.{err_from_is_err_and}
 use Rattle.std.specs.Result.{IsErrAnd}
 use Rattle.board.specs.declared.Board.{Board}
 use Rattle.board.specs.Board.{colour_of}
-use Rattle.page_model.specs.declared.FrameRecord.{FrameRecord}
-use Rattle.page_model.specs.declared.Stepped.{Stepped}
 use Rattle.page_model.specs.Busy.{bars}
 use Rattle.page_model.specs.Record.{keeps_rules}
-use Rattle.page_model.specs.Step.{stepped}
 use Rattle.page_model.specs.Table.{Step, read, write, fetch}
 use Rattle.mapping.specs.declared.MappingList.{MappingList}
 use Rattle.mapping.specs.declared.Seen.{Seen}

@@ -128,10 +128,10 @@ pub fn refill(colours: usize, list: MappingList, records: &[u32], protections: &
     ensures { (b : any.Board) → b.colours ≡ colours
         → protections.new ≡ tabulate (length protections.old) (protection_at b list records.now) }
 {
-    protections.fill(0);
     let listed = list.count.min(protections.len());
     for (i, protection) in protections[..listed].iter_mut().enumerate() {
         let m = list.items.get(i).copied().unwrap_or(Mapping::zero());
         *protection = protection_of(colours, records, m);
     }
+    protections[listed..].fill(0);
 }

@@ -1,11 +1,7 @@
 -- `manager::map_batch` meets its contract.
-use mathlib.Core.Path.{◌≡◌, refl, sym, ap, ap₂, ◌∙◌}
-use mathlib.Core.List.{List}
-use native.Mathlib.Omega.{arith}
+use mathlib.Core.Path.{refl, sym, ap, ap₂, ◌∙◌}
 use Prim.Native.Nat.{ℕ}
 use lib.ListN.{length}
-use Rattle.std.proofs.Common.{Ok}
-use Rattle.mapping.specs.declared.MappingList.{MappingList}
 use Rattle.mapping.specs.Batch.{items_of}
 use Rattle.mapping.proofs.Laws.{items_of_length}
 use Rattle.manager.specs.Answers.{refusal_in}
@@ -13,7 +9,7 @@ use Rattle.manager.specs.Scaffold.Inserted.{list_after_items, refusal_at, relist
 use Rattle.manager.specs.Tables.{tables, tabulate}
 use Rattle.manager.proofs.BatchLaws.{whole_clear, relisted_same, relisted_more, made_refused, made_lent, made_listed}
 use Rattle.manager.proofs.CauseLaws.{some_number}
-use Rattle.manager.proofs.Laws.{length_tabulate, filled}
+use Rattle.manager.proofs.Laws.{filled}
 use Rattle.manager.proofs.batch.map_batch.Goals as goal
 
 pub returns-in_err-whole_refusal : goal.returns-in_err-whole_refusal
