@@ -2,15 +2,15 @@
 use mathlib.Core.Path.{◌≡◌, refl, sym, ap, ◌∙◌}
 use mathlib.Core.Bool.{Bool, true, false, cond, false≢true}
 use native.Mathlib.Omega.{arith}
-use lib.ListN.{length}
+use lib.ListN.{length, get_or-eq_default}
 use borrow.Author.Tests.{ltb-true, lt-ltb}
-use Prim.Native.Nat.{ℕ}
+use Prim.Native.Nat.{ℕ, ◌≤◌}
 use Rattle.board.specs.declared.Board.{Board}
 use Rattle.mapping.specs.declared.MappingList.{MappingList}
-use Rattle.std.specs.Prelude.{Option, Some, None, option_map}
+use Rattle.std.specs.Prelude.{Option, Some, None, is_some, option_map, unwrap_or}
 use Rattle.mapping.specs.declared.Seen.{Seen}
-use Rattle.mapping.specs.Entry.{mapping_at}
-use Rattle.mapping.specs.Lookup.{lookup}
+use Rattle.mapping.specs.Entry.{capacity, zero_mapping, mapping_at}
+use Rattle.mapping.specs.Lookup.{lookup, is_mapped, place_of, listed_mapping}
 use Rattle.mapping.specs.Facts.{Rules, GoesTo}
 use Rattle.mapping.specs.Look.{find, look, is_listed_at, told_at}
 use Rattle.mapping.specs.Rules.{keeps_rules}
@@ -44,3 +44,20 @@ module _ (b : Board) (l : MappingList) (rules : Rules b l) (s p i : ℕ) (goes :
       go false e =
           let n = count_length b l rules in
           ap (λ (x : Option ℕ). told x i) (sym (goes_nothing b l rules s p i goes (λ h m. false≢true (sym e ∙ rw (lt-ltb i l.count h, lt-ltb i (length l.items) (omega arith)) (maps_is_at _ _ _ m)))))
+
+-- ---- what `find` tells, as the other words have it
+
+module _ (l : MappingList) (s p : ℕ) where
+  pub find_mapped : is_some (find l s p).mapping ≡ is_mapped l s p
+  find_mapped = go (lookup l s p)
+    where
+      go : (x : Option ℕ) → is_some (option_map (mapping_at l) x) ≡ is_some x
+      go (Some i) = refl
+      go None = refl
+
+  pub find_listed : length l.items ≤ capacity → unwrap_or (find l s p).mapping zero_mapping ≡ listed_mapping l s p
+  find_listed h = go (lookup l s p)
+    where
+      go : (x : Option ℕ) → unwrap_or (option_map (mapping_at l) x) zero_mapping ≡ mapping_at l (place_of x)
+      go (Some i) = refl
+      go None = sym (get_or-eq_default l.items zero_mapping h)
