@@ -14,12 +14,11 @@ use Rattle.board.specs.declared.Board.{Board}
 use Rattle.page_model.specs.Record as frame_record
 use Rattle.mapping.specs.declared.MappingList.{MappingList}
 use Rattle.mapping.specs.Entry.{capacity}
-use Rattle.mapping.specs.declared.Found.{Found}
 use Rattle.mapping.specs.declared.Seen.{Seen}
-use Rattle.mapping.specs.declared.Found.TheVariants.{At, Nothing}
+use Rattle.std.specs.Prelude.{Option, Some, None, is_some}
 use Rattle.mapping.specs.Facts.{InRange, Rules, FoundAt}
 use Rattle.mapping.specs.Look.{find, look}
-use Rattle.mapping.specs.Lookup.{lookup, found, is_mapped, place_of, listed_mapping, place_for}
+use Rattle.mapping.specs.Lookup.{lookup, is_mapped, place_of, listed_mapping, place_for}
 use Rattle.mapping.specs.Rules as list_of
 use Rattle.mapping.proofs.Laws.{keeps_rules_true, lookup_at, found_place, look_kept, look_broken}
 use Rattle.manager.specs.Refusals.{Cause, first_refusal, or_else, table_causes, page_causes, frame_cause}
@@ -137,9 +136,9 @@ module _ (b : Board) (t : Tables) (kept : rules_kept b t ≡ true) where
   pub mapped_found : (space page : ℕ) → is_mapped t.list space page ≡ true → FoundAt t.list space page (place_of (lookup t.list space page))
   mapped_found space page e = go (lookup t.list space page) refl e
     where
-      go : (f : Found) → lookup t.list space page ≡ f → found f ≡ true → FoundAt t.list space page (place_of f)
-      go (At i) z k = lookup_at t.list space page i z
-      go Nothing z k = absurd (false≢true k)
+      go : (f : Option ℕ) → lookup t.list space page ≡ f → is_some f ≡ true → FoundAt t.list space page (place_of f)
+      go (Some i) z k = lookup_at t.list space page i z
+      go None z k = absurd (false≢true k)
 
   pub mapped_range : (space page : ℕ) → is_mapped t.list space page ≡ true → InRange b (listed_mapping t.list space page)
   mapped_range space page e = list_rules.in_range_holds _ (mapped_found space page e).listed
