@@ -2,10 +2,10 @@
 ghost use Rattle.std.specs.Prelude.{[], ◌∷◌, ◌++◌, ◌+◌, ◌<◌, ◌≤◌, length};
 ghost use Rattle.manager.specs.Answers.{operation_on, outcome};
 ghost use Rattle.sheet_codec.specs.Put.{Put};
-ghost use Rattle.sheet_codec.specs.Text.{number_bytes, operation_bytes, answer_bytes, line_bytes, dot, decimal, operation_text, word_text, shown_word, mapping_line, answer_text, step_line, end_line, refused_line};
+ghost use Rattle.sheet_codec.specs.Text.{number_bytes, operation_bytes, answer_bytes, line_bytes, dot, decimal, operation_text, word_text, mapping_line, answer_text, step_line, end_line, refused_line};
 
-use crate::{Shown, answers};
-use manager::Answer;
+use crate::answers;
+use manager::{Answer, FrameOps};
 use page_model::Op;
 
 // The room of a line, and of a number in it.
@@ -21,14 +21,14 @@ pub fn mapping_line(text: &mut [u8], at: usize, k: usize, number: u8) -> usize
     let a = put_byte(text, at, b'm');
     let b = put_number(text, a, k as u64);
     let c = put_byte(text, b, b' ');
-    let d = put_number(text, c, number as u64);
+    let d = put_number(text, c, u64::from(number));
     put_byte(text, d, b'\n')
 }
 
 // The line of a step.
-pub fn step_line(text: &mut [u8], at: usize, k: usize, answer: Answer, shown: Shown) -> usize
+pub fn step_line(text: &mut [u8], at: usize, k: usize, answer: Answer, shown: Option<u32>) -> usize
     requires { at + line_bytes ≤ length text.old }
-    ensures { Put text.old at (step_line k (outcome answer) (shown_word shown)) line_bytes text.new result }
+    ensures { Put text.old at (step_line k (outcome answer) shown) line_bytes text.new result }
 {
     let a = put_number(text, at, k as u64);
     let b = put_byte(text, a, b' ');
@@ -64,26 +64,22 @@ fn put_answer(text: &mut [u8], at: usize, answer: Answer) -> usize
     ensures { Put text.old at (answer_text (outcome answer)) answer_bytes text.new result }
 {
     let number = answers::number_of(answer);
-    let operations = answers::operations_of(answer);
-    let frame = operations.frame;
-    let ops = operations.ops;
-    let first = ops.first;
-    let second = ops.second;
-    let a = put_number(text, at, number as u64);
+    let FrameOps { frame, ops } = answers::operations_of(answer);
+    let a = put_number(text, at, u64::from(number));
     let b = put_byte(text, a, b' ');
-    let c = put_operation(text, b, frame, first);
+    let c = put_operation(text, b, frame, ops.first);
     let d = put_byte(text, c, b' ');
-    put_operation(text, d, frame, second)
+    put_operation(text, d, frame, ops.second)
 }
 
 // A word, or a dash.
-fn put_word(text: &mut [u8], at: usize, shown: Shown) -> usize
+fn put_word(text: &mut [u8], at: usize, shown: Option<u32>) -> usize
     requires { at + number_bytes ≤ length text.old }
-    ensures { Put text.old at (word_text (shown_word shown)) number_bytes text.new result }
+    ensures { Put text.old at (word_text shown) number_bytes text.new result }
 {
     match shown {
-        Shown::Absent => put_byte(text, at, b'-'),
-        Shown::Word(word) => put_number(text, at, word as u64),
+        Some(word) => put_number(text, at, u64::from(word)),
+        None => put_byte(text, at, b'-'),
     }
 }
 
@@ -106,7 +102,7 @@ fn put_operation_on(text: &mut [u8], at: usize, letter: u8, frame: u8, colour: u
     ensures { Put text.old at (letter ∷ (decimal frame ++ (dot ∷ decimal colour))) operation_bytes text.new result }
 {
     let a = put_byte(text, at, letter);
-    let b = put_number(text, a, frame as u64);
+    let b = put_number(text, a, u64::from(frame));
     let c = put_byte(text, b, b'.');
     put_number(text, c, colour as u64)
 }
@@ -126,12 +122,9 @@ fn put_bytes(text: &mut [u8], at: usize, from: &[u8]) -> usize
     requires { at + length from.now ≤ length text.old }
     ensures { Put text.old at from.now (length from.now) text.new result }
 {
-    let mut i = 0;
-    while i < from.len() {
-        text[at + i] = from[i];
-        i += 1;
-    }
-    at + i
+    let end = at + from.len();
+    text[at..end].copy_from_slice(from);
+    end
 }
 
 // One byte.

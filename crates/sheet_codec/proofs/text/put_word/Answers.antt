@@ -4,10 +4,10 @@ use Rattle.sheet_codec.proofs.Written.{put_as}
 use native.Mathlib.Omega.{arith}
 use Rattle.sheet_codec.proofs.text.put_word.Goals as goal
 
-pub returns-in-Absent : goal.returns-in-Absent
+pub returns-in-Some : goal.returns-in-Some
 unfolding word_text
-returns-in-Absent c = put_as (rw c.in-Absent.is) (omega arith) c.put_byte.ensures
+returns-in-Some c = put_as (rw (c.in-Some.is, c.from.ensures)) (omega arith) c.put_number.ensures
 
-pub returns-in-Word : goal.returns-in-Word
+pub returns-in-None : goal.returns-in-None
 unfolding word_text
-returns-in-Word c = put_as (rw c.in-Word.is) (omega arith) c.put_number.ensures
+returns-in-None c = put_as (rw c.in-None.is) (omega arith) c.put_byte.ensures
