@@ -7,7 +7,8 @@ use Prim.Native.Nat.{ℕ, zero, suc, ◌+◌, ◌*◌, ◌≤◌, ◌<◌}
 use lib.Dec.{ltb}
 use lib.ListN.{length}
 use native.Mathlib.Omega.{arith}
-use Rattle.std.specs.Prelude.{Option, Some, None, Result, MatchResult, ok_or}
+use Rattle.std.specs.Prelude.{Option, Some, None, unwrap_or, Result, MatchResult, ok_or}
+use Rattle.std.specs.Result.{result_unwrap_or}
 use Rattle.std.specs.List.{list_all, range_with_len}
 use Rattle.bits.specs.Mask.{all}
 use Rattle.board.specs.Board.{board01}
@@ -15,6 +16,7 @@ use Rattle.mapping.proofs.Tests.{lt_or_le}
 use borrow.Author.Tests.{lt-ltb, le-ltb, ltb-false}
 use Rattle.sheet_codec.specs.declared.Fields.{Fields}
 use Rattle.sheet_codec.specs.declared.Kind.{Kind}
+use Rattle.sheet_codec.specs.declared.Kind.TheVariants.{Unmap}
 use Rattle.sheet_codec.specs.declared.UnknownKind.{UnknownKind}
 use Rattle.sheet_codec.specs.Format.{most_mappings, most_steps, count_bytes, step_bytes, two_bytes, mapping_count, mapping_place, step_count, step_place, sheet_length, fields_at, kind_of, keeps, keeps_as, step_keeps, is_broken, kind_or_unmap, call_of, step_call}
 
@@ -57,6 +59,11 @@ pub tested : {P : Kind → Type 0} (o : Option Kind) (f : Fields) (e : UnknownKi
     → b ≡ keeps_as o f
 tested {P = P} None f e r b d h g = subst (λ (x : Result Kind UnknownKind). MatchResult x P (λ _. b ≡ false)) d h
 tested {P = P} (Some k) f e r b d h g = g k (subst (λ (x : Result Kind UnknownKind). MatchResult x P (λ _. b ≡ false)) d h)
+
+-- the kind of a step that is made, where the sheet may be broken
+pub kind_or : (o : Option Kind) (e : UnknownKind) (r : Result Kind UnknownKind) → r ≡ ok_or o e → result_unwrap_or r Unmap ≡ unwrap_or o Unmap
+kind_or None e r d = ap (λ (x : Result Kind UnknownKind). result_unwrap_or x Unmap) d
+kind_or (Some k) e r d = ap (λ (x : Result Kind UnknownKind). result_unwrap_or x Unmap) d
 
 -- ---- a test of every place below n, one place after the other
 
