@@ -36,10 +36,6 @@ module _ (s : List ℕ) (first i : ℕ) (e : first ≡ step_place s 0) where
   unfolding step_place
   step_place_lem = omega arith
 
-  pub place_length : i ≡ step_count s → first + step_bytes * i ≡ sheet_length s
-  unfolding sheet_length
-  place_length d = step_place_lem ∙ ap (step_place s) d
-
   module _ (f : Fields) (d : f ≡ fields_at s (first + step_bytes * i)) where
     there : f ≡ fields_at s (step_place s i)
     there = d ∙ ap (fields_at s) step_place_lem
@@ -51,6 +47,12 @@ module _ (s : List ℕ) (first i : ℕ) (e : first ≡ step_place s 0) where
     pub call_at : call_of board01 (kind_or_unmap f.kind) f ≡ step_call board01 s i
     unfolding step_call
     call_at = ap (λ (x : Fields). call_of board01 (kind_or_unmap x.kind) x) there
+
+-- the length that the counts say, from the numbers that the code has
+pub length_said : (s : List ℕ) (m n first : ℕ) → m ≡ mapping_count s → n ≡ step_count s → first ≡ mapping_place m + count_bytes
+    → first + step_bytes * n ≡ sheet_length s
+unfolding sheet_length
+length_said s m n first e d f = step_place_lem s first n (f ∙ first_place s m e) ∙ ap (step_place s) d
 
 -- a kind's test, where there is a kind
 pub tested : {P : Kind → Type 0} (o : Option Kind) (f : Fields) (e : UnknownKind) (r : Result Kind UnknownKind) (b : Bool) → r ≡ ok_or o e

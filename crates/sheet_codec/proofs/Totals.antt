@@ -2,7 +2,7 @@
 use mathlib.Core.Path.{◌≡◌, ap}
 use Rattle.manager.specs.declared.Answer.{Answer}
 use Rattle.manager.specs.declared.FrameOps.{FrameOps}
-use Rattle.manager.specs.Answers.{FrameOperation, outcome, operation_on, operations_of, first_operation, second_operation}
+use Rattle.manager.specs.Answers.{outcome, operation_on, operations_of, first_operation, second_operation}
 
 -- the two operations, of an answer's operations with their frame
 pub both_operations : {r : FrameOps} (a : Answer) → r ≡ operations_of (outcome a)
