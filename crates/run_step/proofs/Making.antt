@@ -1,16 +1,14 @@
 -- What a call of the machine's tells of a step.
-use Rattle.std.proofs.Common.{◌≡◌, ℕ, ◌≤◌, true, false, List, [], ◌∷◌, get_or, sym, refl, ap, ◌∙◌, subst, arith}
+use Rattle.std.proofs.Common.{◌≡◌, ℕ, List, [], ◌∷◌, get_or, refl, ap, ◌∙◌, subst}
 use Rattle.std.specs.Prelude.{Option, Some}
 use Rattle.board.specs.Board.{board01}
-use Rattle.mapping.specs.declared.MappingList.{MappingList}
-use Rattle.manager.specs.Answers.{Outcome, refused, accepted, outcome}
-use Rattle.machine.specs.State.{State, machine_of, Single, unmap, evict, Answer, Result}
+use Rattle.manager.specs.Answers.{Outcome, refused, accepted}
+use Rattle.machine.specs.State.{State, Single, Answer, Result}
 use Rattle.machine.specs.Step.{result_of, step}
 use Rattle.sheet_codec.specs.declared.Fields.{Fields}
 use Rattle.sheet_codec.specs.declared.Kind.{Kind}
 use Rattle.sheet_codec.specs.Format.{call_of}
 use Rattle.sheet_codec.specs.Text.{word_of, first_word}
-use Rattle.run_step.specs.declared.Told.{Told}
 use Rattle.run_step.specs.Did.{Did}
 
 pub did : {st next : State} {call : Single} {a : Answer} {o : Outcome} {w : Option ℕ} → result_of a next ≡ step board01 st call
@@ -22,24 +20,6 @@ did {call = call} e d f =
       after = ap (λ (r : Result). r.after) e;
       answered = d ∙ ap (λ (r : Result). r.answer.outcome) e;
       shown = f ∙ ap (λ (r : Result). word_of call r.answer) e;
-    }
-
--- the same, where the state and what is told have other names
-pub did_named : {st : State} {call : Single} {l l' : MappingList} {rs rs' ps ps' ms ms' ws ws' ts ts' : List ℕ} {t t' : Told}
-    → rs ≡ rs'
-    → ps ≡ ps'
-    → ms ≡ ms'
-    → ws ≡ ws'
-    → ts ≡ ts'
-    → l ≡ l'
-    → t ≡ t'
-    → Did st call (machine_of l' rs' ps' ms' ws' ts') (outcome t'.answer) t'.shown
-    → Did st call (machine_of l rs ps ms ws ts) (outcome t.answer) t.shown
-did_named rs ps ms ws ts l t d =
-    record {
-      after = (λ i. machine_of (l i) (rs i) (ps i) (ms i) (ws i) (ts i)) ∙ d.after;
-      answered = ap (λ (x : Told). outcome x.answer) t ∙ d.answered;
-      shown = ap (λ (x : Told). x.shown) t ∙ d.shown;
     }
 
 pub first_same : (o : Outcome) (w : ℕ) (l : List ℕ) → w ≡ get_or l 0 0 → first_word o (w ∷ []) ≡ first_word o l

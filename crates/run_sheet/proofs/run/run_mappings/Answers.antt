@@ -1,9 +1,8 @@
 -- `run.run_mappings` meets its contract.
 use mathlib.Core.Path.{refl}
-use native.Mathlib.Omega.{arith}
 use Rattle.sheet_codec.specs.Text.{mapping_line_of}
 use Rattle.run_step.proofs.Making.{did, did_as}
-use Rattle.run_sheet.proofs.Running.{ran_none, ran_next, ran_counted, ran_mapping}
+use Rattle.run_sheet.proofs.Running.{ran_none, ran_next, ran_mapping}
 use Rattle.run_sheet.proofs.run.run_mappings.Goals as goal
 
 pub loop-k-init : goal.loop-k-init

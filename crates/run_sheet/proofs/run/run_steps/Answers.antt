@@ -1,9 +1,5 @@
 -- `run.run_steps` meets its contract.
-use mathlib.Core.Path.{refl, sym, ap, ◌∙◌}
-use native.Mathlib.Omega.{arith}
-use Rattle.std.proofs.Common.{rules}
-use Rattle.board.specs.Board.{board01}
-use Rattle.machine.specs.State.{machine_of}
+use mathlib.Core.Path.{◌∙◌}
 use Rattle.sheet_codec.specs.Text.{step_line_of}
 use Rattle.sheet_codec.proofs.Sheet.{call_at, kind_or}
 use Rattle.run_step.proofs.Making.{did_as, did_kind}

@@ -3,7 +3,7 @@ use Rattle.std.proofs.Common.{◌≡◌, ℕ, length, take, replicate, ap, ◌�
 use lib.ListN.{length-replicate}
 use Rattle.sheet_codec.specs.Format.{sent_word}
 use Rattle.manager.specs.Tables.{tabulate}
-use Rattle.machine.specs.State.{Single, device_write_part}
+use Rattle.machine.specs.State.{device_write_part}
 use Rattle.run_step.proofs.Making.{did, did_as}
 use Rattle.run_step.proofs.steps.device_write_part.Goals as goal
 
