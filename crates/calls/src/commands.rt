@@ -6,6 +6,7 @@ use crate::numbers::Args;
 use crate::slips::Slip;
 use mapping::{BATCH, CAPACITY, Mapping};
 
+// What a line that is not only written asks for.
 #[derive(Clone, Copy)]
 pub enum Command {
     Setting(Setting),
@@ -19,6 +20,7 @@ pub enum Subject {
     Manager,
 }
 
+// What the next calls are made on.
 #[derive(Clone, Copy)]
 pub enum Setting {
     Subject(Subject),
@@ -46,7 +48,7 @@ pub struct Pages {
 }
 
 impl Pages {
-    // One of them.
+    // The mapping of one of them.
     pub fn mapping(self, page: u16) -> Mapping {
         Mapping {
             space: self.space,
@@ -150,6 +152,7 @@ fn parse_setting(word: &str, subject: Subject, args: &mut Args) -> Result<Option
     }))
 }
 
+// The call that a word stands for: of the list, an access, or one of the others.
 fn parse_call(word: &str, subject: Subject, args: &mut Args) -> Result<Call, Slip> {
     Ok(match word {
         "map" => Call::List(ListCall::Map(mapping(args)?)),
@@ -162,6 +165,7 @@ fn parse_call(word: &str, subject: Subject, args: &mut Args) -> Result<Call, Sli
     })
 }
 
+// A device's transfer, in one step or in several, or a call of the machine alone.
 fn of_device(word: &str, subject: Subject, args: &mut Args) -> Result<Call, Slip> {
     Ok(match word {
         "device-read" => Call::Transfer(args.number()?, Transfer::Read),
@@ -182,6 +186,7 @@ fn of_device(word: &str, subject: Subject, args: &mut Args) -> Result<Call, Slip
     })
 }
 
+// A call that the machine has and the manager has not.
 fn of_machine(word: &str, subject: Subject, args: &mut Args) -> Result<MachineCall, Slip> {
     if subject == Subject::Manager {
         return Err(Slip::NoCommand);
@@ -211,6 +216,7 @@ where
     }
 }
 
+// SPACE PAGE, the machine's with OFFSET, and with WORD for a write
 fn parse_access(kind: AccessKind, subject: Subject, args: &mut Args) -> Result<Call, Slip> {
     let space = args.number()?;
     let page = args.number()?;
@@ -248,7 +254,7 @@ fn parse_pages(most: usize, args: &mut Args) -> Result<Pages, Slip> {
     })
 }
 
-// The manager is lent records, protections and answers.
+// R P M W T B A, or R P A: the manager is lent records, protections and answers.
 fn lengths(subject: Subject, args: &mut Args) -> Result<Lengths, Slip> {
     let mut n = Lengths::default();
     n.records = args.up_to(RECORDS)?;

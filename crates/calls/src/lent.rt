@@ -17,6 +17,7 @@ pub const BUFFER: usize = 65;
 
 pub const ANSWERS: usize = 65;
 
+// The buffers.
 #[derive(Clone, Copy)]
 pub struct Lent {
     pub records: [u32; RECORDS],
@@ -40,6 +41,7 @@ pub struct Lengths {
     pub answers: usize,
 }
 
+// One of them.
 #[derive(Clone, Copy, Debug, PartialEq, Eq)]
 pub enum Buffer {
     Records,
@@ -102,6 +104,7 @@ impl Lent {
         manager::start(&mut self.records);
     }
 
+    // Sets a buffer, where the content fits it.
     pub fn set(&mut self, buffer: Buffer, content: Content) -> Result<(), Slip> {
         match buffer {
             Buffer::Records => content.put(&mut self.records),

@@ -22,12 +22,8 @@ use std::fs::File;
 use std::os::fd::AsRawFd;
 use std::rt::Env;
 
-fn main(rt: HostRuntime) -> std::io::Result<()> {
-    scripts(&rt)
-}
-
 // Runs the scripts that the arguments name, each from the start. An argument that does not fit is taken for an empty name.
-fn scripts(rt: &HostRuntime) -> std::io::Result<()> {
+fn main(rt: HostRuntime) -> std::io::Result<()> {
     for i in 1..usize::MAX {
         let mut name = io::buffer();
         let n = match rt.arg(i, &mut name) {
@@ -35,11 +31,12 @@ fn scripts(rt: &HostRuntime) -> std::io::Result<()> {
             Err(FillError::TooLong) => 0,
             Err(FillError::NotPresent) => return Ok(()),
         };
-        script(rt, str::from_utf8(&name[..n]).unwrap_or(""))?;
+        script(&rt, str::from_utf8(&name[..n]).unwrap_or(""))?;
     }
     Ok(())
 }
 
+// Runs a script from the start, and says so where there is none. What ends it before its last line is told there.
 fn script(rt: &HostRuntime, name: &str) -> std::io::Result<()> {
     println!(rt; "{name}")?;
     let mut text = io::large_buffer();

@@ -14,6 +14,7 @@ pub struct Numbers {
 }
 
 impl Numbers {
+    // No numbers.
     pub fn none() -> Numbers {
         Numbers {
             args: [0; ARGS],
@@ -21,6 +22,7 @@ impl Numbers {
         }
     }
 
+    // As many as there are.
     pub fn as_slice(&self) -> &[u64] {
         self.args.get(..self.count).unwrap_or(&self.args)
     }
@@ -45,6 +47,7 @@ pub struct Args<'a> {
 }
 
 impl<'a> Args<'a> {
+    // The numbers of a text, of which none is read yet.
     pub fn new(text: &'a str, called: &'a [u64]) -> Args<'a> {
         Args {
             text: text.trim_start(),
@@ -109,6 +112,7 @@ impl<'a> Args<'a> {
         self.called.get(before).copied().ok_or(Slip::Missing)
     }
 
+    // The next word, of those that spaces part.
     fn word(&mut self) -> Result<&'a str, Slip> {
         let text = self.text;
         if text.is_empty() {

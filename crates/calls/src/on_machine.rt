@@ -36,6 +36,7 @@ pub fn call(rt: &impl Print, s: &mut State, call: Call) -> Result<()> {
     Ok(())
 }
 
+// Makes a call of any kind, and hands back the list that it leaves.
 fn chosen(
     rt: &impl Print,
     call: Call,
@@ -81,6 +82,7 @@ fn listing(
     }
 }
 
+// Accesses.
 fn access(
     rt: &impl Print,
     call: Access,

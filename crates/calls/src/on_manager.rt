@@ -27,6 +27,7 @@ pub fn call(rt: &impl Print, s: &mut State, call: Call) -> Result<()> {
     Ok(())
 }
 
+// Makes a call of any kind that the manager has, and hands back the list that it leaves.
 fn chosen(
     rt: &impl Print,
     call: Call,
@@ -63,6 +64,7 @@ fn listing(
     }
 }
 
+// Accesses.
 fn access(
     rt: &impl Print,
     call: Access,

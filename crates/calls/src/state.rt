@@ -45,7 +45,11 @@ impl State {
             Setting::Keep => self.kept = self.list,
             Setting::Back => self.list = self.kept,
             Setting::Batch(count) => self.batch.count = count,
-            Setting::Item(place, mapping) => self.batch = with_item(self.batch, place, mapping),
+            Setting::Item(place, mapping) => {
+                if let Some(item) = self.batch.items.get_mut(place) {
+                    *item = mapping;
+                }
+            }
             Setting::Items(first) => self.batch = items(first),
         }
         Ok(())
@@ -69,19 +73,12 @@ fn listed(first: Pages) -> MappingList {
     list
 }
 
+// A batch without items.
 fn no_items() -> Batch {
     Batch {
         items: [Mapping::zero(); BATCH],
         count: 0,
     }
-}
-
-fn with_item(batch: Batch, place: usize, mapping: Mapping) -> Batch {
-    let mut next = batch;
-    if let Some(item) = next.items.get_mut(place) {
-        *item = mapping;
-    }
-    next
 }
 
 // The batch of the first pages of a space.

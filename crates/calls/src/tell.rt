@@ -30,6 +30,7 @@ pub fn found(rt: &impl Print, loaded: Loaded) -> Result<()> {
     }
 }
 
+// The answer of another call.
 pub fn told(rt: &impl Print, answer: Answer) -> Result<()> {
     match answer {
         Answer::Refused(n) => refused(rt, n),
@@ -52,10 +53,12 @@ pub fn drawn(rt: &impl Print, look: std::result::Result<Option<Position>, u8>) -
     }
 }
 
+// A refusal, by its number.
 fn refused(rt: &impl Print, number: u8) -> Result<()> {
     print!(rt; " {number}")
 }
 
+// The operations of a call that was not refused.
 fn accepted(rt: &impl Print, operations: FrameOps) -> Result<()> {
     print!(rt; " 0")?;
     operation(rt, operations.frame, operations.ops.first)?;
@@ -74,6 +77,7 @@ fn operation(rt: &impl Print, frame: u8, op: Op) -> Result<()> {
 
 // ---- changes of the list: n, its count, and l, its places with space, page, frame and rights
 
+// The count and the places that are others than before.
 pub fn list_changes(rt: &impl Print, before: &MappingList, after: &MappingList) -> Result<()> {
     if before.count != after.count {
         let count = after.count;
@@ -90,12 +94,14 @@ pub fn list_changes(rt: &impl Print, before: &MappingList, after: &MappingList) 
     Ok(())
 }
 
+// Whether two mappings are equal.
 fn is_same(a: Mapping, b: Mapping) -> bool {
     (a.space, a.page, a.frame, a.rights) == (b.space, b.page, b.frame, b.rights)
 }
 
 // ---- changes of what is lent: the letter, the place or the first and the last of a run of places, and their new value
 
+// The changes of all buffers.
 pub fn changes(rt: &impl Print, before: &Lent, after: &Lent) -> Result<()> {
     changed(rt, 'r', &before.records, &after.records)?;
     changed(rt, 'p', &before.protections, &after.protections)?;
@@ -123,23 +129,19 @@ fn changed<T: Copy + PartialEq + Display>(
 ) -> Result<()> {
     let mut run: Option<Run<T>> = None;
     for (place, (old, new)) in before.iter().zip(after).enumerate() {
-        let value = *new;
-        if *old == value {
-            ended(rt, letter, run)?;
-            run = None;
+        let is_changed = *old != *new;
+        if let Some(r) = &mut run
+            && is_changed
+            && r.value == *new
+        {
+            r.last = place;
             continue;
         }
-        let first = match run {
-            Some(r) if r.value == value => r.first,
-            _ => {
-                ended(rt, letter, run)?;
-                place
-            }
-        };
-        run = Some(Run {
-            first,
+        ended(rt, letter, run)?;
+        run = is_changed.then_some(Run {
+            first: place,
             last: place,
-            value,
+            value: *new,
         });
     }
     ended(rt, letter, run)
