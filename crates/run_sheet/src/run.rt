@@ -137,10 +137,11 @@ fn run_mappings(
     for k in 0..count {
         let m = format::mapping_at(sheet, k);
         let got = machine::map(list, records, protections, memory, words, tags, m);
-        list = got.list;
-        at = text::mapping_line(text, at, k, answers::number_of(got.answer));
-        flushes += answers::flushes_of(got.answer);
-        purges += answers::purges_of(got.answer);
+        let answer = answers::listed(got);
+        list = answers::list_after(list, got);
+        at = text::mapping_line(text, at, k, answers::number_of(answer));
+        flushes += answers::flushes_of(answer);
+        purges += answers::purges_of(answer);
     }
     Progress {
         list,

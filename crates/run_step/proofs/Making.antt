@@ -1,9 +1,10 @@
 -- What a call of the machine's tells of a step.
-use Rattle.std.proofs.Common.{◌≡◌, ℕ, List, [], ◌∷◌, get_or, refl, ap, ◌∙◌, subst}
+use Rattle.std.proofs.Common.{◌≡◌, ℕ, List, [], ◌∷◌, get_or, refl, ap, ◌∙◌, subst, sym}
 use Rattle.std.specs.Prelude.{Option, Some}
 use Rattle.board.specs.Board.{board01}
+use Rattle.mapping.specs.declared.MappingList.{MappingList}
 use Rattle.manager.specs.Answers.{Outcome, refused, accepted}
-use Rattle.machine.specs.State.{State, Single, Answer, Result}
+use Rattle.machine.specs.State.{State, machine_of, Single, Answer, Result}
 use Rattle.machine.specs.Step.{result_of, step}
 use Rattle.sheet_codec.specs.declared.Fields.{Fields}
 use Rattle.sheet_codec.specs.declared.Kind.{Kind}
@@ -25,6 +26,12 @@ did {call = call} e d f =
 pub first_same : (o : Outcome) (w : ℕ) (l : List ℕ) → w ≡ get_or l 0 0 → first_word o (w ∷ []) ≡ first_word o l
 first_same (refused n) w l e = refl
 first_same (accepted f ops) w l e = ap Some e
+
+-- the same state, by another name of its list
+pub did_list : {l l' : MappingList} {st : State} {rs ps ms ws ts : List ℕ} {call : Single} {o : Outcome} {w : Option ℕ} → l ≡ l'
+    → Did st call (machine_of l' rs ps ms ws ts) o w → Did st call (machine_of l rs ps ms ws ts) o w
+did_list {st = st} {rs = rs} {ps = ps} {ms = ms} {ws = ws} {ts = ts} {call = call} {o = o} {w = w} e d =
+    subst (λ (l : MappingList). Did st call (machine_of l rs ps ms ws ts) o w) (sym e) d
 
 -- the same call, by another name
 pub did_as : {st next : State} {c d : Single} {o : Outcome} {w : Option ℕ} → c ≡ d → Did st c next o w → Did st d next o w

@@ -9,20 +9,20 @@ ghost use Rattle.machine.specs.Step.{loaded};
 ghost use Rattle.sheet_codec.specs.Text.{shown_word};
 
 use machine::Loaded;
-use manager::Answer;
+use manager::{FrameOps, Refusal};
 
 // What a step tells: its answer, and the word that it shows.
-#[derive(Clone, Copy)]
+#[derive(Clone, Copy, Debug, PartialEq, Eq)]
 pub struct Told {
-    pub answer: Answer,
+    pub answer: Result<FrameOps, Refusal>,
     pub shown: Option<u32>,
 }
 
-impl From<Answer> for Told {
+impl From<Result<FrameOps, Refusal>> for Told {
     ghost from_gives = { λ a t. (outcome t.answer ≡ outcome a) × (t.shown ≡ None) };
 
     // An answer without a word.
-    fn from(answer: Answer) -> Told {
+    fn from(answer: Result<FrameOps, Refusal>) -> Told {
         Told {
             answer,
             shown: None,
@@ -30,17 +30,20 @@ impl From<Answer> for Told {
     }
 }
 
-impl From<Loaded> for Told {
+impl From<Result<Loaded, Refusal>> for Told {
     ghost from_gives = { λ got t. (outcome t.answer ≡ (loaded got).outcome)
         × (t.shown ≡ shown_word (loaded got).word) };
 
     // What a read, or a word that a device takes, tells.
-    fn from(got: Loaded) -> Told {
+    fn from(got: Result<Loaded, Refusal>) -> Told {
         match got {
-            Loaded::Refused(number) => Told::from(Answer::Refused(number)),
-            Loaded::Word(operations, word) => Told {
-                answer: Answer::Accepted(operations),
+            Ok(Loaded { operations, word }) => Told {
+                answer: Ok(operations),
                 shown: Some(word),
+            },
+            Err(refusal) => Told {
+                answer: Err(refusal),
+                shown: None,
             },
         }
     }

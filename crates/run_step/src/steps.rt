@@ -11,9 +11,9 @@ ghost use Rattle.sheet_codec.specs.Text.{first_word};
 
 use crate::Told;
 use board::BOARD01;
-use manager::Answer;
+use manager::{FrameOps, Refusal};
 use mapping::MappingList;
-use sheet_codec::{Fields, Kind};
+use sheet_codec::{Fields, Kind, answers};
 
 // The most words that a step's field o counts.
 const MOST_SENT: usize = 255;
@@ -135,8 +135,8 @@ pub fn step(
         )),
         Kind::Unmap => {
             let got = machine::unmap(*list, records, protections, memory, words, tags, f.s, f.p);
-            *list = got.list;
-            Told::from(got.answer)
+            *list = answers::list_after(*list, got);
+            Told::from(answers::listed(got))
         }
     }
 }
@@ -237,12 +237,12 @@ fn device_write_part(
 }
 
 // The word of an accepted device read.
-fn first_word(answer: Answer, word: u32) -> Option<u32>
+fn first_word(answer: Result<FrameOps, Refusal>, word: u32) -> Option<u32>
     ensures { result ≡ first_word (outcome answer) (word ∷ []) }
 {
     match answer {
-        Answer::Refused(_) => None,
-        Answer::Accepted(_) => Some(word),
+        Ok(_) => Some(word),
+        Err(_) => None,
     }
 }
 

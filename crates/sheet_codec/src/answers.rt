@@ -1,40 +1,62 @@
 // What is told of an answer: its number, its operations, and how many of them are flushes and purges.
 ghost use Rattle.std.specs.Prelude.{◌≡◌, ◌≤◌};
 ghost use Rattle.manager.specs.Answers.{operations_of, outcome, number_of};
+ghost use Rattle.manager.specs.Calls.{list_outcome, list_left};
 ghost use Rattle.sheet_codec.specs.Totals.{flushes_of, purges_of, Counts};
 
-use manager::{Answer, FrameOps};
+use manager::{FrameOps, Refusal};
+use mapping::MappingList;
 use page_model::Op;
 
 // The refusal's number, or 0.
-pub fn number_of(answer: Answer) -> u8
+pub fn number_of(answer: Result<FrameOps, Refusal>) -> u8
     ensures { result ≡ number_of (outcome answer) }
 {
     match answer {
-        Answer::Refused(number) => number,
-        Answer::Accepted(_) => 0,
+        Ok(_) => 0,
+        Err(refusal) => refusal.number(),
     }
 }
 
 // The operations with their frame: of a refusal none, on frame 0.
-pub fn operations_of(answer: Answer) -> FrameOps
+pub fn operations_of(answer: Result<FrameOps, Refusal>) -> FrameOps
     ensures { result ≡ operations_of (outcome answer) }
 {
     match answer {
-        Answer::Refused(_) => manager::nothing(),
-        Answer::Accepted(operations) => operations,
+        Ok(operations) => operations,
+        Err(_) => manager::nothing(),
+    }
+}
+
+// The answer of a call that changes the list: it has no operations.
+pub fn listed(answer: Result<MappingList, Refusal>) -> Result<FrameOps, Refusal>
+    ensures { outcome result ≡ list_outcome answer }
+{
+    match answer {
+        Ok(_) => Ok(manager::nothing()),
+        Err(refusal) => Err(refusal),
+    }
+}
+
+// The list after such a call: a refusal leaves it.
+pub fn list_after(list: MappingList, answer: Result<MappingList, Refusal>) -> MappingList
+    ensures { result ≡ list_left list answer }
+{
+    match answer {
+        Ok(next) => next,
+        Err(_) => list,
     }
 }
 
 // How many flushes an answer has.
-pub fn flushes_of(answer: Answer) -> u64
+pub fn flushes_of(answer: Result<FrameOps, Refusal>) -> u64
     ensures { (result ≡ flushes_of (outcome answer)) × (result ≤ 2) }
 {
     count_of(answer, |op| matches!(op, Op::Flush(_)))
 }
 
 // How many purges an answer has, those in the instruction cache too.
-pub fn purges_of(answer: Answer) -> u64
+pub fn purges_of(answer: Result<FrameOps, Refusal>) -> u64
     ensures { (result ≡ purges_of (outcome answer)) × (result ≤ 2) }
 {
     count_of(answer, |op| {
@@ -43,7 +65,7 @@ pub fn purges_of(answer: Answer) -> u64
 }
 
 // How many operations of an answer a test picks.
-fn count_of<F: Fn(Op) -> bool>(answer: Answer, picks: F) -> u64
+fn count_of<F: Fn(Op) -> bool>(answer: Result<FrameOps, Refusal>, picks: F) -> u64
     requires { F.IsAlwaysCallable picks }
     ensures { Counts F.post picks (operations_of (outcome answer)).ops result }
 {

@@ -5,7 +5,7 @@ ghost use Rattle.sheet_codec.specs.Put.{Put};
 ghost use Rattle.sheet_codec.specs.Text.{number_bytes, operation_bytes, answer_bytes, line_bytes, dot, decimal, operation_text, word_text, mapping_line, answer_text, step_line, end_line, refused_line};
 
 use crate::answers;
-use manager::{Answer, FrameOps};
+use manager::{FrameOps, Refusal};
 use page_model::Op;
 
 // The room of a line, and of a number in it.
@@ -28,7 +28,13 @@ pub fn mapping_line(text: &mut [u8], at: usize, k: usize, number: u8) -> usize
 }
 
 // The line of a step.
-pub fn step_line(text: &mut [u8], at: usize, k: usize, answer: Answer, shown: Option<u32>) -> usize
+pub fn step_line(
+    text: &mut [u8],
+    at: usize,
+    k: usize,
+    answer: Result<FrameOps, Refusal>,
+    shown: Option<u32>,
+) -> usize
     requires { at + line_bytes ≤ length text.old }
     ensures { Put text.old at (step_line k (outcome answer) shown) line_bytes text.new result }
 {
@@ -77,7 +83,7 @@ impl Line<'_> {
     ghost use Rattle.sheet_codec.specs.Wrote.{Wrote, HasRoom};
 
     // The refusal's number, or 0, and the two operations.
-    fn answer(&mut self, answer: Answer)
+    fn answer(&mut self, answer: Result<FrameOps, Refusal>)
         requires { HasRoom self.old answer_bytes }
         ensures { Wrote self.old (answer_text (outcome answer)) answer_bytes self.new }
     {

@@ -1,7 +1,7 @@
 -- `steps.step` meets its contract: what each kind's call did, from its call back to the kind.
-use Rattle.std.proofs.Common.{ℕ, sym, ap}
+use Rattle.std.proofs.Common.{ℕ, sym, ap, ◌∙◌}
 use Rattle.machine.specs.State.{read, write, fetch, bring_word, take_word, evict}
-use Rattle.run_step.proofs.Making.{did, did_as, did_kind}
+use Rattle.run_step.proofs.Making.{did, did_as, did_kind, did_list}
 use Rattle.run_step.proofs.steps.step.Goals as goal
 
 pub returns-in-Read : goal.returns-in-Read
@@ -71,4 +71,4 @@ pub returns-in-Unmap : goal.returns-in-Unmap
 returns-in-Unmap c =
     let f = c.args.f in
     let told = c.from-in-Unmap.ensures in
-    did_kind f (sym c.in-Unmap.is) (did c.unmap-got.ensures told.0 told.1)
+    did_kind f (sym c.in-Unmap.is) (did_list c.list_after.ensures (did c.unmap-got.ensures (told.0 ∙ c.listed.ensures) told.1))
