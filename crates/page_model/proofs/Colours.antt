@@ -7,7 +7,7 @@ use native.Mathlib.Decide.{dec_lt}
 use native.Mathlib.Omega.{arith}
 use borrow.Author.Tests.{eqb-true, eqb-false, eq-eqb, ne_eqb}
 use lib.Dec.{eqb}
-use Rattle.bits.specs.Mask.{bit, digit, places_of}
+use Rattle.bits.specs.Mask.{width, bit, digit, places_of}
 use Rattle.bits.proofs.Mask.{bit_past, bit_one, at_place, any_one, first_one, places_none, places_one}
 use Rattle.bits.proofs.Tautology.{all4, equal_if, law4, and_left, and_right}
 use Rattle.page_model.specs.declared.FrameRecord.{FrameRecord}
@@ -28,6 +28,17 @@ use Rattle.page_model.proofs.Cells.{Test, Agree, apart, row_cell, next_test, ope
 use Rattle.page_model.proofs.Encoding.{encode_is}
 use Rattle.page_model.proofs.Moving.{moved_of}
 use Rattle.page_model.proofs.Instructions.{instruction_row_lem, not_held, purged_by_fetch}
+
+-- a step that reaches no colour past a board's goes through one that a mask has
+pub below_width : (s : Step) (n : ℕ) → n ≤ width → reach s ≤ n → own_of s < width
+below_width (read c) n l h = omega arith
+below_width (write c) n l h = omega arith
+below_width device_read n l h = omega arith
+below_width device_write n l h = omega arith
+below_width device_write_part n l h = omega arith
+below_width begin_read n l h = omega arith
+below_width begin_write n l h = omega arith
+below_width (fetch c) n l h = omega arith
 
 -- ---- the cells: of the own colour in a state, and of the other colours that are held, by the flag
 

@@ -57,6 +57,7 @@ pub struct Stepped {
 
 impl FrameRecord {
     // Whether the record keeps the rules.
+    #[tactic(auto, using(crate::proofs::Rules::told_colour), unfolding(crate::specs::Record::keeps_rules))]
     pub fn keeps_rules(self, colours: usize) -> bool
         requires { colours ≤ width }
         ensures { result ≡ keeps_rules colours self }
@@ -68,6 +69,7 @@ impl FrameRecord {
     }
 
     // Whether the masks for instructions keep the rules, with none held beside a dirty colour, nor while a device writes.
+    #[tactic(auto, unfolding(crate::specs::Record::instructions_keep_rules))]
     fn instructions_keep_rules(self, colours: usize) -> bool
         requires { colours ≤ width }
         ensures { result ≡ instructions_keep_rules colours self }
@@ -77,6 +79,7 @@ impl FrameRecord {
     }
 
     // Whether no bit is past the colours, none in both masks, the flag 0 or 1, and with the flag set exactly one held bit.
+    #[tactic(auto, using(crate::proofs::Rules::rules_are))]
     fn colours_keep_rules(self, colours: usize) -> bool
         requires { colours ≤ width }
         ensures { result ≡ colours_keep_rules colours self }
@@ -102,6 +105,7 @@ impl FrameRecord {
     // held, which are all present or the one dirty, those that are stale and those that are empty. In every row none of the others but the dirty one
     // has an operation, and none is dirty afterwards. A transfer goes through no colour, and its cells do not look at one. For instructions the
     // colours go by the same classes, and in every row none but the own one has an operation.
+    #[tactic(auto, using(crate::proofs::Colours::below_width))]
     pub fn step(self, step: Step, colours: usize) -> Stepped
         requires { (colours ≤ width) × (reach (step_of step) ≤ colours) }
         ensures { keeps_rules colours self ≡ true → result ≡ stepped colours (step_of step) self }
@@ -215,6 +219,7 @@ impl FrameRecord {
     }
 
     // A colour's state, in any record.
+    #[tactic(auto, unfolding(crate::specs::Record::state_of))]
     fn state(self, colour: usize) -> ColourState
         requires { colour < width }
         ensures { state_of_code result ≡ state_of self colour }

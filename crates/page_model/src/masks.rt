@@ -31,6 +31,7 @@ pub struct Classes {
 
 impl Masks {
     // Whether no bit is past the colours, and none in both masks.
+    #[tactic(auto, using(crate::proofs::Moving::masks_are))]
     pub fn keep_rules(self, colours: usize) -> bool
         requires { colours ≤ width }
         ensures { result ≡ masks_keep_rules colours self }
@@ -53,6 +54,7 @@ impl Masks {
     }
 
     // The masks after each class of colours went to its state. A colour that is in both masks counts as stale.
+    #[tactic(auto, using(crate::proofs::Moving::moved_is))]
     pub fn moved(self, colours: usize, colour: usize, to: Classes) -> Masks
         requires { (colours ≤ width) × (colour < width) }
         ensures { result ≡ moved colours colour to self }

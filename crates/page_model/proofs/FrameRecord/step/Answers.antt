@@ -1,10 +1,9 @@
 -- `page_model::FrameRecord::step` meets its contract.
 use mathlib.Core.Path.{◌≡◌, refl, sym, ap, ◌∙◌}
 use mathlib.Core.Bool.{Bool, cond}
-use Prim.Native.Nat.{ℕ, ◌≤◌, ◌<◌}
-use native.Mathlib.Omega.{arith}
+use Prim.Native.Nat.{ℕ}
 use lib.Dec.{eqb}
-use Rattle.bits.specs.Mask.{width, digit}
+use Rattle.bits.specs.Mask.{digit}
 use Rattle.page_model.specs.declared.masks.MaskState.{MaskState}
 use Rattle.page_model.specs.declared.masks.MaskState.TheVariants.{Empty, Held, Stale}
 use Rattle.page_model.specs.declared.Op.{Op}
@@ -14,22 +13,11 @@ use Rattle.page_model.specs.Instructions.{InstructionCell}
 use Rattle.page_model.specs.Record.{state_of, instruction_state_of, is_dirty}
 use Rattle.page_model.specs.Step.{op_list, first_two}
 use Rattle.page_model.specs.Masks.{moved}
-use Rattle.page_model.specs.Table.{Cell, own, other, Step, read, write, device_read, device_write, device_write_part, begin_read, begin_write, fetch, own_of, reach}
+use Rattle.page_model.specs.Table.{Cell, own, other, own_of}
 use Rattle.page_model.proofs.Rules.{keeps}
 use Rattle.page_model.proofs.Colours.{step_record, step_is}
 use Rattle.page_model.proofs.FrameRecord.step.Goals as goal
 use Rattle.page_model.proofs.FrameRecord.step.Goals.{then-dirty, else-dirty}
-
--- a step that reaches no colour past a board's goes through one that a mask has
-own_below : (s : Step) (n : ℕ) → n ≤ width → reach s ≤ n → own_of s < width
-own_below (read c) n l h = omega arith
-own_below (write c) n l h = omega arith
-own_below device_read n l h = omega arith
-own_below device_write n l h = omega arith
-own_below device_write_part n l h = omega arith
-own_below begin_read n l h = omega arith
-own_below begin_write n l h = omega arith
-own_below (fetch c) n l h = omega arith
 
 -- the operation that stands last
 last_one : (o : Op) → record { first = o; second = None } ≡ first_two (op_list o)
@@ -43,22 +31,6 @@ from_instruction : (m : MaskState) → m ≡ code_instruction (instruction_of_co
 from_instruction Empty = refl
 from_instruction Held = refl
 from_instruction Stale = refl
-
-pub state-requires-2 : goal.state-requires-2
-state-requires-2 c = let a = c.args in omega (arith, c.colour-colour.ensures, own_below (step_of a.step) a.colours c.requires.0 c.requires.1)
-
-pub moved-requires : goal.moved-requires
-moved-requires c = let a = c.args in (c.requires.0, omega (arith, c.colour-colour.ensures, own_below (step_of a.step) a.colours c.requires.0 c.requires.1))
-
-pub overflow_cast-next : goal.overflow_cast-next
-overflow_cast-next c =
-    let a = c.args in
-    let l = own_below (step_of a.step) a.colours c.requires.0 c.requires.1 in
-    let given = c.requires.0 in
-    elim c.if-dirty.branch [ then-dirty w ↦ omega (arith, c.colour-colour.ensures) | else-dirty w ↦ omega arith ]
-
-pub instructions_after-requires : goal.instructions_after-requires
-instructions_after-requires c = let a = c.args in (c.requires.0, omega (arith, c.colour-colour.ensures, own_below (step_of a.step) a.colours c.requires.0 c.requires.1))
 
 pub returns : goal.returns
 unfolding state_of instruction_state_of
