@@ -12,17 +12,19 @@ use Rattle.bits.proofs.Mask.{all_at}
 use Rattle.bits.proofs.Tautology.{and_left, and_right}
 use Rattle.board.specs.declared.Board.{Board}
 use Rattle.page_model.specs.Record as frame_record
+use Rattle.mapping.specs.declared.Mapping.{Mapping}
 use Rattle.mapping.specs.declared.MappingList.{MappingList}
 use Rattle.mapping.specs.Entry.{capacity}
 use Rattle.mapping.specs.declared.Seen.{Seen}
-use Rattle.std.specs.Prelude.{Option, Some, None, is_some}
+use Rattle.std.specs.Prelude.{Option, Some, None, is_some, MatchOption}
 use Rattle.mapping.specs.Facts.{InRange, Rules, FoundAt}
 use Rattle.mapping.specs.Look.{find, look}
 use Rattle.mapping.specs.Lookup.{lookup, is_mapped, place_of, listed_mapping, place_for}
 use Rattle.mapping.specs.Rules as list_of
-use Rattle.mapping.proofs.Laws.{keeps_rules_true, lookup_at, found_place, look_kept, look_broken}
-use Rattle.manager.specs.Refusals.{Cause, first_refusal, or_else, table_causes, page_causes, frame_cause}
-use Rattle.manager.specs.Scaffold.Told.{told_tables}
+use Rattle.mapping.proofs.Laws.{keeps_rules_true, lookup_at, found_place, look_kept, look_broken, find_mapped, find_listed}
+use Rattle.manager.specs.Refusals.{Cause, ◌if◌, first_refusal, or_else, table_causes, page_causes, mapping_causes, space_cause, frame_cause, rights_cause, unmapped_cause, full_cause}
+use Rattle.manager.specs.Scaffold.Told.{told_tables, told_by, told_mapping, told_page, told_rights, told_access}
+use Rattle.manager.specs.declared.AccessKind.{AccessKind}
 use Rattle.manager.specs.Tables.{Tables, tables, record_words, record_at, records_keep_rules, lengths_right, rules_kept}
 
 -- ---- the lent tables
@@ -160,37 +162,57 @@ pub told_tables_lem : (b : Board) (l : MappingList) (rs ps : List ℕ) {kept : B
 unfolding first_refusal told_tables table_causes lengths_right rules_kept
 told_tables_lem b l rs ps long e = rw (eq-eqb _ _ long, e)
 
-module _ (b : Board) (l : MappingList) (s p : ℕ) {seen : Seen} (told : seen ≡ look b l s p) where
-  told_kept : seen.kept ≡ list_of.keeps_rules b l
-  told_kept = ap (λ (x : Seen). x.kept) told ∙ go (list_of.keeps_rules b l) refl
+module _ (b : Board) (l : MappingList) (s p : ℕ) {seen : Option Seen} (told : seen ≡ look b l s p) where
+  told_kept : is_some seen ≡ list_of.keeps_rules b l
+  told_kept = ap (λ (x : Option Seen). is_some x) told ∙ go (list_of.keeps_rules b l) refl
     where
-      go : (t : Bool) → list_of.keeps_rules b l ≡ t → (look b l s p).kept ≡ t
-      go true e = ap (λ (x : Seen). x.kept) (look_kept b l s p e)
-      go false e = ap (λ (x : Seen). x.kept) (look_broken b l s p e)
+      go : (t : Bool) → list_of.keeps_rules b l ≡ t → is_some (look b l s p) ≡ t
+      go true e = ap (λ (x : Option Seen). is_some x) (look_kept b l s p e)
+      go false e = ap (λ (x : Option Seen). is_some x) (look_broken b l s p e)
 
-  pub told_found : list_of.keeps_rules b l ≡ true → seen ≡ find l s p
+  pub told_found : list_of.keeps_rules b l ≡ true → seen ≡ Some (find l s p)
   told_found kept = told ∙ look_kept b l s p kept
 
   -- the refusal by what was told is that of the tables
-  pub told_rest : (rs ps : List ℕ) (own : Seen → List Cause) → length l.items ≡ capacity
-      → first_refusal (told_tables b seen.kept rs ps ++ own seen) ≡ first_refusal (table_causes b (tables l rs ps) ++ own (find l s p))
+  pub told_rest : (rs ps : List ℕ) (own : Seen → List Cause) {causes : List Cause} → length l.items ≡ capacity → own (find l s p) ≡ causes
+      → first_refusal (told_tables b (is_some seen) rs ps ++ told_by own seen) ≡ first_refusal (table_causes b (tables l rs ps) ++ causes)
   unfolding told_tables table_causes
-  told_rest rs ps own long = go (first_refusal (told_tables b seen.kept rs ps)) refl
+  told_rest rs ps own {causes} long same_own =
+      go (first_refusal (told_tables b (is_some seen) rs ps)) refl
     where
-      same : first_refusal (told_tables b seen.kept rs ps) ≡ first_refusal (table_causes b (tables l rs ps))
+      same : first_refusal (told_tables b (is_some seen) rs ps) ≡ first_refusal (table_causes b (tables l rs ps))
       same = told_tables_lem b l rs ps long told_kept
 
-      go : (n : ℕ) → first_refusal (told_tables b seen.kept rs ps) ≡ n
-          → first_refusal (told_tables b seen.kept rs ps ++ own seen) ≡ first_refusal (table_causes b (tables l rs ps) ++ own (find l s p))
+      go : (n : ℕ) → first_refusal (told_tables b (is_some seen) rs ps) ≡ n
+          → first_refusal (told_tables b (is_some seen) rs ps ++ told_by own seen) ≡ first_refusal (table_causes b (tables l rs ps) ++ causes)
       go zero e =
           let none = sym same ∙ e in
-          sym (refusal_rest (told_tables b seen.kept rs ps) (own seen) refl e)
-          ∙ ap (λ (x : Seen). first_refusal (own x)) (told_found (list_keeps b (tables l rs ps) (tables_clear b (tables l rs ps) none).1))
-          ∙ refusal_rest (table_causes b (tables l rs ps)) (own (find l s p)) refl none
+          sym (refusal_rest (told_tables b (is_some seen) rs ps) (told_by own seen) refl e)
+          ∙ ap (λ (x : Option Seen). first_refusal (told_by own x)) (told_found (list_keeps b (tables l rs ps) (tables_clear b (tables l rs ps) none).1))
+          ∙ ap (λ (cs : List Cause). first_refusal cs) same_own
+          ∙ refusal_rest (table_causes b (tables l rs ps)) causes refl none
       go (suc n) e =
-          sym (refusal_prefix (told_tables b seen.kept rs ps) (own seen) (λ z. omega arith))
+          sym (refusal_prefix (told_tables b (is_some seen) rs ps) (told_by own seen) (λ z. omega arith))
           ∙ same
-          ∙ refusal_prefix (table_causes b (tables l rs ps)) (own (find l s p)) (λ z. let w = sym same ∙ e in omega arith)
+          ∙ refusal_prefix (table_causes b (tables l rs ps)) causes (λ z. let w = sym same ∙ e in omega arith)
+
+-- what was told, case by case
+pub told_from : (seen : Option Seen) (own : Seen → List Cause) {n : ℕ} → MatchOption seen (n ≡ 0) (λ x. n ≡ first_refusal (own x)) → n ≡ first_refusal (told_by own seen)
+unfolding first_refusal
+told_from (Some x) own e = e
+told_from None own e = e
+
+-- the causes in what a look tells are those of the list
+module _ (l : MappingList) (s p : ℕ) where
+  pub told_mapping_is : (b : Board) (f r : ℕ) → told_mapping b s p f r (find l s p) ≡ mapping_causes b l s p f r
+  told_mapping_is b f r = ap (λ (t : Bool). space_cause s p ∷ frame_cause b f ∷ rights_cause r ∷ (7 if t) ∷ full_cause l ∷ []) (find_mapped l s p)
+
+  pub told_page_is : told_page s p (find l s p) ≡ space_cause s p ∷ unmapped_cause l s p ∷ []
+  told_page_is = ap (λ (t : Bool). space_cause s p ∷ (8 if not t) ∷ []) (find_mapped l s p)
+
+  pub told_access_is : length l.items ≡ capacity → (kind : AccessKind) → told_access kind s p (find l s p) ≡ space_cause s p ∷ unmapped_cause l s p ∷ told_rights kind (listed_mapping l s p).rights
+  told_access_is long kind =
+      ap₂ (λ (t : Bool) (m : Mapping). space_cause s p ∷ (8 if not t) ∷ told_rights kind m.rights) (find_mapped l s p) (find_listed l s p (omega arith))
 
 -- and of a transfer, whose own causes are not the list's
 pub told_own : (b : Board) (l : MappingList) (rs ps : List ℕ) (own : List Cause) {kept : Bool} → length l.items ≡ capacity → kept ≡ list_of.keeps_rules b l

@@ -1,7 +1,7 @@
 -- The plan of a step of a frame's record, by the causes that are tested before the frame's mark, and by the mark; the plan of an access; and a call
 -- without orders.
 use mathlib.Core.Path.{◌≡◌, refl, sym, ap, ap₂, ◌∙◌}
-use mathlib.Core.Bool.{Bool, true, cond}
+use mathlib.Core.Bool.{Bool, true, cond, false≢true}
 use mathlib.Core.List.{List, [], ◌∷◌, ◌++◌}
 use Prim.Native.Nat.{ℕ, zero, suc}
 use lib.ListN.{length}
@@ -13,22 +13,30 @@ use Rattle.page_model.specs.Busy.{bars}
 use Rattle.page_model.specs.Record.{keeps_rules}
 use Rattle.page_model.specs.Step.{stepped}
 use Rattle.page_model.specs.Table.{Step, read, write, fetch}
+use Rattle.mapping.specs.declared.Mapping.{Mapping}
 use Rattle.mapping.specs.declared.MappingList.{MappingList}
 use Rattle.mapping.specs.declared.Seen.{Seen}
-use Rattle.mapping.specs.Entry.{capacity}
+use Rattle.mapping.specs.Entry.{capacity, zero_mapping}
+use Rattle.std.specs.Prelude.{Option, Some, None, is_some, unwrap_or, option_and_then}
+use native.Mathlib.Omega.{arith}
+use borrow.Author.Tests.{not-false}
 use Rattle.mapping.specs.Look.{find, look}
-use Rattle.mapping.specs.Lookup.{listed_mapping}
+use Rattle.mapping.specs.Lookup.{is_mapped, listed_mapping, place_for}
+use Rattle.mapping.proofs.Laws.{find_mapped, find_listed}
 use Rattle.manager.specs.declared.AccessKind.{AccessKind}
 use Rattle.manager.specs.declared.AccessKind.TheVariants.{Read, Write, Fetch}
 use Rattle.manager.specs.declared.Change.{Change}
+use Rattle.manager.specs.declared.ListPlan.TheVariants as list_plan
 use Rattle.manager.specs.declared.Plan.TheVariants as step_plan
-use Rattle.manager.specs.Calls.{planned, change_of, plan_access, call_result, no_ops, plain_result}
+use Rattle.std.proofs.lemmas.Option.{none-some, same_Some}
+use Rattle.manager.specs.Calls.{placed, planned, change_of, plan_access, call_result, no_ops, plain_result}
 use Rattle.manager.specs.Answers as answer
 use Rattle.manager.specs.Answers.{Outcome, accepted}
-use Rattle.manager.specs.Refusals.{Cause, first_refusal, busy_cause, table_causes, page_causes, read_causes, write_causes, fetch_causes}
-use Rattle.manager.specs.Scaffold.Told.{told_tables, told_rights, told_access}
+use Rattle.manager.specs.Refusals.{Cause, space_cause, unmapped_cause, first_refusal, busy_cause, table_causes, page_causes, read_causes, write_causes, fetch_causes}
+use Rattle.manager.specs.Scaffold.Told.{told_tables, told_by, told_rights, told_access}
 use Rattle.manager.specs.Tables.{Tables, tables, record_at}
-use Rattle.manager.proofs.CauseLaws.{numbered, refusal_prefix, refusal_rest, told_found, told_rest, call_list_keeps, page_rules}
+use Rattle.manager.proofs.Laws.{placed_refused}
+use Rattle.manager.proofs.CauseLaws.{numbered, refusal_prefix, refusal_rest, told_found, told_rest, told_access_is, cleared_in, call_list_keeps, page_rules}
 
 refused : (n : ℕ) (change : Change) → (n ≡ 0 → ⊥) → step_plan.Refused n ≡ planned n change
 refused zero change h = absurd (h refl)
@@ -56,9 +64,12 @@ access_step Read colour = read colour
 access_step Write colour = write colour
 access_step Fetch colour = fetch colour
 
--- what is tested before the frame's mark
+-- what is tested of the page and its rights, and of all before the frame's mark
+abbrev access_causes : MappingList → ℕ → ℕ → AccessKind → List Cause
+access_causes l space page kind = space_cause space page ∷ unmapped_cause l space page ∷ told_rights kind (listed_mapping l space page).rights
+
 abbrev before_mark : Board → Tables → ℕ → ℕ → AccessKind → List Cause
-before_mark b t space page kind = table_causes b t ++ told_access kind space page (find t.list space page)
+before_mark b t space page kind = table_causes b t ++ access_causes t.list space page kind
 
 access_plan : (b : Board) (t : Tables) (space page : ℕ) (kind : AccessKind)
     → let f = (listed_mapping t.list space page).frame in
@@ -74,24 +85,36 @@ rights_numbered Read rights = refl
 rights_numbered Write rights = refl
 rights_numbered Fetch rights = refl
 
-access_numbered : (kind : AccessKind) (space page : ℕ) (seen : Seen) → numbered (told_access kind space page seen) ≡ true
-access_numbered Read space page seen = refl
-access_numbered Write space page seen = refl
-access_numbered Fetch space page seen = refl
+access_numbered : (kind : AccessKind) (l : MappingList) (space page : ℕ) → numbered (access_causes l space page kind) ≡ true
+access_numbered Read l space page = refl
+access_numbered Write l space page = refl
+access_numbered Fetch l space page = refl
 
-module _ (b : Board) (l : MappingList) (rs ps : List ℕ) (space page : ℕ) (kind : AccessKind) {seen : Seen} {n : ℕ} (looked : seen ≡ look b l space page)
-    (long : length l.items ≡ capacity) (told : n ≡ first_refusal (told_tables b seen.kept rs ps ++ told_access kind space page seen)) where
+module _ (b : Board) (l : MappingList) (rs ps : List ℕ) (space page : ℕ) (kind : AccessKind) {seen : Option Seen} {n : ℕ} (looked : seen ≡ look b l space page)
+    (long : length l.items ≡ capacity) (told : n ≡ first_refusal (told_tables b (is_some seen) rs ps ++ told_by (told_access kind space page) seen)) where
   refusal : n ≡ first_refusal (before_mark b (tables l rs ps) space page kind)
-  refusal = told ∙ told_rest b l _ _ looked rs ps (told_access kind space page) long
+  refusal = told ∙ told_rest b l _ _ looked rs ps (told_access kind space page) long (told_access_is l space page long kind)
+
+  -- the mapping that was told, where none of these refuses
+  found : n ≡ 0 → seen ≡ Some (find l space page)
+  found none = told_found b l _ _ looked (call_list_keeps b (tables l rs ps) (access_causes l space page kind) (access_numbered kind l space page) (sym refusal ∙ none))
+
+  pub access_listed : n ≡ 0 → option_and_then (λ (x : Seen). x.mapping) seen ≡ None → ⊥
+  unfolding table_causes
+  access_listed none e =
+      let at = ap (λ (x : Option Seen). option_and_then (λ (x : Seen). x.mapping) x) (found none) in
+      let mapped = not-false (is_mapped l space page) (cleared_in (before_mark b (tables l rs ps) space page kind) 8 (access_numbered kind l space page) (sym refusal ∙ none)) in
+      false≢true (ap (λ (x : Option Mapping). is_some x) (sym e ∙ at) ∙ find_mapped l space page ∙ mapped)
 
   pub access_refused : (n ≡ 0 → ⊥) → step_plan.Refused n ≡ plan_access b (tables l rs ps) space page kind
   access_refused h = planned_first (before_mark b (tables l rs ps) space page kind) _ _ refusal h ∙ access_plan b (tables l rs ps) space page kind
 
   -- past these refusals: the record that was read is that of the page's frame, it keeps the rules, and its mark decides
-  module _ (none : n ≡ 0) {r : FrameRecord} (at : r ≡ record_at rs seen.mapping.frame) where
-    frame : seen.mapping.frame ≡ (listed_mapping l space page).frame
+  module _ (none : n ≡ 0) {m : Mapping} (here : option_and_then (λ (x : Seen). x.mapping) seen ≡ Some m) {r : FrameRecord} (at : r ≡ record_at rs m.frame) where
+    frame : m.frame ≡ (listed_mapping l space page).frame
     frame =
-        ap (λ (x : Seen). x.mapping.frame) (told_found b l _ _ looked (call_list_keeps b (tables l rs ps) (told_access kind space page (find l space page)) (access_numbered kind space page (find l space page)) (sym refusal ∙ none)))
+        ap (λ (x : Option Mapping). (unwrap_or x zero_mapping).frame) (sym here ∙ ap (λ (x : Option Seen). option_and_then (λ (x : Seen). x.mapping) x) (found none))
+        ∙ ap (λ (x : Mapping). x.frame) (find_listed l space page (omega arith))
 
     same : r ≡ record_at rs (listed_mapping l space page).frame
     same = at ∙ ap (λ (f : ℕ). record_at rs f) frame
@@ -103,12 +126,35 @@ module _ (b : Board) (l : MappingList) (rs ps : List ℕ) (space page : ℕ) (ki
 
     pub access_planned : {barred : Bool} {w : AccessKind} {made : Stepped} {k : ℕ} → kind ≡ w → k ≡ colour_of b page → barred ≡ bars r.busy (access_step w (colour_of b page))
         → made ≡ stepped b.colours (access_step w k) r
-        → planned (cond barred 15 0) (record { frame = seen.mapping.frame; next = made.next; ops = made.ops }) ≡ plan_access b (tables l rs ps) space page kind
+        → planned (cond barred 15 0) (record { frame = m.frame; next = made.next; ops = made.ops }) ≡ plan_access b (tables l rs ps) space page kind
     unfolding table_causes
     access_planned w c eb em =
-        planned_barred b (tables l rs ps) (before_mark b (tables l rs ps) space page kind) (listed_mapping l space page).frame (access_step kind (colour_of b page)) (access_numbered kind space page (find l space page)) (sym refusal ∙ none)
+        planned_barred b (tables l rs ps) (before_mark b (tables l rs ps) space page kind) (listed_mapping l space page).frame (access_step kind (colour_of b page)) (access_numbered kind l space page) (sym refusal ∙ none)
         (eb ∙ (λ i. bars (same i).busy (access_step (sym w i) (colour_of b page)))) frame (em ∙ (λ i. stepped b.colours (access_step (sym w i) (c i)) (same i)))
         ∙ access_plan b (tables l rs ps) space page kind
+
+-- ---- a place in the list by one look at it
+
+module _ (b : Board) (l : MappingList) (rs ps : List ℕ) (space page : ℕ) {seen : Option Seen} {n : ℕ} (own : Seen → List Cause) {causes : List Cause}
+    (numbered_own : numbered causes ≡ true) (same_own : own (find l space page) ≡ causes) (looked : seen ≡ look b l space page) (long : length l.items ≡ capacity)
+    (told : n ≡ first_refusal (told_tables b (is_some seen) rs ps ++ told_by own seen)) where
+  pub place_refusal : n ≡ first_refusal (table_causes b (tables l rs ps) ++ causes)
+  place_refusal = told ∙ told_rest b l _ _ looked rs ps own long same_own
+
+  place_seen : n ≡ 0 → seen ≡ Some (find l space page)
+  place_seen none = told_found b l _ _ looked (call_list_keeps b (tables l rs ps) causes numbered_own (sym place_refusal ∙ none))
+
+  pub place_refused : (place : ℕ) → (n ≡ 0 → ⊥) → list_plan.Refused n ≡ placed (first_refusal (table_causes b (tables l rs ps) ++ causes)) place
+  place_refused place h = placed_refused n place h ∙ ap (λ (k : ℕ). placed k place) place_refusal
+
+  -- nothing is told where the list breaks its rules, so that is refused
+  pub place_untold : seen ≡ None → n ≡ 0 → ⊥
+  place_untold e none = none-some _ (sym e ∙ place_seen none)
+
+  pub place_found : (x : Seen) → seen ≡ Some x → n ≡ 0 → list_plan.Place x.place ≡ placed (first_refusal (table_causes b (tables l rs ps) ++ causes)) (place_for l space page)
+  place_found x e none =
+      ap (λ (y : Seen). list_plan.Place y.place) (same_Some _ _ (sym e ∙ place_seen none))
+      ∙ ap (λ (k : ℕ). placed k (place_for l space page)) (sym none ∙ place_refusal)
 
 -- ---- a call without orders
 

@@ -31,6 +31,9 @@ pub fn plan_map(
     if refusal != 0 {
         return ListPlan::Refused(refusal);
     }
+    let Some(seen) = seen else {
+        return ListPlan::Refused(refusal);
+    };
     ListPlan::Place(seen.place)
 }
 
@@ -51,6 +54,9 @@ pub fn plan_unmap(
     if refusal != 0 {
         return ListPlan::Refused(refusal);
     }
+    let Some(seen) = seen else {
+        return ListPlan::Refused(refusal);
+    };
     ListPlan::Place(seen.place)
 }
 
@@ -58,7 +64,7 @@ pub fn plan_unmap(
 // itself is not handed on: that would copy it once more.
 pub fn plan_access(
     board: Board,
-    seen: Seen,
+    seen: Option<Seen>,
     records: &[u32],
     protections: &[u8],
     space: u8,
@@ -73,7 +79,10 @@ pub fn plan_access(
     if refusal != 0 {
         return Plan::Refused(refusal);
     }
-    let frame = seen.mapping.frame;
+    let Some(m) = seen.and_then(|seen| seen.mapping) else {
+        return Plan::Refused(refusal);
+    };
+    let frame = m.frame;
     let colour = board::colour_of(board, page as usize);
     let record = record_at(records, frame);
     match kind {

@@ -1,8 +1,8 @@
-// The refusal of each call: the number of the first cause that applies, or 0. Where a function takes `seen`, that is what a look at the list told of the call's page; `kept` says whether the list keeps its rules.
-ghost use Rattle.std.specs.Prelude.{cond, [], ◌∷◌, ◌++◌, ◌≡◌};
+// The refusal of each call: the number of the first cause that applies, or 0. Where a function takes `seen`, that is what a look at the list told of the call's page, nothing where the list breaks its rules; `kept` says whether the list keeps its rules.
+ghost use Rattle.std.specs.Prelude.{cond, [], ◌∷◌, ◌++◌, ◌≡◌, is_some};
 ghost use Rattle.board.specs.Board.{Regular};
 ghost use Rattle.manager.specs.Refusals.{first_refusal, or_else, refusal_place, frame_cause, part_cause, offset_cause, word_cause, end_cause, out_of_space, out_of_page};
-ghost use Rattle.manager.specs.Scaffold.Told.{told_tables, told_mapping, told_page, told_rights, told_access};
+ghost use Rattle.manager.specs.Scaffold.Told.{told_tables, told_by, told_mapping, told_page, told_rights, told_access};
 
 use super::AccessKind;
 use super::records::{RECORD_WORDS, record_at, records_keep_rules};
@@ -50,13 +50,19 @@ pub fn tables_refusal(board: Board, kept: bool, records: &[u32], protections: &[
 }
 
 // The refusal of `map`.
-pub fn map_refusal(board: Board, seen: Seen, records: &[u32], protections: &[u8], m: Mapping) -> u8
+pub fn map_refusal(
+    board: Board,
+    seen: Option<Seen>,
+    records: &[u32],
+    protections: &[u8],
+    m: Mapping,
+) -> u8
     requires { Regular board }
-    ensures { result ≡ first_refusal (told_tables board seen.kept records.now protections.now ++ told_mapping board m.space m.page m.frame m.rights seen) }
+    ensures { result ≡ first_refusal (told_tables board (is_some seen) records.now protections.now ++ told_by (told_mapping board m.space m.page m.frame m.rights) seen) }
 {
     or_else(
-        tables_refusal(board, seen.kept, records, protections),
-        mapping_refusal(board, seen, m),
+        tables_refusal(board, seen.is_some(), records, protections),
+        seen.map_or(0, |seen| mapping_refusal(board, seen, m)),
     )
 }
 
@@ -65,7 +71,7 @@ pub fn mapping_refusal(board: Board, seen: Seen, m: Mapping) -> u8
     ensures { result ≡ first_refusal (told_mapping board m.space m.page m.frame m.rights seen) }
 {
     let full = first(seen.count == mapping::CAPACITY, 9, 0);
-    let mapped = first(seen.mapped, 7, full);
+    let mapped = first(seen.mapping.is_some(), 7, full);
     let rights = first(!mapping::is_rights(m.rights), 5, mapped);
     let frame = first(m.frame as usize >= board.frames, 4, rights);
     first(out_of_space(m.space, m.page), 3, frame)
@@ -74,26 +80,33 @@ pub fn mapping_refusal(board: Board, seen: Seen, m: Mapping) -> u8
 // The refusal of `unmap`.
 pub fn page_refusal(
     board: Board,
-    seen: Seen,
+    seen: Option<Seen>,
     records: &[u32],
     protections: &[u8],
     space: u8,
     page: u16,
 ) -> u8
     requires { Regular board }
-    ensures { result ≡ first_refusal (told_tables board seen.kept records.now protections.now ++ told_page space page seen) }
+    ensures { result ≡ first_refusal (told_tables board (is_some seen) records.now protections.now ++ told_by (told_page space page) seen) }
 {
-    let unmapped = first(!seen.mapped, 8, 0);
     or_else(
-        tables_refusal(board, seen.kept, records, protections),
-        first(out_of_space(space, page), 3, unmapped),
+        tables_refusal(board, seen.is_some(), records, protections),
+        seen.map_or(0, |seen| listed_refusal(seen, space, page)),
     )
+}
+
+// The refusal of a page in its numbers and the list, where all that is lent is as it should be.
+fn listed_refusal(seen: Seen, space: u8, page: u16) -> u8
+    ensures { result ≡ first_refusal (told_page space page seen) }
+{
+    let unmapped = first(seen.mapping.is_none(), 8, 0);
+    first(out_of_space(space, page), 3, unmapped)
 }
 
 // The refusal of an access of the processor but for the frame's busy mark.
 pub fn access_refusal(
     board: Board,
-    seen: Seen,
+    seen: Option<Seen>,
     records: &[u32],
     protections: &[u8],
     space: u8,
@@ -101,11 +114,21 @@ pub fn access_refusal(
     kind: AccessKind,
 ) -> u8
     requires { Regular board }
-    ensures { result ≡ first_refusal (told_tables board seen.kept records.now protections.now ++ told_access kind space page seen) }
+    ensures { result ≡ first_refusal (told_tables board (is_some seen) records.now protections.now ++ told_by (told_access kind space page) seen) }
 {
     or_else(
-        page_refusal(board, seen, records, protections, space, page),
-        rights_refusal(kind, seen.mapping.rights),
+        tables_refusal(board, seen.is_some(), records, protections),
+        seen.map_or(0, |seen| allowed_refusal(seen, space, page, kind)),
+    )
+}
+
+// The refusal of an access in its page and the rights of its mapping, where all that is lent is as it should be.
+fn allowed_refusal(seen: Seen, space: u8, page: u16, kind: AccessKind) -> u8
+    ensures { result ≡ first_refusal (told_access kind space page seen) }
+{
+    or_else(
+        listed_refusal(seen, space, page),
+        rights_refusal(kind, seen.mapping.unwrap_or_default().rights),
     )
 }
 

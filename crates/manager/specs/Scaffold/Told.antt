@@ -1,9 +1,10 @@
 -- The causes of refusal as the code tests them, by what one look at the list told: where that was a look at this list, they are those of `Refusals`
 -- (`told-rest`).
-use Rattle.std.specs.Prelude.{Bool, not, ◌&&◌, List, [], ◌∷◌, ◌++◌, ℕ, ◌*◌, eqb, length}
+use Rattle.std.specs.Prelude.{Bool, not, ◌&&◌, List, [], ◌∷◌, ◌++◌, ℕ, ◌*◌, eqb, length, Option, is_some, unwrap_or}
+use Rattle.std.specs.Option.{option_map_or}
 use Rattle.board.specs.declared.Board.{Board}
 use Rattle.mapping.specs.declared.Seen.{Seen}
-use Rattle.mapping.specs.Entry.{capacity}
+use Rattle.mapping.specs.Entry.{capacity, zero_mapping}
 use Rattle.manager.specs.declared.AccessKind.{AccessKind}
 use Rattle.manager.specs.declared.AccessKind.TheVariants.{Read, Write, Fetch}
 use Rattle.manager.specs.Refusals.{Cause, ◌if◌, space_cause, frame_cause, rights_cause, write_rights_cause, fetch_rights_cause}
@@ -16,18 +17,22 @@ told_tables b kept records protections =
     ∷ (2 if not (kept && records_keep_rules b records))
     ∷ []
 
+-- those of what was told, none where the list breaks its rules
+abbrev pub told_by : (Seen → List Cause) → Option Seen → List Cause
+told_by own seen = option_map_or own seen []
+
 -- the causes of a mapping; of an unmap; and of an access but for the mark
 abbrev pub told_mapping : Board → ℕ → ℕ → ℕ → ℕ → Seen → List Cause
 told_mapping b space page frame rights seen =
     space_cause space page
     ∷ frame_cause b frame
     ∷ rights_cause rights
-    ∷ (7 if seen.mapped)
+    ∷ (7 if is_some seen.mapping)
     ∷ (9 if eqb seen.count capacity)
     ∷ []
 
 abbrev pub told_page : ℕ → ℕ → Seen → List Cause
-told_page space page seen = space_cause space page ∷ (8 if not seen.mapped) ∷ []
+told_page space page seen = space_cause space page ∷ (8 if not (is_some seen.mapping)) ∷ []
 
 -- the cause of an access in the rights of its mapping
 abbrev pub told_rights : AccessKind → ℕ → List Cause
@@ -36,4 +41,4 @@ told_rights Write rights = write_rights_cause rights ∷ []
 told_rights Fetch rights = fetch_rights_cause rights ∷ []
 
 abbrev pub told_access : AccessKind → ℕ → ℕ → Seen → List Cause
-told_access kind space page seen = told_page space page seen ++ told_rights kind seen.mapping.rights
+told_access kind space page seen = told_page space page seen ++ told_rights kind (unwrap_or seen.mapping zero_mapping).rights

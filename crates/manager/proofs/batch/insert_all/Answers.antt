@@ -11,7 +11,9 @@ use Rattle.mapping.specs.Change.{insert_at, insert}
 use Rattle.mapping.specs.Entry.{zero_mapping}
 use Rattle.mapping.proofs.Laws.{items_length, items_of_at, keeps_rules_true, rules_keeps_rules, inserted_length, inserted_rules}
 use Rattle.manager.specs.Scaffold.Inserted.{mapping_refusal, list_after_items}
-use Rattle.manager.specs.Refusals.{first_refusal}
+use Rattle.manager.specs.Refusals.{Cause, first_refusal}
+use Rattle.manager.proofs.CauseLaws.{told_mapping_is}
+use mathlib.Core.List.{List}
 use Rattle.manager.specs.Scaffold.Told.{told_mapping}
 use Rattle.manager.proofs.AcceptedLaws.{mapping_accepted}
 use Rattle.manager.proofs.BatchLaws.{listed_accepted, listed_refused, refusal_more, list_more}
@@ -42,7 +44,8 @@ loop-i-preserved c =
     let item = sym (items_of_at c.args.batch l.i (omega arith)) in
     let m = get_or c.args.batch.items l.i zero_mapping in
     let told = c.find-seen.ensures.told c.args.board l.invariant.4.0 in
-    let refusal = c.mapping_refusal-refusal.ensures ∙ ap (λ (x : Seen). first_refusal (told_mapping c.args.board m.space m.page m.frame m.rights x)) told in
+    let refusal = c.mapping_refusal-refusal.ensures ∙ ap (λ (x : Seen). first_refusal (told_mapping c.args.board m.space m.page m.frame m.rights x)) told
+    ∙ ap (λ (cs : List Cause). first_refusal cs) (told_mapping_is l.next m.space m.page c.args.board m.frame m.rights) in
     let place = ap (λ (x : Seen). insert_at l.next x.place m) told in (
       simp length-set l.invariant.0,
       omega arith,
