@@ -3,7 +3,7 @@
 // the protections.
 #![tactic(auto)]
 
-ghost use Rattle.std.specs.Prelude.{◌≤◌};
+ghost use Rattle.std.specs.Prelude.{◌≤◌, length};
 
 use mapping::{BATCH, Batch, Mapping, MappingList};
 
@@ -44,10 +44,8 @@ fn mapping_of(k: u16) -> Mapping {
 // The list of the first mappings.
 fn listed(count: u8) -> MappingList {
     let mut list = mapping::empty();
-    let mut k: u8 = 0;
-    while k < count {
-        list = mapping::insert_at(list, list.count, mapping_of(k as u16));
-        k += 1;
+    for k in 0..u16::from(count) {
+        list = mapping::insert_at(list, list.count, mapping_of(k));
     }
     list
 }
@@ -60,11 +58,9 @@ fn singly(
     first: u8,
 ) -> MappingList {
     let mut next = list;
-    let mut k: u16 = 0;
-    while k < 64 {
-        let answer = manager::map(next, records, protections, mapping_of(first as u16 + k));
-        next = answer.list;
-        k += 1;
+    for k in 0..64 {
+        let m = mapping_of(u16::from(first) + k);
+        next = manager::map(next, records, protections, m).list;
     }
     next
 }
@@ -77,17 +73,14 @@ fn at_once(
     first: u8,
 ) -> MappingList {
     let mut answers = [0u8; BATCH];
-    let answer = manager::map_all(list, records, protections, batch(first), &mut answers);
-    answer.list
+    manager::map_all(list, records, protections, batch(first), &mut answers).list
 }
 
 // The 64 from `first` on.
 fn batch(first: u8) -> Batch {
     let mut items = [Mapping::zero(); BATCH];
-    let mut k: u16 = 0;
-    while k < 64 {
-        items[k as usize] = mapping_of(first as u16 + k);
-        k += 1;
+    for (item, k) in items.iter_mut().zip(u16::from(first)..) {
+        *item = mapping_of(k);
     }
     Batch {
         items,
@@ -102,18 +95,8 @@ fn show(list: MappingList, protections: &[u8; 256]) {
     io::write_all(STDOUT, b"\n");
 }
 
-fn sum(protections: &[u8; 256]) -> u64 {
-    let mut n = 0;
-    let mut i: usize = 0;
-    while i < 256 {
-        n += wide(protections[i]);
-        i += 1;
-    }
-    n
-}
-
-fn wide(byte: u8) -> u64
-    ensures { result ≤ 255 }
+fn sum(bytes: &[u8]) -> u64
+    requires { length bytes.now ≤ 256 }
 {
-    byte as u64
+    bytes.iter().map(|b| u64::from(*b)).sum()
 }

@@ -12,9 +12,6 @@ use mapping::{Batch, Mapping};
 // Standard output.
 const STDOUT: i32 = 1;
 
-// The largest number.
-const MOST: usize = 18446744073709551615;
-
 fn main() {
     let records = four();
     lookups(records);
@@ -37,24 +34,26 @@ fn four() -> [Mapping; 4] {
 // The first of two; out of order; the last; the last, past the count and with a count past the records; a count of none; space and page exchanged; a
 // space with another's page.
 fn lookups(records: [Mapping; 4]) {
-    found(records, 4, 1, 9);
-    found(records, 4, 0, 0);
-    found(records, 4, 15, 1023);
-    found(records, 3, 15, 1023);
-    found(records, MOST, 15, 1023);
-    found(records, 0, 1, 9);
-    found(records, 4, 9, 1);
-    found(records, 4, 1, 0);
-    found(records, 4, 0, 9);
+    for (count, space, page) in [
+        (4, 1, 9),
+        (4, 0, 0),
+        (4, 15, 1023),
+        (3, 15, 1023),
+        (usize::MAX, 15, 1023),
+        (0, 1, 9),
+        (4, 9, 1),
+        (4, 1, 0),
+        (4, 0, 9),
+    ] {
+        found(records, count, space, page);
+    }
 }
 
 // The first, the last and those past it.
 fn places(records: [Mapping; 4]) {
-    placed(records, 0);
-    placed(records, 1);
-    placed(records, 3);
-    placed(records, 4);
-    placed(records, MOST);
+    for i in [0, 1, 3, 4, usize::MAX] {
+        placed(records, i);
+    }
 }
 
 // ---- one line each
@@ -63,8 +62,8 @@ fn places(records: [Mapping; 4]) {
 fn found(records: [Mapping; 4], count: usize, space: u8, page: u16) {
     io::write_all(STDOUT, b"lookup");
     number(count as u64);
-    number(space as u64);
-    number(page as u64);
+    number(u64::from(space));
+    number(u64::from(page));
     match lent::lookup(records, count, space, page) {
         Some(i) => number(i as u64),
         None => none(),
@@ -84,10 +83,9 @@ fn placed(records: [Mapping; 4], i: usize) {
 fn shown(batch: Batch) {
     io::write_all(STDOUT, b"batch");
     number(batch.count as u64);
-    fields(batch.items[0]);
-    fields(batch.items[3]);
-    fields(batch.items[4]);
-    fields(batch.items[63]);
+    for i in [0, 3, 4, 63] {
+        fields(batch.items[i]);
+    }
     io::write_all(STDOUT, b"\n");
 }
 
@@ -108,45 +106,33 @@ fn laid(items: [Mapping; 4], n: usize)
         &records,
         &mut protections,
         items,
-        &mut answers[0..n],
+        &mut answers[..n],
     );
     let answer = listed.answer;
     let next = listed.list;
     io::write_all(STDOUT, b"map all");
     match answer {
-        Answer::Refused(r) => number(r as u64),
+        Answer::Refused(r) => number(u64::from(r)),
         Answer::Accepted(_) => number(0),
     }
     number(next.count as u64);
-    answered(&answers);
-    protected(&protections);
+    bytes(&answers);
+    bytes(&protections[..4]);
     io::write_all(STDOUT, b"\n");
 }
 
-fn answered(answers: &[u8; 4]) {
-    number(wide(answers[0]));
-    number(wide(answers[1]));
-    number(wide(answers[2]));
-    number(wide(answers[3]));
-}
-
-fn protected(protections: &[u8; 256]) {
-    number(wide(protections[0]));
-    number(wide(protections[1]));
-    number(wide(protections[2]));
-    number(wide(protections[3]));
-}
-
-fn wide(b: u8) -> u64 {
-    b as u64
+fn bytes(bytes: &[u8]) {
+    for byte in bytes {
+        number(u64::from(*byte));
+    }
 }
 
 // Space, page, frame and rights.
 fn fields(m: Mapping) {
-    number(m.space as u64);
-    dotted(m.page as u64);
-    dotted(m.frame as u64);
-    dotted(m.rights as u64);
+    number(u64::from(m.space));
+    dotted(u64::from(m.page));
+    dotted(u64::from(m.frame));
+    dotted(u64::from(m.rights));
 }
 
 fn number(n: u64) {
