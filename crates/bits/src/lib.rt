@@ -5,6 +5,7 @@ ghost use Rattle.std.specs.Prelude.{◌≡◌, true, ◌≤◌, ◌<◌, ◌^◌
 ghost use Rattle.bits.specs.Mask.{width, bit, with_bit, mask_of};
 
 // Whether the bit at a place is set.
+#[tactic(auto, unfolding(crate::specs::Mask::bit))]
 pub fn bit(mask: u32, place: usize) -> bool
     requires { place < width }
     ensures { result ≡ bit mask place }
@@ -13,6 +14,7 @@ pub fn bit(mask: u32, place: usize) -> bool
 }
 
 // The mask with the bit at a place set.
+#[tactic(auto, using(crate::proofs::Mask::one_shl), unfolding(crate::specs::Mask::with_bit))]
 pub fn with_bit(mask: u32, place: usize) -> u32
     requires { place < width }
     ensures { result ≡ with_bit mask place }
@@ -21,6 +23,7 @@ pub fn with_bit(mask: u32, place: usize) -> u32
 }
 
 // Whether every bit of the mask stands at one of the first places.
+#[tactic(auto, using(crate::proofs::Mask::shr_none))]
 pub fn within(mask: u32, places: usize) -> bool
     requires { places ≤ width }
     ensures { result ≡ ltb mask (2 ^ places) }

@@ -1,7 +1,9 @@
 -- Document 01, "The board as modelled": what a line's tag byte says, and which bytes keep the rules.
-use Rattle.std.specs.Prelude.{Bool, true, not, ◌&&◌, ◌||◌, cond, List, [], ◌∷◌, ℕ, suc, ◌+◌, ◌-◌, eqb, leb, ltb}
+use Rattle.std.specs.Prelude.{Bool, true, not, ◌&&◌, ◌||◌, cond, List, [], ◌∷◌, ℕ, suc, ◌+◌, ◌-◌, ◌≡◌, ◌<◌, eqb, leb, ltb}
 use Rattle.board.specs.declared.Board.{Board}
 use Rattle.board.specs.Board.{data_lines}
+use Rattle.cache.specs.declared.tag.Tag.{Tag}
+use Rattle.cache.specs.declared.tag.Tag.TheVariants.{Empty, Clean, Dirty}
 
 -- an empty line; a clean line of frame f; a line of frame f that was written and not written back since
 abbrev pub empty_tag : ℕ
@@ -12,6 +14,18 @@ clean_tag f = 1 + f
 
 abbrev pub dirty_tag : ℕ → ℕ
 dirty_tag f = 129 + f
+
+-- a byte says a tag of the code's type
+abbrev pub Says : ℕ → Tag → Type 0
+Says byte Empty = byte ≡ empty_tag
+Says byte (Clean f) = (byte ≡ clean_tag f) × (byte < dirty_tag 0)
+Says byte (Dirty f) = byte ≡ dirty_tag f
+
+-- there is a byte that says it
+abbrev pub HasByte : Tag → Type 0
+HasByte Empty = Unit {0}
+HasByte (Clean f) = clean_tag f < dirty_tag 0
+HasByte (Dirty f) = dirty_tag f < 256
 
 -- whether a tag says dirty, that is 129 or more
 unfoldable pub is_dirty_tag : ℕ → Bool

@@ -5,10 +5,11 @@ ghost use Rattle.cache.specs.Store.{store, WellFormedStore};
 ghost use Rattle.cache.specs.Cache.{replace, access, read_word, put_word, write_word};
 
 use crate::line::{fill, write_back};
-use crate::tag::{dirty_tag, names};
+use crate::tag::{Tag, names};
 use board::Board;
 
 // Reads the word, after the access that it takes.
+#[tactic(auto, unfolding(crate::specs::Cache::read_word))]
 pub fn read_word(
     board: Board,
     memory: &mut [u32],
@@ -28,6 +29,7 @@ pub fn read_word(
 }
 
 // Writes the word, after the access that it takes, and makes its line dirty.
+#[tactic(auto, unfolding(crate::specs::Cache::write_word, crate::specs::Cache::put_word))]
 pub fn write_word(
     board: Board,
     memory: &mut [u32],
@@ -45,10 +47,11 @@ pub fn write_word(
     let at = board::cache_at(board, colour, offset);
     words[at] = word;
     let line = board::line_of(board, colour, offset);
-    tags[line] = dirty_tag(frame);
+    tags[line] = Tag::Dirty(frame).byte();
 }
 
 // Has the word's line hold the frame's words: nothing is done on a hit, and on a miss the line is replaced.
+#[tactic(auto, using(crate::proofs::Laws::Access::access_hit, crate::proofs::Laws::Access::access_miss))]
 pub fn access(
     board: Board,
     memory: &mut [u32],
@@ -68,6 +71,7 @@ pub fn access(
 }
 
 // Writes a line back if it is dirty, and fills it from a frame.
+#[tactic(auto, using(crate::proofs::Laws::WriteBack::write_back_kept), unfolding(crate::specs::Cache::replace))]
 fn replace(
     board: Board,
     memory: &mut [u32],

@@ -4,7 +4,6 @@ ghost use Rattle.board.specs.Board.{Regular, memory_words};
 ghost use Rattle.cache.specs.Store.{store, memory_word};
 ghost use Rattle.cache.specs.Cache.{device_read, device_write, bring_word};
 
-use crate::copy::copy;
 use board::Board;
 
 // Copies a frame's words in memory to the device's buffer.
@@ -13,21 +12,21 @@ pub fn device_read(board: Board, memory: &[u32], buffer: &mut [u32], frame: usiz
     ensures { (words tags : List ℕ) → buffer.new ≡ device_read board frame (store memory.now words tags) }
 {
     let from = board::memory_at(board, frame, 0);
-    let end = from + board.page;
-    copy(&memory[from..end], buffer);
+    buffer.copy_from_slice(&memory[from..from + board.page]);
 }
 
 // Copies the words of the device's buffer, of which there are some, to a frame's words in memory from an offset on.
+#[tactic(auto, using(crate::proofs::Laws::Part::part_back), unfolding(crate::specs::Cache::device_write))]
 pub fn device_write(board: Board, memory: &mut [u32], buffer: &[u32], frame: usize, first: usize)
     requires { (length memory.old ≡ memory_words board) × (0 < length buffer.now) × (first + length buffer.now ≤ board.page) × (frame < board.frames) × Regular board }
     ensures { (words tags : List ℕ) → store memory.new words tags ≡ device_write board frame first buffer.now (store memory.old words tags) }
 {
     let at = board::memory_at(board, frame, first);
-    let end = at + buffer.len();
-    copy(buffer, &mut memory[at..end]);
+    memory[at..at + buffer.len()].copy_from_slice(buffer);
 }
 
 // Stores a word that a device brings at an offset of a frame.
+#[tactic(auto, unfolding(crate::specs::Cache::bring_word))]
 pub fn bring_word(board: Board, memory: &mut [u32], frame: usize, offset: usize, word: u32)
     requires { (length memory.old ≡ memory_words board) × (frame < board.frames) × (offset < board.page) × Regular board }
     ensures { (words tags : List ℕ) → store memory.new words tags ≡ bring_word board frame offset word (store memory.old words tags) }

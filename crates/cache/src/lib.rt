@@ -3,7 +3,6 @@
 #![tactic(auto)]
 
 pub mod access;
-pub mod copy;
 pub mod device;
 pub mod line;
 pub mod operation;

@@ -1,83 +1,94 @@
 // What a line's tag byte says.
 ghost use Rattle.std.specs.Prelude.{◌≡◌, ◌<◌};
 ghost use Rattle.board.specs.Board.{Regular};
-ghost use Rattle.cache.specs.Tag.{clean_tag, dirty_tag, names, tag_keeps_rules, line_keeps_rules, tags_keep_rules};
+ghost use Rattle.cache.specs.Tag.{HasByte, Says, names, tag_keeps_rules, line_keeps_rules, tags_keep_rules};
 
 use board::Board;
 
-// The tag of an empty line, and those of a clean and of a dirty line of frame 0.
-pub const EMPTY: u8 = 0;
+// A line's tag: it is empty, or holds a frame's words, clean or written and not written back since.
+#[derive(Clone, Copy, Debug, PartialEq, Eq)]
+pub enum Tag {
+    Empty,
+    Clean(usize),
+    Dirty(usize),
+}
 
-pub const CLEAN: usize = 1;
+// The byte of an empty line's tag, and those of a clean and of a dirty line's of frame 0.
+const EMPTY: u8 = 0;
 
-pub const DIRTY: usize = 129;
+const CLEAN: u8 = 1;
+
+const DIRTY: u8 = 129;
+
+impl From<u8> for Tag {
+    ghost from_gives = { λ byte tag. Says byte tag };
+
+    fn from(byte: u8) -> Tag {
+        match byte {
+            EMPTY => Tag::Empty,
+            CLEAN..DIRTY => Tag::Clean(usize::from(byte - CLEAN)),
+            DIRTY.. => Tag::Dirty(usize::from(byte - DIRTY)),
+        }
+    }
+}
+
+impl Tag {
+    // The byte that says it.
+    pub fn byte(self) -> u8
+        requires { HasByte self }
+        ensures { Says result self }
+    {
+        match self {
+            Tag::Empty => EMPTY,
+            Tag::Clean(frame) => CLEAN + frame as u8,
+            Tag::Dirty(frame) => DIRTY + frame as u8,
+        }
+    }
+}
 
 // Whether every tag keeps the rules.
 pub fn tags_keep_rules(board: Board, tags: &[u8]) -> bool
     requires { Regular board }
     ensures { result ≡ tags_keep_rules board tags.now }
 {
-    let mut i = 0;
-    while i < tags.len() {
-        if !line_keeps_rules(board, i, tags[i]) {
-            return false;
-        }
-        i += 1;
-    }
-    true
+    tags.iter()
+        .enumerate()
+        .all(|(line, tag)| line_keeps_rules(board, line, *tag))
 }
 
 // Whether a line's tag keeps the rules: it is empty or names a frame of the board, and an instruction line's is not dirty.
+#[tactic(auto, unfolding(crate::specs::Tag::line_keeps_rules, crate::specs::Tag::tag_keeps_rules, crate::specs::Tag::frame_of, crate::specs::Tag::is_dirty_tag))]
 pub fn line_keeps_rules(board: Board, line: usize, tag: u8) -> bool
     requires { Regular board }
     ensures { result ≡ line_keeps_rules board line tag }
 {
-    if number(tag) < DIRTY {
-        return tag_keeps_rules(board, tag);
+    match Tag::from(tag) {
+        Tag::Empty => true,
+        Tag::Clean(frame) => frame < board.frames,
+        Tag::Dirty(frame) => frame < board.frames && line < board::data_lines(board),
     }
-    line < board::data_lines(board) && tag_keeps_rules(board, tag)
 }
 
 // Whether a tag is empty or names a frame of the board.
+#[tactic(auto, unfolding(crate::specs::Tag::tag_keeps_rules, crate::specs::Tag::frame_of, crate::specs::Tag::is_dirty_tag))]
 pub fn tag_keeps_rules(board: Board, tag: u8) -> bool
     requires { Regular board }
     ensures { result ≡ tag_keeps_rules board tag }
 {
-    let t = tag as usize;
-    if t < DIRTY {
-        return t < CLEAN + board.frames;
+    match Tag::from(tag) {
+        Tag::Empty => true,
+        Tag::Clean(frame) | Tag::Dirty(frame) => frame < board.frames,
     }
-    t < DIRTY + board.frames
 }
 
 // Whether a tag names a frame.
+#[tactic(auto, unfolding(crate::specs::Tag::names))]
 pub fn names(tag: u8, frame: usize) -> bool
     requires { frame < 127 }
     ensures { result ≡ names tag frame }
 {
-    let t = tag as usize;
-    t == CLEAN + frame || t == DIRTY + frame
-}
-
-// The tag of a clean line of a frame.
-pub fn clean_tag(frame: usize) -> u8
-    requires { frame < 127 }
-    ensures { result ≡ clean_tag frame }
-{
-    (CLEAN + frame) as u8
-}
-
-// The tag of a dirty line of a frame.
-pub fn dirty_tag(frame: usize) -> u8
-    requires { frame < 127 }
-    ensures { result ≡ dirty_tag frame }
-{
-    (DIRTY + frame) as u8
-}
-
-// A tag as a number.
-pub fn number(tag: u8) -> usize
-    ensures { result ≡ tag }
-{
-    tag as usize
+    match Tag::from(tag) {
+        Tag::Empty => false,
+        Tag::Clean(named) | Tag::Dirty(named) => named == frame,
+    }
 }

@@ -1,4 +1,6 @@
 // One step of the cache each, and a line of text on what it left. A step whose tags break the rules is left out.
+#![tactic(auto, using(crate::proofs::Document01::regular, crate::proofs::Document01::memory_words_is, crate::proofs::Document01::cache_words_is, crate::proofs::Document01::lines_is, crate::proofs::Document01::well_formed))]
+
 ghost use Rattle.std.specs.Prelude.{◌+◌, ◌<◌, ◌≤◌, length};
 ghost use Rattle.board.specs.Board.{board01, cache_pages};
 
@@ -20,7 +22,7 @@ pub fn read(
         let word = cache::access::read_word(BOARD01, memory, words, tags, frame, colour, offset);
         let at = board::line_of(BOARD01, colour, offset);
         io::write_all(STDOUT, b"read ");
-        two(wide(word), tag_number(tags[at]));
+        two(u64::from(word), u64::from(tags[at]));
     }
 }
 
@@ -41,7 +43,7 @@ pub fn write(
         let at = board::line_of(BOARD01, colour, offset);
         let home = board::memory_at(BOARD01, frame, offset);
         io::write_all(STDOUT, b"write ");
-        two(tag_number(tags[at]), wide(memory[home]));
+        two(u64::from(tags[at]), u64::from(memory[home]));
     }
 }
 
@@ -115,7 +117,7 @@ pub fn take_word(memory: &[u32; 4096], frame: usize, offset: usize)
 {
     let word = cache::device::take_word(BOARD01, memory, frame, offset);
     io::write_all(STDOUT, b"take word ");
-    one(wide(word));
+    one(u64::from(word));
 }
 
 // Writes a line's tag and one of its words.
@@ -124,7 +126,7 @@ pub fn line(words: &[u32; 1024], tags: &[u8; 128], line: usize, place: usize)
 {
     let at = board::line_at(BOARD01, line) + place;
     io::write_all(STDOUT, b"line ");
-    two(tag_number(tags[line]), wide(words[at]));
+    two(u64::from(tags[line]), u64::from(words[at]));
 }
 
 // Writes memory's word at an offset of a frame.
@@ -133,7 +135,7 @@ pub fn memory_word(memory: &[u32; 4096], frame: usize, offset: usize)
 {
     let at = board::memory_at(BOARD01, frame, offset);
     io::write_all(STDOUT, b"memory ");
-    one(wide(memory[at]));
+    one(u64::from(memory[at]));
 }
 
 // Writes a word of a device's buffer.
@@ -141,7 +143,7 @@ pub fn buffer_word(buffer: &[u32; 64], offset: usize)
     requires { offset < board01.page }
 {
     io::write_all(STDOUT, b"buffer ");
-    one(wide(buffer[offset]));
+    one(u64::from(buffer[offset]));
 }
 
 // Puts a tag in a place, and writes whether all tags keep the rules.
@@ -159,20 +161,10 @@ pub fn rule(tags: &mut [u8; 128], place: usize, tag: u8)
 // Fills a slice with the numbers from first on.
 pub fn count_up(to: &mut [u32], first: u32) {
     let mut n = first;
-    let mut i = 0;
-    while i < to.len() {
-        to[i] = n;
-        n = std::num::wrapping_add_u32(n, 1);
-        i += 1;
+    for word in to.iter_mut() {
+        *word = n;
+        n = n.wrapping_add(1);
     }
-}
-
-fn wide(word: u32) -> u64 {
-    word as u64
-}
-
-fn tag_number(tag: u8) -> u64 {
-    tag as u64
 }
 
 fn one(n: u64) {

@@ -1,257 +1,290 @@
-// A line of a script as a command: a word that a table has, and its numbers, of the kinds that the table asks for.
-ghost use Rattle.std.specs.Prelude.{◌≤◌, length};
+// A line of a script as a command: a setting, or a call of the manager or of the machine.
+use crate::lent::{
+    ANSWERS, BUFFER, Buffer, Content, Lengths, MEMORY, PROTECTIONS, RECORDS, TAGS, WORDS,
+};
+use crate::numbers::Args;
+use crate::slips::Slip;
+use mapping::{BATCH, CAPACITY, Mapping};
 
-use crate::numbers::Numbers;
-use crate::{numbers, slips};
-
-// The commands, by their rows in the tables of `parsed`: settings, `with`, and the calls.
-pub const MACHINE: usize = 0;
-
-pub const MANAGER: usize = 1;
-
-pub const FILL: usize = 2;
-
-pub const COUNT: usize = 3;
-
-pub const PUT: usize = 4;
-
-pub const START: usize = 5;
-
-pub const EMPTY: usize = 6;
-
-pub const ENTRY: usize = 7;
-
-pub const LISTED: usize = 8;
-
-pub const PAGES: usize = 9;
-
-pub const KEEP: usize = 10;
-
-pub const BACK: usize = 11;
-
-pub const BATCH: usize = 12;
-
-pub const ITEM: usize = 13;
-
-pub const ITEMS: usize = 14;
-
-pub const WITH: usize = 15;
-
-// From here on a command is a call.
-pub const MAP: usize = 16;
-
-pub const UNMAP: usize = 17;
-
-pub const MAP_ALL: usize = 18;
-
-pub const READ: usize = 19;
-
-pub const WRITE: usize = 20;
-
-pub const FETCH: usize = 21;
-
-pub const DEVICE_READ: usize = 22;
-
-pub const DEVICE_WRITE: usize = 23;
-
-pub const DEVICE_WRITE_PART: usize = 24;
-
-pub const BEGIN_READ: usize = 25;
-
-pub const BEGIN_WRITE: usize = 26;
-
-pub const BRING_WORD: usize = 27;
-
-pub const TAKE_WORD: usize = 28;
-
-pub const END_TRANSFER: usize = 29;
-
-pub const EVICT: usize = 30;
-
-pub const LOOK: usize = 31;
-
+// What a line that is not only written asks for.
 #[derive(Clone, Copy)]
-pub struct Command {
-    pub name: usize,
-    pub numbers: Numbers,
+pub enum Command {
+    Setting(Setting),
+    Call(Call),
 }
 
-// The command of a line: a setting, or a call of the manager or of the machine. A row of a table is a word and a letter for each number's kind, which
-// `numbers::misfit` reads.
-pub fn parsed(line: &[u8], manager: bool, called: Numbers) -> Command {
-    let setting = of_table(
-        b"machine ;manager ;\
-          fill xv;count yw;put x@v?????????;start ;\
-          empty ;entry lbhbb;listed n;pages cbbb;keep ;back ;\
-          batch n;item ibhbb;items Ibbb;",
-        line,
-        called,
-        MACHINE,
-    );
-    let n = setting.numbers;
-    if n.slip != slips::UNKNOWN {
-        return setting;
-    }
-    if manager {
-        return of_table(
-            b"with RPA;\
-              map bhbb;unmap bh;map-all ;\
-              read bh;write bh;fetch bh;\
-              device-read b;device-write b;device-write-part bnn;\
-              begin-read b;begin-write b;bring-word bn;take-word bn;end-transfer b;",
-            line,
-            called,
-            WITH,
-        );
-    }
-    of_table(
-        b"with RPMWTBA;\
-          map bhbb;unmap bh;map-all ;\
-          read bhn;write bhnw;fetch bhn;\
-          device-read b;device-write b;device-write-part bnn;\
-          begin-read b;begin-write b;bring-word bnw;take-word bn;end-transfer b;\
-          evict n;look bhww;",
-        line,
-        called,
-        WITH,
-    )
+// Whose calls the lines are.
+#[derive(Clone, Copy, Debug, PartialEq, Eq)]
+pub enum Subject {
+    Machine,
+    Manager,
 }
 
-// The numbers of a line that calls a script, which start at a place.
-pub fn of_call(line: &[u8], from: usize) -> Numbers {
-    numbers::of_line(b"oooooooooooo;", 0, line, from, numbers::none())
+// What the next calls are made on.
+#[derive(Clone, Copy)]
+pub enum Setting {
+    Subject(Subject),
+    With(Lengths),
+    Content(Buffer, Content),
+    Start,
+    Empty,
+    Entry(usize, Mapping),
+    Listed(usize),
+    Pages(Pages),
+    Keep,
+    Back,
+    Batch(usize),
+    Item(usize, Mapping),
+    Items(Pages),
 }
 
-// Whether a line calls a script.
-pub fn is_do(line: &[u8]) -> bool {
-    if line.len() < 3 {
-        return false;
-    }
-    line[0] == b'd' && line[1] == b'o' && line[2] == b' '
+// The first pages of a space, all of one frame and with the same rights.
+#[derive(Clone, Copy, Debug, PartialEq, Eq)]
+pub struct Pages {
+    pub number: usize,
+    pub space: u8,
+    pub frame: u8,
+    pub rights: u8,
 }
 
-// Where the first byte of a kind stands from a place of a text on, or where the text ends.
-pub fn up_to(text: &[u8], at: usize, stop: u8) -> usize
-    requires { at ≤ length text.now }
-    ensures { (at ≤ result) × (result ≤ length text.now) }
-{
-    let mut i = at;
-    while i < text.len() {
-        if text[i] == stop {
-            return i;
+impl Pages {
+    // The mapping of one of them.
+    pub fn mapping(self, page: u16) -> Mapping {
+        Mapping {
+            space: self.space,
+            page,
+            frame: self.frame,
+            rights: self.rights,
         }
-        i += 1;
     }
-    i
 }
 
-// ---- a table
-
-// A row of a table is read byte by byte: how many rows went by, whether it is in its kinds, how many bytes of its word went by, whether these are the
-// line's, and, once the line's word was found, where its kinds start.
+// A call. The manager is not told the offset and the word of an access, nor the word that a device brings, and has no calls of the last kind.
 #[derive(Clone, Copy)]
-struct Row {
-    row: usize,
-    in_kinds: bool,
-    length: usize,
-    same: bool,
-    found: bool,
-    kinds: usize,
+pub enum Call {
+    // of those that change the list
+    List(ListCall),
+    Access(Access),
+    // of a frame: in one step, or a step of one that takes a while
+    Transfer(u8, Transfer),
+    LongTransfer(u8, LongTransfer),
+    OfMachine(MachineCall),
 }
 
-// The command of a line by the row of a table that its word has, with the numbers of the rows from `first` on.
-fn of_table(table: &[u8], line: &[u8], called: Numbers, first: usize) -> Command {
-    let end = up_to(line, 0, b' ');
-    let row = looked_up(table, line, end);
-    if !row.found {
-        let mut unknown = numbers::none();
-        unknown.slip = slips::UNKNOWN;
-        return Command {
-            name: first,
-            numbers: unknown,
-        };
-    }
-    let read = numbers::of_line(table, row.kinds, line, end, called);
-    Command {
-        name: next(row.row, first),
-        numbers: read,
+#[derive(Clone, Copy)]
+pub enum ListCall {
+    Map(Mapping),
+    Unmap(u8, u16),
+    MapAll,
+}
+
+#[derive(Clone, Copy, Debug, PartialEq, Eq)]
+pub struct Access {
+    pub kind: AccessKind,
+    pub space: u8,
+    pub page: u16,
+    pub offset: usize,
+    pub word: u32,
+}
+
+#[derive(Clone, Copy, Debug, PartialEq, Eq)]
+pub enum AccessKind {
+    Read,
+    Write,
+    Fetch,
+}
+
+#[derive(Clone, Copy, Debug, PartialEq, Eq)]
+pub enum Transfer {
+    Read,
+    Write,
+    WritePart(usize, usize),
+}
+
+#[derive(Clone, Copy, Debug, PartialEq, Eq)]
+pub enum LongTransfer {
+    BeginRead,
+    BeginWrite,
+    BringWord(usize, u32),
+    TakeWord(usize),
+    End,
+}
+
+#[derive(Clone, Copy, Debug, PartialEq, Eq)]
+pub enum MachineCall {
+    Evict(usize),
+    Look {
+        space: u8,
+        page: u16,
+        clock: u32,
+        hold: u32,
+    },
+}
+
+// The command that a word stands for, with its numbers.
+pub fn parsed(word: &str, subject: Subject, args: &mut Args) -> Result<Command, Slip> {
+    match parse_setting(word, subject, args)? {
+        Some(setting) => Ok(Command::Setting(setting)),
+        None => Ok(Command::Call(parse_call(word, subject, args)?)),
     }
 }
 
-fn looked_up(table: &[u8], line: &[u8], end: usize) -> Row {
-    let mut k = Row {
-        row: 0,
-        in_kinds: false,
-        length: 0,
-        same: true,
-        found: false,
-        kinds: 0,
+// The setting that a word stands for, if it does.
+fn parse_setting(word: &str, subject: Subject, args: &mut Args) -> Result<Option<Setting>, Slip> {
+    Ok(Some(match word {
+        "machine" => Setting::Subject(Subject::Machine),
+        "manager" => Setting::Subject(Subject::Manager),
+        "with" => Setting::With(lengths(subject, args)?),
+        "fill" => Setting::Content(args.buffer()?, Content::Same(args.number()?)),
+        "count" => counted(args)?,
+        "put" => put(args)?,
+        "start" => Setting::Start,
+        "empty" => Setting::Empty,
+        "entry" => Setting::Entry(args.up_to(CAPACITY - 1)?, mapping(args)?),
+        "listed" => Setting::Listed(args.number()?),
+        "pages" => Setting::Pages(parse_pages(CAPACITY, args)?),
+        "keep" => Setting::Keep,
+        "back" => Setting::Back,
+        "batch" => Setting::Batch(args.number()?),
+        "item" => Setting::Item(args.up_to(BATCH - 1)?, mapping(args)?),
+        "items" => Setting::Items(parse_pages(BATCH, args)?),
+        _ => return Ok(None),
+    }))
+}
+
+// The call that a word stands for: of the list, an access, or one of the others.
+fn parse_call(word: &str, subject: Subject, args: &mut Args) -> Result<Call, Slip> {
+    Ok(match word {
+        "map" => Call::List(ListCall::Map(mapping(args)?)),
+        "unmap" => Call::List(ListCall::Unmap(args.number()?, args.number()?)),
+        "map-all" => Call::List(ListCall::MapAll),
+        "read" => parse_access(AccessKind::Read, subject, args)?,
+        "write" => parse_access(AccessKind::Write, subject, args)?,
+        "fetch" => parse_access(AccessKind::Fetch, subject, args)?,
+        _ => of_device(word, subject, args)?,
+    })
+}
+
+// A device's transfer, in one step or in several, or a call of the machine alone.
+fn of_device(word: &str, subject: Subject, args: &mut Args) -> Result<Call, Slip> {
+    Ok(match word {
+        "device-read" => Call::Transfer(args.number()?, Transfer::Read),
+        "device-write" => Call::Transfer(args.number()?, Transfer::Write),
+        "device-write-part" => Call::Transfer(
+            args.number()?,
+            Transfer::WritePart(args.number()?, args.number()?),
+        ),
+        "begin-read" => Call::LongTransfer(args.number()?, LongTransfer::BeginRead),
+        "begin-write" => Call::LongTransfer(args.number()?, LongTransfer::BeginWrite),
+        "bring-word" => Call::LongTransfer(
+            args.number()?,
+            LongTransfer::BringWord(args.number()?, machines(subject, args)?),
+        ),
+        "take-word" => Call::LongTransfer(args.number()?, LongTransfer::TakeWord(args.number()?)),
+        "end-transfer" => Call::LongTransfer(args.number()?, LongTransfer::End),
+        _ => Call::OfMachine(of_machine(word, subject, args)?),
+    })
+}
+
+// A call that the machine has and the manager has not.
+fn of_machine(word: &str, subject: Subject, args: &mut Args) -> Result<MachineCall, Slip> {
+    if subject == Subject::Manager {
+        return Err(Slip::NoCommand);
+    }
+    Ok(match word {
+        "evict" => MachineCall::Evict(args.number()?),
+        "look" => MachineCall::Look {
+            space: args.number()?,
+            page: args.number()?,
+            clock: args.number()?,
+            hold: args.number()?,
+        },
+        _ => return Err(Slip::NoCommand),
+    })
+}
+
+// ---- numbers of commands
+
+// A number that only the machine's call has; the manager's has 0 there.
+fn machines<T: Default + TryFrom<u64>>(subject: Subject, args: &mut Args) -> Result<T, Slip>
+where
+    T::Error: Drop,
+{
+    match subject {
+        Subject::Machine => args.number(),
+        Subject::Manager => Ok(T::default()),
+    }
+}
+
+// SPACE PAGE, the machine's with OFFSET, and with WORD for a write
+fn parse_access(kind: AccessKind, subject: Subject, args: &mut Args) -> Result<Call, Slip> {
+    let space = args.number()?;
+    let page = args.number()?;
+    let offset = machines(subject, args)?;
+    let word = match kind {
+        AccessKind::Write => machines(subject, args)?,
+        AccessKind::Read | AccessKind::Fetch => 0,
     };
-    let mut i = 0;
-    while i < table.len() {
-        k = looked(k, table[i], i, line, end);
-        i += 1;
-    }
-    k
+    Ok(Call::Access(Access {
+        kind,
+        space,
+        page,
+        offset,
+        word,
+    }))
 }
 
-// A byte of a table.
-fn looked(k: Row, c: u8, at: usize, line: &[u8], end: usize) -> Row {
-    if k.found {
-        return k;
-    }
-    match c {
-        b';' => next_row(k),
-        b' ' => word_over(k, at, end),
-        _ => in_word(k, c, line),
-    }
+// SPACE PAGE FRAME RIGHTS
+fn mapping(args: &mut Args) -> Result<Mapping, Slip> {
+    Ok(Mapping {
+        space: args.number()?,
+        page: args.number()?,
+        frame: args.number()?,
+        rights: args.number()?,
+    })
 }
 
-fn next_row(k: Row) -> Row {
-    Row {
-        row: next(k.row, 1),
-        in_kinds: false,
-        length: 0,
-        same: true,
-        found: false,
-        kinds: 0,
-    }
+// NUMBER SPACE FRAME RIGHTS
+fn parse_pages(most: usize, args: &mut Args) -> Result<Pages, Slip> {
+    Ok(Pages {
+        number: args.up_to(most)?,
+        space: args.number()?,
+        frame: args.number()?,
+        rights: args.number()?,
+    })
 }
 
-fn word_over(k: Row, at: usize, end: usize) -> Row {
-    let mut over = k;
-    over.in_kinds = true;
-    if k.same && k.length == end {
-        over.found = true;
-        over.kinds = next(at, 1);
+// R P M W T B A, or R P A: the manager is lent records, protections and answers.
+fn lengths(subject: Subject, args: &mut Args) -> Result<Lengths, Slip> {
+    let mut n = Lengths::default();
+    n.records = args.up_to(RECORDS)?;
+    n.protections = args.up_to(PROTECTIONS)?;
+    if subject == Subject::Machine {
+        n.memory = args.up_to(MEMORY)?;
+        n.words = args.up_to(WORDS)?;
+        n.tags = args.up_to(TAGS)?;
+        n.buffer = args.up_to(BUFFER)?;
     }
-    over
+    n.answers = args.up_to(ANSWERS)?;
+    Ok(n)
 }
 
-fn in_word(k: Row, c: u8, line: &[u8]) -> Row {
-    if k.in_kinds {
-        return k;
+// BUFFER FIRST, of a buffer of words
+fn counted(args: &mut Args) -> Result<Setting, Slip> {
+    let buffer = args.buffer()?;
+    if !buffer.has_words() {
+        return Err(Slip::Misfit);
     }
-    let mut more = k;
-    more.same = k.same && is_at(line, k.length, c);
-    more.length = next(k.length, 1);
-    more
+    Ok(Setting::Content(buffer, Content::Counted(args.number()?)))
 }
 
-fn is_at(line: &[u8], at: usize, c: u8) -> bool {
-    if at >= line.len() {
-        return false;
+// BUFFER PLACE VALUE.., at least one
+fn put(args: &mut Args) -> Result<Setting, Slip> {
+    let buffer = args.buffer()?;
+    let at = args.number()?;
+    let values = args.others()?;
+    if values.as_slice().is_empty() {
+        return Err(Slip::Missing);
     }
-    line[at] == c
-}
-
-// A sum of places, which are far below the limit.
-pub fn next(n: usize, by: usize) -> usize {
-    if n > 65536 {
-        return n;
-    }
-    if by > 65536 {
-        return n;
-    }
-    n + by
+    Ok(Setting::Content(buffer, Content::Values { at, values }))
 }

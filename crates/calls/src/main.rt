@@ -13,199 +13,132 @@ mod tell;
 
 ghost use Rattle.io.specs.Counts.{IsPrefixLen};
 
-use commands::Command;
+use commands::{Call, Command, Subject};
+use numbers::{Args, Numbers};
+use slips::{Slip, Stop};
 use state::State;
 use std::env::FillError;
 use std::fs::File;
 use std::os::fd::AsRawFd;
 use std::rt::Env;
 
-// Standard output.
-const STDOUT: i32 = 1;
-
-// How many bytes of a script are read: it has fewer, or is too long.
-const BYTES: usize = 65536;
-
-fn main(rt: HostRuntime) {
-    scripts(&rt);
-}
-
-// Runs the scripts that the arguments name, each from the start.
-fn scripts(rt: &HostRuntime) {
+// Runs the scripts that the arguments name, each from the start. An argument that does not fit is taken for an empty name.
+fn main(rt: HostRuntime) -> std::io::Result<()> {
     for i in 1..usize::MAX {
-        if !named(rt, i) {
-            return;
-        }
+        let mut name = io::buffer();
+        let n = match rt.arg(i, &mut name) {
+            Ok(n) => n,
+            Err(FillError::TooLong) => 0,
+            Err(FillError::NotPresent) => return Ok(()),
+        };
+        script(&rt, str::from_utf8(&name[..n]).unwrap_or(""))?;
     }
+    Ok(())
 }
 
-// Runs the script that argument i names, and answers whether there is one. An argument that does not fit is taken for an empty name.
-fn named(rt: &HostRuntime, i: usize) -> bool {
-    let mut name = io::buffer();
-    let n = match rt.arg(i, &mut name) {
-        Ok(n) => n,
-        Err(FillError::TooLong) => 0,
-        Err(FillError::NotPresent) => return false,
-    };
-    io::write_all(STDOUT, &name[..n]);
-    tell::end();
-    script(rt, &name[..n]);
-    true
-}
-
-fn script(rt: &HostRuntime, name: &[u8]) {
+// Runs a script from the start, and says so where there is none. What ends it before its last line is told there.
+fn script(rt: &HostRuntime, name: &str) -> std::io::Result<()> {
+    println!(rt; "{name}")?;
     let mut text = io::large_buffer();
-    let n = read(rt, name, &mut text);
-    let slip = slip_of(n);
-    if slip != 0 {
-        slips::told(name, 0, slip);
-        return;
+    match read(rt, name, &mut text) {
+        Ok(text) => match lines(rt, name, text, &mut State::start(), outer) {
+            Err(Stop::Output(error)) => Err(error),
+            _ => Ok(()),
+        },
+        Err(slip) => println!(rt; "{name}:0: {slip}"),
     }
-    lines(rt, name, &text[..n], state::start());
 }
 
-// Reads a script, and answers how many bytes it has: at most those that the buffer takes, and none where it is not there.
-fn read(rt: &HostRuntime, name: &[u8], text: &mut [u8]) -> usize
-    ensures { IsPrefixLen result text.new }
-{
-    let Ok(path) = str::from_utf8(name) else {
-        return 0;
-    };
-    match File::open(rt, path) {
+// Reads a script, which has fewer bytes than the buffer takes.
+fn read<'a>(rt: &HostRuntime, name: &str, text: &'a mut [u8]) -> Result<&'a str, Slip> {
+    let n = match File::open(rt, name) {
         Ok(file) => io::read_full(file.as_raw_fd(), text),
         Err(_) => 0,
+    };
+    if n == text.len() {
+        return Err(Slip::TooLong);
     }
-}
-
-// What is wrong with a script of so many bytes.
-fn slip_of(bytes: usize) -> u8 {
-    if bytes == 0 {
-        return slips::NO_SCRIPT;
+    match str::from_utf8(&text[..n]) {
+        Ok(text) if n > 0 => Ok(text),
+        _ => Err(Slip::NoScript),
     }
-    if bytes >= BYTES {
-        return slips::TOO_LONG;
-    }
-    0
 }
 
 // ---- lines
 
-// Carries out the lines of a script up to its end, or to one that has a slip.
-fn lines(rt: &HostRuntime, name: &[u8], text: &[u8], s: State) {
-    let mut now = s;
-    let mut number: u64 = 1;
-    let mut at = 0;
-    while at < text.len() {
-        let end = commands::up_to(text, at, b'\n');
-        now = outer(rt, &text[at..end], now);
-        if now.slip != 0 {
-            slips::told(name, number, now.slip);
-            return;
+// Carries out the lines of a script up to its end, or to one that has a slip, which is told.
+fn lines<F>(
+    rt: &HostRuntime,
+    name: &str,
+    text: &str,
+    s: &mut State,
+    carry_out: F,
+) -> Result<(), Stop>
+where
+    F: Fn(&HostRuntime, &str, &mut State) -> Result<(), Stop>,
+    requires { F.IsAlwaysCallable carry_out }
+{
+    for (line, number) in text.lines().zip(1u64..) {
+        match carry_out(rt, line, s) {
+            Err(Stop::Slip(slip)) => {
+                println!(rt; "{name}:{number}: {slip}")?;
+                return Err(Stop::Slip(slip));
+            }
+            done => done?,
         }
-        if end >= BYTES {
-            return;
-        }
-        at = end + 1;
-        number = std::num::wrapping_add_u64(number, 1);
     }
+    Ok(())
 }
 
 // Carries out a line that may call a script by `do NAME NUMBER..`. The line is written, and its numbers stand for `$1` and so on in that script.
-fn outer(rt: &HostRuntime, text: &[u8], s: State) -> State {
-    if !commands::is_do(text) {
-        return line(text, s);
-    }
-    io::write_all(STDOUT, text);
-    tell::end();
-    if text.len() < 3 {
-        return s;
-    }
-    let end = commands::up_to(text, 3, b' ');
-    let numbers = commands::of_call(text, end);
-    if numbers.slip != 0 {
-        return state::with_slip(s, numbers.slip);
-    }
-    let left = called(rt, &text[3..end], state::with_numbers(s, numbers));
-    state::with_numbers(left, numbers::none())
-}
-
-// Runs a script that another one calls.
-fn called(rt: &HostRuntime, name: &[u8], s: State) -> State {
+fn outer(rt: &HostRuntime, text: &str, s: &mut State) -> Result<(), Stop> {
+    let Some(call) = text.strip_prefix("do ") else {
+        return line(rt, text, s);
+    };
+    println!(rt; "{text}")?;
+    let (name, numbers) = call.split_once(' ').unwrap_or((call, ""));
+    let mut args = Args::new(numbers, &[]);
+    s.called = args.others()?;
+    args.end()?;
     let mut text = io::large_buffer();
-    let n = read(rt, name, &mut text);
-    let slip = slip_of(n);
-    if slip != 0 {
-        return state::with_slip(s, slip);
-    }
-    inner(name, &text[..n], s)
-}
-
-// The same as `lines` for a script that is called, which calls none.
-fn inner(name: &[u8], text: &[u8], s: State) -> State {
-    let mut now = s;
-    let mut number: u64 = 1;
-    let mut at = 0;
-    while at < text.len() {
-        let end = commands::up_to(text, at, b'\n');
-        now = line(&text[at..end], now);
-        if now.slip != 0 {
-            slips::told(name, number, now.slip);
-            return now;
-        }
-        if end >= BYTES {
-            return now;
-        }
-        at = end + 1;
-        number = std::num::wrapping_add_u64(number, 1);
-    }
-    now
+    lines(rt, name, read(rt, name, &mut text)?, s, line)?;
+    s.called = Numbers::none();
+    Ok(())
 }
 
 // Carries out a line. One that starts with `#` is for the reader, and one with a quote is written as it stands.
-fn line(text: &[u8], s: State) -> State {
-    if text.len() == 0 {
-        return s;
+fn line(rt: &HostRuntime, text: &str, s: &mut State) -> Result<(), Stop> {
+    if text.is_empty() || text.starts_with('#') {
+        return Ok(());
     }
-    if text[0] == b'#' {
-        return s;
+    if text.starts_with('"') {
+        println!(rt; "{text}")?;
+        return Ok(());
     }
-    if text[0] == b'"' {
-        io::write_all(STDOUT, text);
-        tell::end();
-        return s;
+    let (word, numbers) = text.split_once(' ').unwrap_or((text, ""));
+    let called = s.called;
+    let mut args = Args::new(numbers, called.as_slice());
+    let command = commands::parsed(word, s.subject, &mut args)?;
+    let read = args.end()?;
+    match command {
+        Command::Setting(setting) => s.set(setting)?,
+        Command::Call(call) => {
+            tell::call(rt, word, read.as_slice())?;
+            made(rt, call, s)?;
+        }
     }
-    let numbers = s.called;
-    carried_out(text, s, commands::parsed(text, s.manager, numbers))
-}
-
-// Carries out a command: a setting, or a call, of which a line is written.
-fn carried_out(text: &[u8], s: State, c: Command) -> State {
-    let numbers = c.numbers;
-    if numbers.slip != 0 {
-        return state::with_slip(s, numbers.slip);
-    }
-    if c.name < commands::MAP {
-        return state::set(s, c);
-    }
-    let end = commands::up_to(text, 0, b' ');
-    io::write_all(STDOUT, &text[0..end]);
-    tell::numbers(numbers);
-    made(s, c)
+    Ok(())
 }
 
 // Makes a call, and tells its answer and what it changed.
-fn made(s: State, c: Command) -> State {
-    let next = if s.manager {
-        on_manager::call(s, c)
-    } else {
-        on_machine::call(s, c)
-    };
+fn made(rt: &HostRuntime, call: Call, s: &mut State) -> std::io::Result<()> {
     let list = s.list;
-    let next_list = next.list;
-    tell::list_changes(list, next_list);
     let lent = s.lent;
-    let next_lent = next.lent;
-    tell::changes(lent, next_lent);
-    tell::end();
-    next
+    match s.subject {
+        Subject::Machine => on_machine::call(rt, s, call)?,
+        Subject::Manager => on_manager::call(rt, s, call)?,
+    }
+    tell::list_changes(rt, &list, &s.list)?;
+    tell::changes(rt, &lent, &s.lent)?;
+    println!(rt)
 }

@@ -1,64 +1,45 @@
 // A call of the machine, or a look at the position, on as much of each buffer as the script says. A function has few calls here: its proof takes time by
 // the square of the slices that it hands on.
-use crate::commands::Command;
-use crate::lent::{at_most, byte, word};
-use crate::numbers::ARGS;
-use crate::state::{State, entry, half};
+use crate::commands::{Access, AccessKind, Call, ListCall, LongTransfer, MachineCall, Transfer};
+use crate::lent::{ANSWERS, BUFFER, MEMORY, PROTECTIONS, RECORDS, TAGS, WORDS};
+use crate::state::State;
 use crate::tell::{drawn, found, listed, told};
-use crate::{commands, lent};
 use mapping::{Batch, MappingList};
+use std::io::Result;
 
-// Makes a call, tells its answer, and hands back what it leaves.
-pub fn call(s: State, c: Command) -> State {
-    let mut l = s.lent;
-    let mut r = lent::records(l);
-    let mut p = lent::protections(l);
-    let mut m = lent::memory(l);
-    let mut w = lent::words(l);
-    let mut t = lent::tags(l);
-    let mut b = lent::buffer(l);
-    let mut a = lent::answers(l);
+// Makes a call, and tells its answer.
+pub fn call(rt: &impl Print, s: &mut State, call: Call) -> Result<()> {
     let n = s.lengths;
-    let nr = at_most(n[0], lent::RECORDS);
-    let np = at_most(n[1], lent::PROTECTIONS);
-    let nm = at_most(n[2], lent::MEMORY);
-    let nw = at_most(n[3], lent::WORDS);
-    let nt = at_most(n[4], lent::TAGS);
-    let nb = at_most(n[5], lent::BUFFER);
-    let na = at_most(n[6], lent::ANSWERS);
-    let numbers = c.numbers;
-    let args = numbers.args;
     let list = s.list;
     let batch = s.batch;
-    let next = chosen(
-        c.name,
-        args,
+    let lent = &mut s.lent;
+    let r: &mut [u32] = &mut lent.records;
+    let p: &mut [u8] = &mut lent.protections;
+    let m: &mut [u32] = &mut lent.memory;
+    let w: &mut [u32] = &mut lent.words;
+    let t: &mut [u8] = &mut lent.tags;
+    let b: &mut [u32] = &mut lent.buffer;
+    let a: &mut [u8] = &mut lent.answers;
+    s.list = chosen(
+        rt,
+        call,
         list,
         batch,
-        &mut r[0..nr],
-        &mut p[0..np],
-        &mut m[0..nm],
-        &mut w[0..nw],
-        &mut t[0..nt],
-        &mut b[0..nb],
-        &mut a[0..na],
-    );
-    l.r = r;
-    l.p = p;
-    l.m = m;
-    l.w = w;
-    l.t = t;
-    l.b = b;
-    l.a = a;
-    let mut left = s;
-    left.lent = l;
-    left.list = next;
-    left
+        &mut r[..n.records.min(RECORDS)],
+        &mut p[..n.protections.min(PROTECTIONS)],
+        &mut m[..n.memory.min(MEMORY)],
+        &mut w[..n.words.min(WORDS)],
+        &mut t[..n.tags.min(TAGS)],
+        &mut b[..n.buffer.min(BUFFER)],
+        &mut a[..n.answers.min(ANSWERS)],
+    )?;
+    Ok(())
 }
 
+// Makes a call of any kind, and hands back the list that it leaves.
 fn chosen(
-    name: usize,
-    args: [u64; ARGS],
+    rt: &impl Print,
+    call: Call,
     list: MappingList,
     batch: Batch,
     r: &mut [u32],
@@ -68,25 +49,21 @@ fn chosen(
     t: &mut [u8],
     b: &mut [u32],
     a: &mut [u8],
-) -> MappingList {
-    if name <= commands::MAP_ALL {
-        return listing(name, args, list, batch, r, p, m, w, t, a);
+) -> Result<MappingList> {
+    match call {
+        Call::List(call) => return listing(rt, call, list, batch, r, p, m, w, t, a),
+        Call::Access(call) => access(rt, call, list, r, p, m, w, t)?,
+        Call::Transfer(frame, call) => transfer(rt, frame, call, list, r, p, m, w, t, b)?,
+        Call::LongTransfer(frame, call) => slow(rt, frame, call, list, r, p, m, w, t)?,
+        Call::OfMachine(call) => other(rt, call, list, r, p, m, w, t)?,
     }
-    match name {
-        commands::READ..=commands::FETCH => accesses(name, args, list, r, p, m, w, t),
-        commands::EVICT..=commands::LOOK => others(name, args, list, r, p, m, w, t),
-        commands::DEVICE_READ..=commands::DEVICE_WRITE_PART => transfers(
-            name, args, list, r, p, m, w, t, b,
-        ),
-        _ => slow(name, args, list, r, p, m, w, t),
-    }
-    list
+    Ok(list)
 }
 
 // Calls that change the list.
 fn listing(
-    name: usize,
-    args: [u64; ARGS],
+    rt: &impl Print,
+    call: ListCall,
     list: MappingList,
     batch: Batch,
     r: &[u32],
@@ -95,77 +72,74 @@ fn listing(
     w: &[u32],
     t: &[u8],
     a: &mut [u8],
-) -> MappingList {
-    match name {
-        commands::MAP => listed(machine::map(
-            list,
-            r,
-            p,
-            m,
-            w,
-            t,
-            entry(args[0], args[1], args[2], args[3]),
-        )),
-        commands::UNMAP => listed(machine::unmap(
-            list,
-            r,
-            p,
-            m,
-            w,
-            t,
-            byte(args[0]),
-            half(args[1]),
-        )),
-        _ => listed(machine::map_all(list, r, p, m, w, t, batch, a)),
+) -> Result<MappingList> {
+    match call {
+        ListCall::Map(mapping) => listed(rt, machine::map(list, r, p, m, w, t, mapping)),
+        ListCall::Unmap(space, page) => {
+            listed(rt, machine::unmap(list, r, p, m, w, t, space, page))
+        }
+        ListCall::MapAll => listed(rt, machine::map_all(list, r, p, m, w, t, batch, a)),
     }
 }
 
 // Accesses.
-fn accesses(
-    name: usize,
-    args: [u64; ARGS],
+fn access(
+    rt: &impl Print,
+    call: Access,
     list: MappingList,
     r: &mut [u32],
     p: &mut [u8],
     m: &mut [u32],
     w: &mut [u32],
     t: &mut [u8],
-) {
-    let space = byte(args[0]);
-    let page = half(args[1]);
-    let offset = args[2] as usize;
-    match name {
-        commands::READ => found(machine::read(list, r, p, m, w, t, space, page, offset)),
-        commands::FETCH => found(machine::fetch(list, r, p, m, w, t, space, page, offset)),
-        _ => told(machine::write(list, r, p, m, w, t, space, page, offset, word(args[3]))),
+) -> Result<()> {
+    let Access {
+        kind,
+        space,
+        page,
+        offset,
+        word,
+    } = call;
+    match kind {
+        AccessKind::Read => found(rt, machine::read(list, r, p, m, w, t, space, page, offset)),
+        AccessKind::Fetch => found(rt, machine::fetch(list, r, p, m, w, t, space, page, offset)),
+        AccessKind::Write => told(
+            rt,
+            machine::write(list, r, p, m, w, t, space, page, offset, word),
+        ),
     }
 }
 
 // Evictions, and looks at the position.
-fn others(
-    name: usize,
-    args: [u64; ARGS],
+fn other(
+    rt: &impl Print,
+    call: MachineCall,
     list: MappingList,
     r: &mut [u32],
     p: &mut [u8],
     m: &mut [u32],
     w: &mut [u32],
     t: &mut [u8],
-) {
-    let space = byte(args[0]);
-    let page = half(args[1]);
-    let clock = word(args[2]);
-    let hold = word(args[3]);
-    match name {
-        commands::EVICT => told(machine::evict(list, r, p, m, w, t, args[0] as usize)),
-        _ => drawn(position_hold::look(list, r, p, m, w, t, space, page, clock, hold)),
+) -> Result<()> {
+    match call {
+        MachineCall::Evict(line) => told(rt, machine::evict(list, r, p, m, w, t, line)),
+        MachineCall::Look {
+            space,
+            page,
+            clock,
+            hold,
+        } => drawn(
+            rt,
+            position_hold::look(list, r, p, m, w, t, space, page, clock, hold),
+        ),
     }
 }
 
 // Transfers in one step.
-fn transfers(
-    name: usize,
-    args: [u64; ARGS],
+fn transfer(
+    rt: &impl Print,
+    frame: u8,
+    call: Transfer,
     list: MappingList,
     r: &mut [u32],
     p: &mut [u8],
@@ -173,45 +147,39 @@ fn transfers(
     w: &[u32],
     t: &mut [u8],
     b: &mut [u32],
-) {
-    let frame = byte(args[0]);
-    let first = args[1] as usize;
-    let number = args[2] as usize;
-    match name {
-        commands::DEVICE_READ => told(machine::device_read(list, r, p, m, w, t, b, frame)),
-        commands::DEVICE_WRITE => told(machine::device_write(list, r, p, m, w, t, b, frame)),
-        _ => told(machine::device_write_part(list, r, p, m, w, t, b, frame, first, number)),
+) -> Result<()> {
+    match call {
+        Transfer::Read => told(rt, machine::device_read(list, r, p, m, w, t, b, frame)),
+        Transfer::Write => told(rt, machine::device_write(list, r, p, m, w, t, b, frame)),
+        Transfer::WritePart(first, number) => told(
+            rt,
+            machine::device_write_part(list, r, p, m, w, t, b, frame, first, number),
+        ),
     }
 }
 
 // Transfers that take a while.
 fn slow(
-    name: usize,
-    args: [u64; ARGS],
+    rt: &impl Print,
+    frame: u8,
+    call: LongTransfer,
     list: MappingList,
     r: &mut [u32],
     p: &mut [u8],
     m: &mut [u32],
     w: &[u32],
     t: &mut [u8],
-) {
-    let frame = byte(args[0]);
-    let offset = args[1] as usize;
-    match name {
-        commands::BEGIN_READ => told(machine::begin_read(list, r, p, m, w, t, frame)),
-        commands::BEGIN_WRITE => told(machine::begin_write(list, r, p, m, w, t, frame)),
-        commands::BRING_WORD => told(machine::bring_word(
-            list,
-            r,
-            p,
-            m,
-            w,
-            t,
-            frame,
-            offset,
-            word(args[2]),
-        )),
-        commands::TAKE_WORD => found(machine::take_word(list, r, p, m, w, t, frame, offset)),
-        _ => told(machine::end_transfer(list, r, p, m, w, t, frame)),
+) -> Result<()> {
+    match call {
+        LongTransfer::BeginRead => told(rt, machine::begin_read(list, r, p, m, w, t, frame)),
+        LongTransfer::BeginWrite => told(rt, machine::begin_write(list, r, p, m, w, t, frame)),
+        LongTransfer::BringWord(offset, word) => told(
+            rt,
+            machine::bring_word(list, r, p, m, w, t, frame, offset, word),
+        ),
+        LongTransfer::TakeWord(offset) => {
+            found(rt, machine::take_word(list, r, p, m, w, t, frame, offset))
+        }
+        LongTransfer::End => told(rt, machine::end_transfer(list, r, p, m, w, t, frame)),
     }
 }

@@ -1,39 +1,47 @@
-// What can be wrong with a line of a script, and the message that says so.
-use crate::{STDOUT, tell};
+// What can be wrong with a line of a script, and what ends a script.
+use std::{fmt, io};
 
-// Its word is no command; a number is missing, one too many, too large, or none at all; a script that it calls is not there, or is too long.
-pub const UNKNOWN: u8 = 1;
+// What is wrong with a line, or with the script that it calls.
+#[derive(Clone, Copy, Debug, PartialEq, Eq)]
+pub enum Slip {
+    NoCommand,
+    Missing,
+    Extra,
+    Misfit,
+    NoNumber,
+    NoScript,
+    TooLong,
+}
 
-pub const MISSING: u8 = 2;
-
-pub const EXTRA: u8 = 3;
-
-pub const MISFIT: u8 = 4;
-
-pub const NO_NUMBER: u8 = 5;
-
-pub const NO_SCRIPT: u8 = 6;
-
-pub const TOO_LONG: u8 = 7;
-
-// Says what is wrong with a line of a script.
-pub fn told(name: &[u8], number: u64, slip: u8) {
-    io::write_all(STDOUT, name);
-    io::write_all(STDOUT, b":");
-    io::print_decimal(STDOUT, number);
-    io::write_all(STDOUT, b": ");
-    match slip {
-        UNKNOWN => message(b"no such command"),
-        MISSING => message(b"a number is missing"),
-        EXTRA => message(b"a number too many"),
-        MISFIT => message(b"a number does not fit"),
-        NO_NUMBER => message(b"not a number"),
-        NO_SCRIPT => message(b"no such script"),
-        _ => message(b"the script is too long"),
+impl fmt::Display for Slip {
+    fn fmt<W: fmt::Write>(&self, f: &mut fmt::Formatter<W>) -> fmt::Result {
+        f.write_str(match self {
+            Slip::NoCommand => "no such command",
+            Slip::Missing => "a number is missing",
+            Slip::Extra => "a number too many",
+            Slip::Misfit => "a number does not fit",
+            Slip::NoNumber => "not a number",
+            Slip::NoScript => "no such script",
+            Slip::TooLong => "the script is too long",
+        })
     }
 }
 
-fn message(text: &[u8]) {
-    io::write_all(STDOUT, text);
-    tell::end();
+// What ends a script before its last line: a slip, or text that cannot be written.
+#[derive(Debug, Drop)]
+pub enum Stop {
+    Slip(Slip),
+    Output(io::Error),
+}
+
+impl From<Slip> for Stop {
+    fn from(slip: Slip) -> Stop {
+        Stop::Slip(slip)
+    }
+}
+
+impl From<io::Error> for Stop {
+    fn from(error: io::Error) -> Stop {
+        Stop::Output(error)
+    }
 }

@@ -1,293 +1,160 @@
 // Text on a call: the refusal, or 0, the two operations and the word, or what is drawn; and what changed.
-ghost use Rattle.std.specs.Prelude.{◌<◌, length};
-
-use crate::STDOUT;
 use crate::lent::Lent;
-use crate::numbers::{Numbers, wide};
 use machine::Loaded;
 use manager::{Answer, FrameOps, Listed};
-use mapping::{CAPACITY, Mapping, MappingList};
+use mapping::{Mapping, MappingList};
 use page_model::Op;
-use position_hold::Drawn;
+use position_hold::Position;
+use std::fmt::Display;
+use std::io::Result;
 
-// ---- answers
+// ---- a call and its answer
 
-// A call's numbers, after its word.
-pub fn numbers(n: Numbers) {
-    let args = n.args;
-    let mut i = 0;
-    while i < 12 {
-        if i < n.count {
-            spaced(args[i]);
-        }
-        i += 1;
+// The word of a call with its numbers.
+pub fn call(rt: &impl Print, word: &str, numbers: &[u64]) -> Result<()> {
+    print!(rt; "{word}")?;
+    for n in numbers {
+        print!(rt; " {n}")?;
     }
-    io::write_all(STDOUT, b":");
+    print!(rt; ":")
 }
 
-pub fn found(loaded: Loaded) {
+// The answer of a call that finds a word.
+pub fn found(rt: &impl Print, loaded: Loaded) -> Result<()> {
     match loaded {
-        Loaded::Refused(n) => spaced(wide(n)),
+        Loaded::Refused(n) => refused(rt, n),
         Loaded::Word(operations, word) => {
-            both(operations);
-            spaced(long(word));
+            accepted(rt, operations)?;
+            print!(rt; " {word}")
         }
     }
 }
 
-pub fn told(answer: Answer) {
+// The answer of another call.
+pub fn told(rt: &impl Print, answer: Answer) -> Result<()> {
     match answer {
-        Answer::Refused(n) => spaced(wide(n)),
-        Answer::Accepted(operations) => both(operations),
+        Answer::Refused(n) => refused(rt, n),
+        Answer::Accepted(operations) => accepted(rt, operations),
     }
 }
 
-// Tells the answer of a call that changes the list, and hands back the list.
-pub fn listed(l: Listed) -> MappingList {
-    let answer = l.answer;
-    told(answer);
-    l.list
+// The answer of a call that changes the list, which is handed back.
+pub fn listed(rt: &impl Print, l: Listed) -> Result<MappingList> {
+    told(rt, l.answer)?;
+    Ok(l.list)
 }
 
 // What a look at the position draws, or its refusal.
-pub fn drawn(d: Drawn) {
-    match d {
-        Drawn::Refused(n) => spaced(wide(n)),
-        Drawn::Blank => blank(),
-        Drawn::Position(latitude, longitude) => position(latitude, longitude),
+pub fn drawn(rt: &impl Print, look: std::result::Result<Option<Position>, u8>) -> Result<()> {
+    match look {
+        Ok(Some(p)) => print!(rt; " position {} {}", p.latitude, p.longitude),
+        Ok(None) => print!(rt; " blank"),
+        Err(n) => refused(rt, n),
     }
 }
 
-fn blank() {
-    io::write_all(STDOUT, b" blank");
+// A refusal, by its number.
+fn refused(rt: &impl Print, number: u8) -> Result<()> {
+    print!(rt; " {number}")
 }
 
-fn position(latitude: u32, longitude: u32) {
-    io::write_all(STDOUT, b" position");
-    spaced(long(latitude));
-    spaced(long(longitude));
-}
-
-fn both(operations: FrameOps) {
-    let ops = operations.ops;
-    let first = ops.first;
-    let second = ops.second;
-    spaced(0);
-    operation(operations.frame, first);
-    operation(operations.frame, second);
+// The operations of a call that was not refused.
+fn accepted(rt: &impl Print, operations: FrameOps) -> Result<()> {
+    print!(rt; " 0")?;
+    operation(rt, operations.frame, operations.ops.first)?;
+    operation(rt, operations.frame, operations.ops.second)
 }
 
 // An operation, with its frame and colour.
-fn operation(frame: u8, op: Op) {
+fn operation(rt: &impl Print, frame: u8, op: Op) -> Result<()> {
     match op {
-        Op::None => none(),
-        Op::Flush(colour) => on(b'F', frame, colour),
-        Op::Purge(colour) => on(b'P', frame, colour),
-        Op::PurgeInstructions(colour) => on(b'I', frame, colour),
+        Op::None => print!(rt; " -"),
+        Op::Flush(colour) => print!(rt; " F{frame}.{colour}"),
+        Op::Purge(colour) => print!(rt; " P{frame}.{colour}"),
+        Op::PurgeInstructions(colour) => print!(rt; " I{frame}.{colour}"),
     }
-}
-
-fn none() {
-    io::write_all(STDOUT, b" -");
-}
-
-fn on(letter: u8, frame: u8, colour: usize) {
-    let start = [b' ', letter];
-    io::write_all(STDOUT, &start);
-    io::print_decimal(STDOUT, wide(frame));
-    dotted(colour as u64);
 }
 
 // ---- changes of the list: n, its count, and l, its places with space, page, frame and rights
 
-pub fn list_changes(before: MappingList, after: MappingList) {
+// The count and the places that are others than before.
+pub fn list_changes(rt: &impl Print, before: &MappingList, after: &MappingList) -> Result<()> {
     if before.count != after.count {
-        io::write_all(STDOUT, b" n=");
-        io::print_decimal(STDOUT, after.count as u64);
+        let count = after.count;
+        print!(rt; " n={count}")?;
     }
-    let mut i = 0;
-    while i < CAPACITY {
-        place_change(i, before.items[i], after.items[i]);
-        i += 1;
+    for (place, (old, new)) in before.items.iter().zip(&after.items).enumerate() {
+        if !is_same(*old, *new) {
+            print!(rt;
+                " l{place}={}.{}.{}.{}",
+                new.space, new.page, new.frame, new.rights
+            )?;
+        }
     }
+    Ok(())
 }
 
-fn place_change(i: usize, before: Mapping, after: Mapping) {
-    if same_mapping(before, after) {
-        return;
-    }
-    io::write_all(STDOUT, b" l");
-    io::print_decimal(STDOUT, i as u64);
-    io::write_all(STDOUT, b"=");
-    io::print_decimal(STDOUT, wide(after.space));
-    dotted(after.page as u64);
-    dotted(wide(after.frame));
-    dotted(wide(after.rights));
-}
-
-fn same_mapping(a: Mapping, b: Mapping) -> bool {
-    a.space == b.space && a.page == b.page && a.frame == b.frame && a.rights == b.rights
+// Whether two mappings are equal.
+fn is_same(a: Mapping, b: Mapping) -> bool {
+    (a.space, a.page, a.frame, a.rights) == (b.space, b.page, b.frame, b.rights)
 }
 
 // ---- changes of what is lent: the letter, the place or the first and the last of a run of places, and their new value
 
-pub fn changes(before: Lent, after: Lent) {
-    changed_tables(before, after);
-    changed_store(before, after);
-    changed_copies(before, after);
+// The changes of all buffers.
+pub fn changes(rt: &impl Print, before: &Lent, after: &Lent) -> Result<()> {
+    changed(rt, 'r', &before.records, &after.records)?;
+    changed(rt, 'p', &before.protections, &after.protections)?;
+    changed(rt, 'm', &before.memory, &after.memory)?;
+    changed(rt, 'w', &before.words, &after.words)?;
+    changed(rt, 't', &before.tags, &after.tags)?;
+    changed(rt, 'b', &before.buffer, &after.buffer)?;
+    changed(rt, 'a', &before.answers, &after.answers)
 }
 
-fn changed_tables(before: Lent, after: Lent) {
-    let r = before.r;
-    let next_r = after.r;
-    changed_words(&r, &next_r, b'r');
-    let p = before.p;
-    let next_p = after.p;
-    changed_bytes(&p, &next_p, b'p');
+// Places one behind the other that have changed to one value.
+#[derive(Clone, Copy)]
+struct Run<T> {
+    first: usize,
+    last: usize,
+    value: T,
 }
 
-fn changed_store(before: Lent, after: Lent) {
-    let m = before.m;
-    let next_m = after.m;
-    changed_words(&m, &next_m, b'm');
-    let w = before.w;
-    let next_w = after.w;
-    changed_words(&w, &next_w, b'w');
-    let t = before.t;
-    let next_t = after.t;
-    changed_bytes(&t, &next_t, b't');
-}
-
-fn changed_copies(before: Lent, after: Lent) {
-    let b = before.b;
-    let next_b = after.b;
-    changed_words(&b, &next_b, b'b');
-    let a = before.a;
-    let next_a = after.a;
-    changed_bytes(&a, &next_a, b'a');
-}
-
-fn changed_words(before: &[u32], after: &[u32], letter: u8) {
-    let mut i = 0;
-    while i < after.len() {
-        i = next_word(before, after, i, letter);
-    }
-}
-
-// Tells the run that starts at a place, if one does, and answers the place behind it.
-fn next_word(before: &[u32], after: &[u32], from: usize, letter: u8) -> usize
-    requires { from < length after.now }
-    ensures { from < result }
-{
-    let past = word_run(before, after, from);
-    if past <= from {
-        return from + 1;
-    }
-    run(letter, from, past - 1, long(after[from]));
-    past
-}
-
-// The place past a run of changed values that are the same; the place itself where the value has not changed.
-fn word_run(before: &[u32], after: &[u32], from: usize) -> usize {
-    let mut i = from;
-    while i < after.len() {
-        if !same_word(before, after, from, i) {
-            return i;
+// The runs of a buffer.
+fn changed<T: Copy + PartialEq + Display>(
+    rt: &impl Print,
+    letter: char,
+    before: &[T],
+    after: &[T],
+) -> Result<()> {
+    let mut run: Option<Run<T>> = None;
+    for (place, (old, new)) in before.iter().zip(after).enumerate() {
+        let is_changed = *old != *new;
+        if let Some(r) = &mut run
+            && is_changed
+            && r.value == *new
+        {
+            r.last = place;
+            continue;
         }
-        i += 1;
+        ended(rt, letter, run)?;
+        run = is_changed.then_some(Run {
+            first: place,
+            last: place,
+            value: *new,
+        });
     }
-    i
+    ended(rt, letter, run)
 }
 
-// Whether the value at a place changed, and is that of another place.
-fn same_word(before: &[u32], after: &[u32], first: usize, at: usize) -> bool {
-    if at >= before.len() {
-        return false;
+// A run that is over, if there is one.
+fn ended<T: Copy + Display>(rt: &impl Print, letter: char, run: Option<Run<T>>) -> Result<()> {
+    let Some(Run { first, last, value }) = run else {
+        return Ok(());
+    };
+    if first < last {
+        print!(rt; " {letter}{first}-{last}={value}")
+    } else {
+        print!(rt; " {letter}{first}={value}")
     }
-    if at >= after.len() {
-        return false;
-    }
-    if first >= after.len() {
-        return false;
-    }
-    before[at] != after[at] && after[at] == after[first]
-}
-
-fn changed_bytes(before: &[u8], after: &[u8], letter: u8) {
-    let mut i = 0;
-    while i < after.len() {
-        i = next_byte(before, after, i, letter);
-    }
-}
-
-fn next_byte(before: &[u8], after: &[u8], from: usize, letter: u8) -> usize
-    requires { from < length after.now }
-    ensures { from < result }
-{
-    let past = byte_run(before, after, from);
-    if past <= from {
-        return from + 1;
-    }
-    run(letter, from, past - 1, wide(after[from]));
-    past
-}
-
-fn byte_run(before: &[u8], after: &[u8], from: usize) -> usize {
-    let mut i = from;
-    while i < after.len() {
-        if !same_byte(before, after, from, i) {
-            return i;
-        }
-        i += 1;
-    }
-    i
-}
-
-fn same_byte(before: &[u8], after: &[u8], first: usize, at: usize) -> bool {
-    if at >= before.len() {
-        return false;
-    }
-    if at >= after.len() {
-        return false;
-    }
-    if first >= after.len() {
-        return false;
-    }
-    before[at] != after[at] && after[at] == after[first]
-}
-
-fn run(letter: u8, from: usize, last: usize, value: u64) {
-    let text = [b' ', letter];
-    io::write_all(STDOUT, &text);
-    io::print_decimal(STDOUT, from as u64);
-    if from < last {
-        to(last);
-    }
-    io::write_all(STDOUT, b"=");
-    io::print_decimal(STDOUT, value);
-}
-
-fn to(last: usize) {
-    io::write_all(STDOUT, b"-");
-    io::print_decimal(STDOUT, last as u64);
-}
-
-// ---- pieces
-
-pub fn spaced(n: u64) {
-    io::write_all(STDOUT, b" ");
-    io::print_decimal(STDOUT, n);
-}
-
-fn dotted(n: u64) {
-    io::write_all(STDOUT, b".");
-    io::print_decimal(STDOUT, n);
-}
-
-pub fn end() {
-    io::write_all(STDOUT, b"\n");
-}
-
-fn long(word: u32) -> u64 {
-    word as u64
 }

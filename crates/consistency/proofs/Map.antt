@@ -8,7 +8,7 @@ use lib.ListN.{length}
 use borrow.Author.Tests.{eqb-true, eqb-false, not-false}
 use Rattle.bits.proofs.Tautology.{and_left}
 use Rattle.board.specs.declared.Board.{Board}
-use Rattle.mapping.specs.declared.Found.TheVariants.{Nothing}
+use Rattle.std.specs.Prelude.{None}
 use Rattle.mapping.specs.declared.Mapping.{Mapping}
 use Rattle.mapping.specs.declared.MappingList.{MappingList}
 use Rattle.mapping.specs.Change.{insert, remove}
@@ -45,7 +45,7 @@ replaced_cases P g i j a x y same other = go (eqb i x) (eqb j y) refl refl
 
 -- what an accepted map tells of its mapping
 pub map_clear : (b : Board) (st : State) (m : Mapping) → first_refusal (causes b st (map m.space m.page m.frame m.rights)) ≡ 0
-    → WellFormedTables b st.tables × InRange b m × (lookup st.tables.list m.space m.page ≡ Nothing) × (st.tables.list.count < capacity)
+    → WellFormedTables b st.tables × InRange b m × (lookup st.tables.list m.space m.page ≡ None) × (st.tables.list.count < capacity)
 unfolding causes map_causes first_refusal
 map_clear b st m e =
     let call = map m.space m.page m.frame m.rights in
@@ -74,7 +74,7 @@ module _ (b : Board) (st : State) (m : Cacheless) (inv : Invariant b st m) where
 
   -- ---- map
 
-  module _ (mp : Mapping) (range : InRange b mp) (new : lookup st.tables.list mp.space mp.page ≡ Nothing) (room : st.tables.list.count < capacity) where
+  module _ (mp : Mapping) (range : InRange b mp) (new : lookup st.tables.list mp.space mp.page ≡ None) (room : st.tables.list.count < capacity) where
     map_sound : Sound b (tables (insert st.tables.list mp) st.tables.records st.tables.protections)
     map_sound =
         list_sound (insert st.tables.list mp) (inserted_length st.tables.list mp inv.sound.items_length room b inv.sound.list_rules ∙ inv.sound.items_length)

@@ -4,10 +4,9 @@ use mathlib.Core.Bool.{true, false≢true}
 use mathlib.Core.Option.{some}
 use Prim.Native.Nat.{ℕ}
 use Rattle.board.specs.declared.Board.{Board}
-use Rattle.mapping.specs.declared.Found.{Found}
-use Rattle.mapping.specs.declared.Found.TheVariants.{At, Nothing}
+use Rattle.std.specs.Prelude.{Option, Some, None, is_some}
 use Rattle.mapping.specs.Entry.{mapping_at}
-use Rattle.mapping.specs.Lookup.{lookup, mapping_of, found, is_mapped, place_of}
+use Rattle.mapping.specs.Lookup.{lookup, mapping_of, is_mapped, place_of}
 use Rattle.mapping.proofs.Laws.{mapping_of_at}
 use Rattle.machine.specs.State.{State, page_frame}
 use Rattle.consistency.specs.Cacheless.{Cacheless}
@@ -18,7 +17,7 @@ pub mapped_frame_lem : (b : Board) (st : State) (m : Cacheless) → Invariant b 
     → m.frame space page ≡ some (page_frame st space page)
 mapped_frame_lem b st m inv space page mapped = inv.frames_listed space page ∙ go (lookup st.tables.list space page) refl mapped
   where
-    go : (x : Found) → lookup st.tables.list space page ≡ x → found x ≡ true
+    go : (x : Option ℕ) → lookup st.tables.list space page ≡ x → is_some x ≡ true
         → frame_in (mapping_of st.tables.list space page) ≡ some (mapping_at st.tables.list (place_of x)).frame
-    go (At i) z e = ap frame_in (mapping_of_at st.tables.list space page i z)
-    go Nothing z e = absurd (false≢true e)
+    go (Some i) z e = ap frame_in (mapping_of_at st.tables.list space page i z)
+    go None z e = absurd (false≢true e)

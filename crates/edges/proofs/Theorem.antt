@@ -1,7 +1,6 @@
 -- Every row of the table holds, by computing the definitions.
 use mathlib.Core.List.{List, [], ◌∷◌, ◌++◌}
 use mathlib.Core.Path.{refl}
-use Rattle.page_model.specs.Cases as numbered
 use Rattle.edges.proofs.Again.{second_read_lem}
 use Rattle.edges.proofs.Full.{room_for_one_lem, fresh_pair_lem, mapped_pair_lem}
 use Rattle.edges.proofs.Lists.{lists_hold}
@@ -19,11 +18,9 @@ use Rattle.edges.specs.Transfers.{transfers}
 
 -- the cells of the page model
 cells_hold : EveryRowHolds cells
-unfolding numbered.case_at
 cells_hold = (refl, (refl, (refl, (refl, (refl, (refl, (refl, (refl, (refl, (refl, (refl, (refl, (refl, (refl, (refl, (refl, (refl, (refl, (refl, (refl, (refl, (refl, (refl, (refl, (refl, (refl, (refl, (refl, (refl, (refl, (refl, (refl, (refl, (refl, (refl, (refl, (refl, (refl, (refl, (refl, tt))))))))))))))))))))))))))))))))))))))))
 
 instruction_cells_hold : EveryRowHolds instruction_cells
-unfolding numbered.instruction_case_at
 instruction_cells_hold = (refl, (refl, (refl, (refl, (refl, (refl, (refl, (refl, (refl, (refl, (refl, (refl, (refl, (refl, (refl, (refl, (refl, (refl, (refl, (refl, (refl, (refl, (refl, (refl, (refl, (refl, (refl, tt)))))))))))))))))))))))))))
 
 -- the rows of two lists

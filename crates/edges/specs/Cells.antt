@@ -1,56 +1,58 @@
 -- Document 01, "The page model": both tables, request N3's row, request N6's two and request N8's, with request N9's states after a flush, and N8's
--- table of the instruction colours, cell by cell in their order, as rows. Each speaks of the cases by number that the contracts of
--- `page_model::table::case_at` and `instruction_case_at` name, and so of the code too.
+-- table of the instruction colours, cell by cell in their order, as rows. Each speaks of the code's step and of the cell that the contracts of
+-- `page_model::table::Step::cell` and `instruction_cell` name, and so of the code too.
 use Rattle.std.specs.Prelude.{Bool, true, false, List, [], ◌∷◌, ◌++◌, ℕ}
-use Rattle.page_model.specs.Cases.{state_number, operation_number, case_at, instruction_number, instruction_case_at}
+use Rattle.page_model.specs.declared.table.Step.{Step}
+use Rattle.page_model.specs.declared.table.Step.TheVariants.{Read, Write, DeviceRead, DeviceWrite, DeviceWritePart, BeginRead, BeginWrite, Fetch}
+use Rattle.page_model.specs.Cases.{step_of, row_of, instruction_row_of, state_number, operation_number, instruction_number}
 use Rattle.page_model.specs.Instructions.{InstructionState, unfetched, fetched, outdated, InstructionCell, ◌⇛◌}
-use Rattle.page_model.specs.Table.{ColourState, empty, present, dirty, stale, none, flush, purge, Cell, ◌⇒◌}
+use Rattle.page_model.specs.Table.{ColourState, empty, present, dirty, stale, none, flush, purge, Cell, ◌⇒◌, role_if}
 use Rattle.edges.specs.Rows.{numbers, Row, ◌gives◌}
 
--- ---- the numbers of the steps, as the code has them
+-- ---- the steps, as the code has them; the cells do not look at which colour a processor's step goes through
 
-abbrev pub read : ℕ
-read = 0
+abbrev pub read : Step
+read = Read 0
 
-abbrev pub write : ℕ
-write = 1
+abbrev pub write : Step
+write = Write 0
 
-abbrev pub device_read : ℕ
-device_read = 2
+abbrev pub device_read : Step
+device_read = DeviceRead
 
-abbrev pub device_write : ℕ
-device_write = 3
+abbrev pub device_write : Step
+device_write = DeviceWrite
 
-abbrev pub device_write_part : ℕ
-device_write_part = 4
+abbrev pub device_write_part : Step
+device_write_part = DeviceWritePart
 
-abbrev pub begin_read : ℕ
-begin_read = 5
+abbrev pub begin_read : Step
+begin_read = BeginRead
 
-abbrev pub begin_write : ℕ
-begin_write = 6
+abbrev pub begin_write : Step
+begin_write = BeginWrite
 
-abbrev pub fetch : ℕ
-fetch = 7
+abbrev pub fetch : Step
+fetch = Fetch 0
 
 -- ---- rows
 
--- operation and next state, by their numbers, that a case gives and that a cell has
-abbrev pub case_numbers : ℕ → Bool → ColourState → List ℕ
-case_numbers step own state = (case_at step own (state_number state)).0 ∷ (case_at step own (state_number state)).1 ∷ []
-
+-- operation and next state, by their numbers, that a cell has, and the cell of a step at its own colour or another
 abbrev pub cell_numbers : Cell → List ℕ
 cell_numbers cell = operation_number cell.operation ∷ state_number cell.next ∷ []
 
+abbrev pub step_numbers : Step → Bool → ColourState → List ℕ
+step_numbers step own state = cell_numbers (row_of (step_of step) (role_if own) state)
+
 -- a step at its own colour, at another, and at both alike
-abbrev pub at_own : ℕ → ColourState → Cell → Row
-at_own step state cell = numbers (case_numbers step true state) gives numbers (cell_numbers cell)
+abbrev pub at_own : Step → ColourState → Cell → Row
+at_own step state cell = numbers (step_numbers step true state) gives numbers (cell_numbers cell)
 
-abbrev pub at_other : ℕ → ColourState → Cell → Row
-at_other step state cell = numbers (case_numbers step false state) gives numbers (cell_numbers cell)
+abbrev pub at_other : Step → ColourState → Cell → Row
+at_other step state cell = numbers (step_numbers step false state) gives numbers (cell_numbers cell)
 
-abbrev pub at_every : ℕ → ColourState → Cell → Row
-at_every step state cell = numbers (case_numbers step true state ++ case_numbers step false state) gives numbers (cell_numbers cell ++ cell_numbers cell)
+abbrev pub at_every : Step → ColourState → Cell → Row
+at_every step state cell = numbers (step_numbers step true state ++ step_numbers step false state) gives numbers (cell_numbers cell ++ cell_numbers cell)
 
 -- ---- the cells
 
@@ -108,19 +110,19 @@ cells =
 
 -- ---- the instruction colours
 
-abbrev pub instruction_numbers : ℕ → Bool → InstructionState → List ℕ
-instruction_numbers step own state = (instruction_case_at step own (instruction_number state)).0 ∷ (instruction_case_at step own (instruction_number state)).1 ∷ []
-
 abbrev pub instruction_cell_numbers : InstructionCell → List ℕ
 instruction_cell_numbers cell = operation_number cell.operation ∷ instruction_number cell.next ∷ []
 
-abbrev pub own_instructions : ℕ → InstructionState → InstructionCell → Row
+abbrev pub instruction_numbers : Step → Bool → InstructionState → List ℕ
+instruction_numbers step own state = instruction_cell_numbers (instruction_row_of (step_of step) (role_if own) state)
+
+abbrev pub own_instructions : Step → InstructionState → InstructionCell → Row
 own_instructions step state cell = numbers (instruction_numbers step true state) gives numbers (instruction_cell_numbers cell)
 
-abbrev pub other_instructions : ℕ → InstructionState → InstructionCell → Row
+abbrev pub other_instructions : Step → InstructionState → InstructionCell → Row
 other_instructions step state cell = numbers (instruction_numbers step false state) gives numbers (instruction_cell_numbers cell)
 
-abbrev pub every_instructions : ℕ → InstructionState → InstructionCell → Row
+abbrev pub every_instructions : Step → InstructionState → InstructionCell → Row
 every_instructions step state cell =
     numbers (instruction_numbers step true state ++ instruction_numbers step false state)
     gives numbers (instruction_cell_numbers cell ++ instruction_cell_numbers cell)

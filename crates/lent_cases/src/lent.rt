@@ -1,9 +1,9 @@
 // Records by value, each time lent where they lie to one function.
 use manager::Listed;
-use mapping::{Batch, Found, Mapping, MappingList};
+use mapping::{Batch, Mapping, MappingList};
 
 // The place of a page of a space among the first count of the records.
-pub fn lookup(records: [Mapping; 4], count: usize, space: u8, page: u16) -> Found {
+pub fn lookup(records: [Mapping; 4], count: usize, space: u8, page: u16) -> Option<usize> {
     mapping::lent::lookup(&records, count, space, page)
 }
 

@@ -7,7 +7,7 @@ mod lent;
 ghost use Rattle.std.specs.Prelude.{◌≤◌};
 
 use manager::Answer;
-use mapping::{Batch, Found, Mapping};
+use mapping::{Batch, Mapping};
 
 // Standard output.
 const STDOUT: i32 = 1;
@@ -66,8 +66,8 @@ fn found(records: [Mapping; 4], count: usize, space: u8, page: u16) {
     number(space as u64);
     number(page as u64);
     match lent::lookup(records, count, space, page) {
-        Found::At(i) => number(i as u64),
-        Found::Nothing => none(),
+        Some(i) => number(i as u64),
+        None => none(),
     }
     io::write_all(STDOUT, b"\n");
 }

@@ -8,17 +8,13 @@ use native.Mathlib.Omega.{arith}
 use borrow.Author.Tests.{le-leb, lt-leb, leb-true, leb-false}
 use lib.Dec.{leb}
 use Rattle.board.specs.declared.Board.{Board}
-use Rattle.manager.specs.declared.Change.{Change}
-use Rattle.manager.specs.declared.Plan.{Plan}
-use Rattle.manager.specs.declared.Plan.TheVariants as step_plan
-use Rattle.manager.specs.declared.ListPlan.{ListPlan}
-use Rattle.manager.specs.declared.ListPlan.TheVariants as list_plan
-use Rattle.manager.specs.Calls.{planned, placed}
+use Rattle.std.proofs.Common.{Result, Ok, Err}
+use Rattle.manager.specs.Calls.{planned}
 use Rattle.manager.specs.Refusals.{Cause, first_refusal, refusal_place, in_order, table_causes}
 use Rattle.manager.proofs.FirstRefusal.{from_here, rest_in_order, is_numbered}
 use Rattle.manager.specs.Tables.{lengths_right, rules_kept}
 use Rattle.cache.specs.Tag.{tags_keep_rules}
-use Rattle.machine.specs.Scaffold.Plans.{store_causes, earlier, with_step, with_place, plan_step, plan_place}
+use Rattle.machine.specs.Scaffold.Plans.{store_causes, earlier, with_own, plan_call}
 use Rattle.machine.specs.Refusals.{store_lengths, buffer_right, lent_causes, own_causes, causes}
 use Rattle.machine.specs.State.{State, Single}
 
@@ -40,6 +36,13 @@ earlier_second zero n h l = refl
 earlier_second (suc m) zero h l = absurd (h refl)
 earlier_second (suc m) (suc n) h l = rw (lt-leb (refusal_place (suc m)) (refusal_place (suc n)) (l (λ z. omega arith)))
 
+-- of two, by their places
+pub earlier_by : (m n : ℕ) {t : Bool} → (m ≡ 0 → ⊥) → (n ≡ 0 → ⊥) → t ≡ leb (refusal_place m) (refusal_place n) → cond t m n ≡ earlier m n
+unfolding earlier
+earlier_by zero n hm hn e = absurd (hm refl)
+earlier_by (suc m) zero hm hn e = absurd (hn refl)
+earlier_by (suc m) (suc n) hm hn e = ap (λ (x : Bool). cond x (suc m) (suc n)) e
+
 -- where there is neither, the second is none
 pub earlier_neither : (m n : ℕ) → earlier m n ≡ 0 → n ≡ 0
 unfolding earlier
@@ -51,42 +54,32 @@ earlier_neither (suc m) (suc n) e = absurd (go (leb (refusal_place (suc m)) (ref
     go true z = omega arith
     go false z = omega arith
 
-earlier_none : (m : ℕ) → m ≡ earlier m 0
+pub earlier_none : (m : ℕ) → m ≡ earlier m 0
 unfolding earlier
 earlier_none zero = refl
 earlier_none (suc m) = refl
 
 -- a refusal of the machine's own beside a plan that is none
-pub with_step_own : (own : ℕ) (change : Change) → (own ≡ 0 → ⊥) → step_plan.Refused own ≡ with_step own (step_plan.Step change)
-unfolding with_step
-with_step_own zero change h = absurd (h refl)
-with_step_own (suc own) change h = refl
+pub with_own_refused : (own : ℕ) {A : Type 0} (made : A) → (own ≡ 0 → ⊥) → Err own ≡ with_own own (Ok made)
+unfolding with_own
+with_own_refused zero made h = absurd (h refl)
+with_own_refused (suc own) made h = refl
 
-pub with_place_own : (own place : ℕ) → (own ≡ 0 → ⊥) → list_plan.Refused own ≡ with_place own (list_plan.Place place)
-unfolding with_place
-with_place_own zero place h = absurd (h refl)
-with_place_own (suc own) place h = refl
+-- no refusal of its own leaves the manager's plan
+pub with_none : {A : Type 0} (plan : Result A ℕ) → plan ≡ with_own 0 plan
+unfolding with_own earlier
+with_none (Ok made) = refl
+with_none (Err n) = refl
 
 -- a plan beside a refusal is planned by the earlier
-with_step_earlier : (m n : ℕ) (change : Change) → with_step m (planned n change) ≡ planned (earlier m n) change
-unfolding with_step
-with_step_earlier zero zero change = refl
-with_step_earlier zero (suc n) change = refl
-with_step_earlier (suc m) zero change = refl
-with_step_earlier (suc m) (suc n) change = go (leb (refusal_place (suc m)) (refusal_place (suc n)))
+with_own_earlier : (m n : ℕ) {A : Type 0} (made : A) → with_own m (planned n made) ≡ planned (earlier m n) made
+unfolding with_own
+with_own_earlier zero zero made = refl
+with_own_earlier zero (suc n) made = refl
+with_own_earlier (suc m) zero made = refl
+with_own_earlier (suc m) (suc n) made = go (leb (refusal_place (suc m)) (refusal_place (suc n)))
   where
-    go : (t : Bool) → step_plan.Refused (cond t (suc m) (suc n)) ≡ planned (cond t (suc m) (suc n)) change
-    go true = refl
-    go false = refl
-
-with_place_earlier : (m n place : ℕ) → with_place m (placed n place) ≡ placed (earlier m n) place
-unfolding with_place
-with_place_earlier zero zero place = refl
-with_place_earlier zero (suc n) place = refl
-with_place_earlier (suc m) zero place = refl
-with_place_earlier (suc m) (suc n) place = go (leb (refusal_place (suc m)) (refusal_place (suc n)))
-  where
-    go : (t : Bool) → list_plan.Refused (cond t (suc m) (suc n)) ≡ placed (cond t (suc m) (suc n)) place
+    go : (t : Bool) → Err (cond t (suc m) (suc n)) ≡ planned (cond t (suc m) (suc n)) made
     go true = refl
     go false = refl
 
@@ -198,14 +191,8 @@ module _ (b : Board) (st : State) (call : Single) (mine managers : List Cause) (
       (ap first_refusal own ∙ merged own_place own_place mine managers om on) (in_order_least own_place mine om) (in_order_least own_place managers on)
 
   -- a plan that stands beside the machine's own refusal is the call's
-  pub step_merged : (change : Change) {refusal : ℕ} {plan with : Plan} → with ≡ with_step refusal plan
+  pub plan_merged : {A : Type 0} (made : A) {refusal : ℕ} {plan with : Result A ℕ} → with ≡ with_own refusal plan
       → refusal ≡ first_refusal (store_causes b st.store (buffer_right b call) ++ mine)
-      → plan ≡ planned (first_refusal (table_causes b st.tables ++ managers)) change
-      → with ≡ plan_step b st call change
-  step_merged change ew er ep = ew ∙ ap₂ with_step er ep ∙ with_step_earlier _ _ change ∙ ap (λ (k : ℕ). planned k change) (sym causes_merged)
-
-  pub place_merged : (place : ℕ) {refusal : ℕ} {plan with : ListPlan} → with ≡ with_place refusal plan
-      → refusal ≡ first_refusal (store_causes b st.store (buffer_right b call) ++ mine)
-      → plan ≡ placed (first_refusal (table_causes b st.tables ++ managers)) place
-      → with ≡ plan_place b st call place
-  place_merged place ew er ep = ew ∙ ap₂ with_place er ep ∙ with_place_earlier _ _ place ∙ ap (λ (k : ℕ). placed k place) (sym causes_merged)
+      → plan ≡ planned (first_refusal (table_causes b st.tables ++ managers)) made
+      → with ≡ plan_call b st call made
+  plan_merged made ew er ep = ew ∙ ap₂ with_own er ep ∙ with_own_earlier _ _ made ∙ ap (λ (k : ℕ). planned k made) (sym causes_merged)

@@ -13,67 +13,75 @@ use Rattle.page_model.specs.Table as table
 use Rattle.mapping.specs.Entry.{capacity}
 use Rattle.mapping.specs.Lookup.{lookup, place_of, place_for}
 use Rattle.mapping.specs.Rules.{keeps_rules}
-use Rattle.manager.specs.declared.Plan.{Plan}
-use Rattle.manager.specs.declared.ListPlan.{ListPlan}
-use Rattle.manager.specs.Calls.{change_of, write_step, begin_step, plan_map, plan_unmap, plan_read, plan_write, plan_fetch, plan_transfer, plan_device_write_part}
+use Rattle.manager.specs.Calls.{Plan, ListPlan, change_of, plan_access, write_step, plan_map, plan_unmap, plan_read, plan_write, plan_fetch, plan_transfer, plan_device_write_part}
 use Rattle.manager.specs.Refusals.{Cause, first_refusal, refusal_place, in_order, table_causes, frame_cause, offset_cause, word_cause, end_cause, map_causes, page_causes, read_causes, write_causes, fetch_causes, transfer_causes, part_causes}
 use Rattle.manager.specs.Scaffold.Told.{told_tables}
 use Rattle.manager.proofs.CauseLaws.{told_tables_lem, told_own}
 use Rattle.machine.specs.Refusals.{own_causes, causes}
 use Rattle.machine.specs.State.{State, page_frame, map, unmap, read, write, device_read, device_write_part, evict, bring_word, take_word, end_transfer, fetch}
-use Rattle.machine.specs.Scaffold.Plans.{store_causes, access_causes, earlier, with_step, with_place, plan_step, plan_place, begins}
-use Rattle.machine.proofs.MergeLaws.{causes_merged, step_merged, place_merged}
+use Rattle.machine.specs.Scaffold.Plans.{store_causes, access_causes, earlier, with_own, plan_call, begins, begin_step}
+use Rattle.machine.specs.declared.accesses.Cache.{Cache}
+use Rattle.machine.specs.declared.accesses.Cache.TheVariants.{Data, Instructions}
+use Rattle.machine.specs.Scaffold.Loads.{access_through, load_step, loads}
+use Rattle.machine.proofs.MergeLaws.{causes_merged, plan_merged}
 
 module _ (b : Board) (st : State) {own : ℕ} where
-  pub map_planned : (space page frame rights : ℕ) {plan with : ListPlan} → with ≡ with_place own plan → own ≡ first_refusal (store_causes b st.store true)
-      → plan ≡ plan_map b st.tables space page frame rights → with ≡ plan_place b st (map space page frame rights) (place_for st.tables.list space page)
+  pub map_planned : (space page frame rights : ℕ) {plan with : ListPlan} → with ≡ with_own own plan → own ≡ first_refusal (store_causes b st.store true)
+      → plan ≡ plan_map b st.tables space page frame rights → with ≡ plan_call b st (map space page frame rights) (place_for st.tables.list space page)
   unfolding in_order refusal_place own_causes store_causes map_causes
-  map_planned space page frame rights = place_merged _ _ _ [] (drop 2 (map_causes b st.tables space page frame rights)) refl refl refl _
+  map_planned space page frame rights = plan_merged _ _ _ [] (drop 2 (map_causes b st.tables space page frame rights)) refl refl refl _
 
-  pub unmap_planned : (space page : ℕ) {plan with : ListPlan} → with ≡ with_place own plan → own ≡ first_refusal (store_causes b st.store true)
-      → plan ≡ plan_unmap b st.tables space page → with ≡ plan_place b st (unmap space page) (place_of (lookup st.tables.list space page))
+  pub unmap_planned : (space page : ℕ) {plan with : ListPlan} → with ≡ with_own own plan → own ≡ first_refusal (store_causes b st.store true)
+      → plan ≡ plan_unmap b st.tables space page → with ≡ plan_call b st (unmap space page) (place_of (lookup st.tables.list space page))
   unfolding in_order refusal_place own_causes store_causes page_causes
-  unmap_planned space page = place_merged _ _ _ [] (drop 2 (page_causes b st.tables space page)) refl refl refl _
+  unmap_planned space page = plan_merged _ _ _ [] (drop 2 (page_causes b st.tables space page)) refl refl refl _
 
-  pub read_planned : (space page offset : ℕ) {plan with : Plan} → with ≡ with_step own plan → own ≡ first_refusal (access_causes b st.store b.page offset)
+  pub read_planned : (space page offset : ℕ) {plan with : Plan} → with ≡ with_own own plan → own ≡ first_refusal (access_causes b st.store b.page offset)
       → plan ≡ plan_read b st.tables space page
-      → with ≡ plan_step b st (read space page offset) (change_of b st.tables (page_frame st space page) (table.read (colour_of b page)))
+      → with ≡ plan_call b st (read space page offset) (change_of b st.tables (page_frame st space page) (table.read (colour_of b page)))
   unfolding in_order refusal_place own_causes access_causes read_causes
   read_planned space page offset =
-      step_merged _ _ _ (offset_cause b.page offset ∷ []) (drop 2 (read_causes b st.tables space page)) refl refl refl _
+      plan_merged _ _ _ (offset_cause b.page offset ∷ []) (drop 2 (read_causes b st.tables space page)) refl refl refl _
 
-  pub write_planned : (space page offset word : ℕ) {plan with : Plan} → with ≡ with_step own plan → own ≡ first_refusal (access_causes b st.store b.page offset)
+  pub write_planned : (space page offset word : ℕ) {plan with : Plan} → with ≡ with_own own plan → own ≡ first_refusal (access_causes b st.store b.page offset)
       → plan ≡ plan_write b st.tables space page
-      → with ≡ plan_step b st (write space page offset word) (change_of b st.tables (page_frame st space page) (table.write (colour_of b page)))
+      → with ≡ plan_call b st (write space page offset word) (change_of b st.tables (page_frame st space page) (table.write (colour_of b page)))
   unfolding in_order refusal_place own_causes access_causes write_causes
   write_planned space page offset word =
-      step_merged _ _ _ (offset_cause b.page offset ∷ []) (drop 2 (write_causes b st.tables space page)) refl refl refl _
+      plan_merged _ _ _ (offset_cause b.page offset ∷ []) (drop 2 (write_causes b st.tables space page)) refl refl refl _
 
-  pub fetch_planned : (space page offset : ℕ) {plan with : Plan} → with ≡ with_step own plan → own ≡ first_refusal (access_causes b st.store b.page offset)
+  pub fetch_planned : (space page offset : ℕ) {plan with : Plan} → with ≡ with_own own plan → own ≡ first_refusal (access_causes b st.store b.page offset)
       → plan ≡ plan_fetch b st.tables space page
-      → with ≡ plan_step b st (fetch space page offset) (change_of b st.tables (page_frame st space page) (table.fetch (colour_of b page)))
+      → with ≡ plan_call b st (fetch space page offset) (change_of b st.tables (page_frame st space page) (table.fetch (colour_of b page)))
   unfolding in_order refusal_place own_causes access_causes fetch_causes
   fetch_planned space page offset =
-      step_merged _ _ _ (offset_cause b.page offset ∷ []) (drop 2 (fetch_causes b st.tables space page)) refl refl refl _
+      plan_merged _ _ _ (offset_cause b.page offset ∷ []) (drop 2 (fetch_causes b st.tables space page)) refl refl refl _
 
-  pub device_read_planned : (frame : ℕ) (buffer : List ℕ) {plan with : Plan} → with ≡ with_step own plan → own ≡ first_refusal (store_causes b st.store (eqb (length buffer) b.page))
-      → plan ≡ plan_transfer b st.tables frame table.device_read → with ≡ plan_step b st (device_read frame buffer) (change_of b st.tables frame table.device_read)
+  -- a read and a fetch alike
+  pub load_planned : (cache : Cache) (space page offset : ℕ) {plan with : Plan} → with ≡ with_own own plan → own ≡ first_refusal (access_causes b st.store b.page offset)
+      → plan ≡ plan_access b st.tables space page (access_through cache)
+      → with ≡ plan_call b st (loads cache space page offset) (change_of b st.tables (page_frame st space page) (load_step cache (colour_of b page)))
+  load_planned Data = read_planned
+  load_planned Instructions = fetch_planned
+
+  pub device_read_planned : (frame : ℕ) (buffer : List ℕ) {plan with : Plan} → with ≡ with_own own plan → own ≡ first_refusal (store_causes b st.store (eqb (length buffer) b.page))
+      → plan ≡ plan_transfer b st.tables frame table.device_read → with ≡ plan_call b st (device_read frame buffer) (change_of b st.tables frame table.device_read)
   unfolding in_order refusal_place own_causes store_causes transfer_causes
-  device_read_planned frame buffer = step_merged _ _ _ [] (drop 2 (transfer_causes b st.tables frame table.device_read)) refl refl refl _
+  device_read_planned frame buffer = plan_merged _ _ _ [] (drop 2 (transfer_causes b st.tables frame table.device_read)) refl refl refl _
 
-  pub part_planned : (frame first number : ℕ) (buffer : List ℕ) {plan with : Plan} → with ≡ with_step own plan
+  pub part_planned : (frame first number : ℕ) (buffer : List ℕ) {plan with : Plan} → with ≡ with_own own plan
       → own ≡ first_refusal (store_causes b st.store (eqb (length buffer) number))
       → plan ≡ plan_device_write_part b st.tables frame first number
-      → with ≡ plan_step b st (device_write_part frame first number buffer) (change_of b st.tables frame (write_step b number))
+      → with ≡ plan_call b st (device_write_part frame first number buffer) (change_of b st.tables frame (write_step b number))
   unfolding in_order refusal_place own_causes store_causes part_causes
   part_planned frame first number buffer =
-      step_merged _ _ _ [] (drop 2 (part_causes b st.tables frame first number)) refl refl refl _
+      plan_merged _ _ _ [] (drop 2 (part_causes b st.tables frame first number)) refl refl refl _
 
-  pub begin_planned : (frame : ℕ) (writes : Bool) {plan with : Plan} → with ≡ with_step own plan → own ≡ first_refusal (store_causes b st.store true)
-      → plan ≡ plan_transfer b st.tables frame (begin_step writes) → with ≡ plan_step b st (begins writes frame) (change_of b st.tables frame (begin_step writes))
+  pub begin_planned : (frame : ℕ) (writes : Bool) {plan with : Plan} → with ≡ with_own own plan → own ≡ first_refusal (store_causes b st.store true)
+      → plan ≡ plan_transfer b st.tables frame (begin_step writes) → with ≡ plan_call b st (begins writes frame) (change_of b st.tables frame (begin_step writes))
   unfolding in_order refusal_place own_causes store_causes transfer_causes
-  begin_planned frame true = step_merged _ _ _ [] (drop 2 (transfer_causes b st.tables frame table.begin_write)) refl refl refl _
-  begin_planned frame false = step_merged _ _ _ [] (drop 2 (transfer_causes b st.tables frame table.begin_read)) refl refl refl _
+  begin_planned frame true = plan_merged _ _ _ [] (drop 2 (transfer_causes b st.tables frame table.begin_write)) refl refl refl _
+  begin_planned frame false = plan_merged _ _ _ [] (drop 2 (transfer_causes b st.tables frame table.begin_read)) refl refl refl _
 
 -- ---- the calls that have a refusal and no plan: the manager was told whether the list keeps its rules
 

@@ -17,16 +17,18 @@ use Rattle.page_model.specs.Table as table
 use Rattle.page_model.proofs.Theorems.{operations_below}
 use Rattle.mapping.specs.declared.MappingList.{MappingList}
 use Rattle.manager.specs.declared.Change.{Change}
-use Rattle.manager.specs.declared.Plan.{Plan}
-use Rattle.manager.specs.declared.Plan.TheVariants as step_plan
-use Rattle.manager.specs.declared.ListPlan.{ListPlan}
-use Rattle.manager.specs.declared.ListPlan.TheVariants as list_plan
-use Rattle.manager.specs.Answers.{Outcome, refused, accepted}
-use Rattle.manager.specs.Calls.{no_ops, planned, placed, change_of, write_step, commit_change}
+use Rattle.std.proofs.Common.{Ok, Err}
+use Rattle.std.proofs.Common as std
+use Rattle.std.proofs.lemmas.Result.{err_from_is_err_and}
+use Rattle.std.specs.Result.{IsErrAnd}
+use Rattle.manager.specs.declared.FrameOps.{FrameOps}
+use Rattle.manager.specs.declared.refusal.Refusal.{Refusal}
+use Rattle.manager.specs.Answers.{Outcome, refused, refusal_number, accepted, outcome}
+use Rattle.manager.specs.Calls.{no_ops, list_outcome, list_left, planned, change_of, write_step, commit_change}
 use Rattle.manager.specs.Refusals.{first_refusal, place_in, refusal_place, in_order, out_of_page}
 use Rattle.manager.specs.Tables.{Tables, tables, lengths_right, rules_kept, record_at}
 use Rattle.manager.specs.Theorems.{WellFormedTables}
-use Rattle.manager.proofs.CauseLaws.{NoneApplies, none_refused, applies_in, cleared_in, mapped_range}
+use Rattle.manager.proofs.CauseLaws.{some_number, NoneApplies, none_refused, applies_in, cleared_in, mapped_range}
 use Rattle.manager.proofs.FirstRefusal.{in_order_numbered}
 use Rattle.cache.specs.Store.{Store, WellFormedStore}
 use Rattle.cache.specs.Tag.{tags_keep_rules}
@@ -34,27 +36,20 @@ use Rattle.machine.specs.Scaffold.Ready.{OperationsReady, AccessReady, TransferR
 use Rattle.machine.specs.Refusals.{store_lengths, buffer_right, own_causes, causes}
 use Rattle.machine.specs.State.{State, state, Single, map, unmap, read, write, device_read, device_write, device_write_part, evict, begin_read, begin_write, bring_word, take_word, end_transfer, fetch, Result, lent_buffer}
 use Rattle.machine.specs.Parts.{Effect, steps, ends, nothing, effect_of, outcome_of, Access, accessed, access_of}
-use Rattle.machine.specs.Step.{operate_by, carry_out_by, carry_out, answer, result_of, tables_left, accept, step}
-use Rattle.machine.specs.Scaffold.Plans.{plan_step, plan_place, refusal_of, place_refusal}
+use Rattle.machine.specs.declared.Loaded.{Loaded}
+use Rattle.machine.specs.Step.{loaded, operate_by, carry_out_by, carry_out, answer, result_of, tables_left, accept, step}
+use Rattle.machine.specs.Scaffold.Plans.{plan_call}
 use Rattle.machine.proofs.StoreLaws.{lengths_right_lem, well_formed}
 
 -- ---- a plan that was made
 
-planned_step : (n : ℕ) (change made : Change) → planned n change ≡ step_plan.Step made → (n ≡ 0) × (change ≡ made)
-planned_step zero change made e = (refl, cc)
-planned_step (suc n) change made e = absurd (let z : ◌≡◌ {A = ℕ} 0 1 = cc in omega arith)
+planned_made : (n : ℕ) {A : Type 0} (made told : A) → planned n made ≡ Ok told → (n ≡ 0) × (made ≡ told)
+planned_made zero made told e = (refl, cc)
+planned_made (suc n) made told e = absurd (let z : ◌≡◌ {A = ℕ} 0 1 = cc in omega arith)
 
-planned_refusal : (n k : ℕ) (change : Change) → planned n change ≡ step_plan.Refused k → (n ≡ k) × (n ≡ 0 → ⊥)
-planned_refusal zero k change e = absurd (let z : ◌≡◌ {A = ℕ} 0 1 = cc in omega arith)
-planned_refusal (suc n) k change e = (cc, λ z. omega arith)
-
-placed_place : (n place made : ℕ) → placed n place ≡ list_plan.Place made → (n ≡ 0) × (place ≡ made)
-placed_place zero place made e = (refl, cc)
-placed_place (suc n) place made e = absurd (let z : ◌≡◌ {A = ℕ} 0 1 = cc in omega arith)
-
-placed_refusal : (n k place : ℕ) → placed n place ≡ list_plan.Refused k → (n ≡ k) × (n ≡ 0 → ⊥)
-placed_refusal zero k place e = absurd (let z : ◌≡◌ {A = ℕ} 0 1 = cc in omega arith)
-placed_refusal (suc n) k place e = (cc, λ z. omega arith)
+planned_refusal : (n k : ℕ) {A : Type 0} (made : A) → planned n made ≡ Err k → (n ≡ k) × (n ≡ 0 → ⊥)
+planned_refusal zero k made e = absurd (let z : ◌≡◌ {A = ℕ} 0 1 = cc in omega arith)
+planned_refusal (suc n) k made e = (cc, λ z. omega arith)
 
 -- ---- a step, by its refusal
 
@@ -166,35 +161,39 @@ module _ (b : Board) (st : State) where
       go (end_transfer frame) kept clear = leb-false b.frames frame (clear 4)
       go (fetch space page offset) kept clear = ((mapped_range b st.tables kept space page (not-false _ (clear 8))).frame_lt, clear 15)
 
+-- the operations of a change
+abbrev pub ops_of : Change → FrameOps
+ops_of change = record { frame = change.frame; ops = change.ops }
+
 -- ---- what the machine's functions require of a call that is a step of a frame's record
 
 module _ (b : Board) (st : State) (call : Single) (f : ℕ) (s : table.Step) (is : effect_of b st call ≡ steps f s) where
-  -- the change that is told is what `carry_out` requires
-  pub step_requires : {change : Change} → Regular b → plan_step b st call (change_of b st.tables f s) ≡ step_plan.Step change
-      → OperationsReady b st.store change.frame change.ops
-  step_requires {change} reg p =
-      let q = planned_step _ _ change p in
+  -- the operations of the change that is told are what `carry_out` requires
+  pub step_requires : {change : Change} {o : FrameOps} → Regular b → o ≡ ops_of change → plan_call b st call (change_of b st.tables f s) ≡ Ok change
+      → OperationsReady b st.store o.frame o.ops
+  step_requires {change} reg eo p =
+      let q = planned_made _ _ change p in
       let tested = subst (Tested b st.tables.records) is (effect_tested b st call q.0) in
       let below = operations_below b.colours s (record_at st.tables.records f) in
-      subst (λ (m : Change). OperationsReady b st.store m.frame m.ops) q.1
+      subst (λ (m : FrameOps). OperationsReady b st.store m.frame m.ops) (ap ops_of q.1 ∙ sym eo)
       (store_clear b st call q.0, tested.0, below.1, below.2, reg)
 
   -- with an offset and a page of the caches, what `load` and `put` require
-  pub access_requires : {change : Change} {colour : ℕ} (offset : ℕ) → Regular b → plan_step b st call (change_of b st.tables f s) ≡ step_plan.Step change
+  pub access_requires : {change : Change} {o : FrameOps} {colour : ℕ} (offset : ℕ) → Regular b → o ≡ ops_of change → plan_call b st call (change_of b st.tables f s) ≡ Ok change
       → applies_in 6 (causes b st call) ≡ leb b.page offset → colour < cache_pages b
-      → AccessReady b st.store change.frame change.ops colour offset
-  access_requires {change} offset reg p o below =
-      let r = step_requires {change = change} reg p in
-      let h = leb-false b.page offset (sym o ∙ cleared b st call 6 (planned_step _ _ change p).0) in
+      → AccessReady b st.store o.frame o.ops colour offset
+  access_requires {change} offset reg eo p tested below =
+      let r = step_requires {change = change} reg eo p in
+      let h = leb-false b.page offset (sym tested ∙ cleared b st call 6 (planned_made _ _ change p).0) in
       (r.0, r.1, r.2, r.3, below, h, reg)
 
   -- with a buffer of a page's words, what `send` requires
-  pub transfer_requires : {change : Change} (buffer : List ℕ) → Regular b → plan_step b st call (change_of b st.tables f s) ≡ step_plan.Step change
+  pub transfer_requires : {change : Change} {o : FrameOps} (buffer : List ℕ) → Regular b → o ≡ ops_of change → plan_call b st call (change_of b st.tables f s) ≡ Ok change
       → buffer_right b call ≡ eqb (length buffer) b.page
-      → TransferReady b st.store change.frame change.ops buffer
-  transfer_requires {change} buffer reg p tested =
-      let r = step_requires {change = change} reg p in
-      (r.0, r.1, r.2, r.3, buffer_length b st call buffer b.page tested (planned_step _ _ change p).0, reg)
+      → TransferReady b st.store o.frame o.ops buffer
+  transfer_requires {change} buffer reg eo p tested =
+      let r = step_requires {change = change} reg eo p in
+      (r.0, r.1, r.2, r.3, buffer_length b st call buffer b.page tested (planned_made _ _ change p).0, reg)
 
 pub evict_ready : (b : Board) (st : State) (line : ℕ) → first_refusal (causes b st (evict line)) ≡ 0 → WellFormedStore b st.store × (line < lines b)
 unfolding causes
@@ -219,12 +218,12 @@ module _ (b : Board) (st : State) (frame first number : ℕ) (buffer : List ℕ)
       (buffer_length b st call buffer number refl e, inside.0, inside.1)
 
   -- so the change that its plan told is what `receive` requires
-  pub part_requires : {change : Change} → Regular b
-      → plan_step b st (device_write_part frame first number buffer) (change_of b st.tables frame (write_step b number)) ≡ step_plan.Step change
-      → PartReady b st.store change.frame change.ops first buffer
-  part_requires {change} reg p =
-      let made = part_ready (planned_step _ _ change p).0 in
-      let r = step_requires b st (device_write_part frame first number buffer) frame (write_step b number) refl {change = change} reg p in
+  pub part_requires : {change : Change} {o : FrameOps} → Regular b → o ≡ ops_of change
+      → plan_call b st (device_write_part frame first number buffer) (change_of b st.tables frame (write_step b number)) ≡ Ok change
+      → PartReady b st.store o.frame o.ops first buffer
+  part_requires {change} reg eo p =
+      let made = part_ready (planned_made _ _ change p).0 in
+      let r = step_requires b st (device_write_part frame first number buffer) frame (write_step b number) refl {change = change} reg eo p in
       let long = made.0 in
       (r.0, r.1, r.2, r.3, (omega arith), (omega arith), reg)
 
@@ -241,56 +240,74 @@ made : {o o' : Outcome} {w w' : Option ℕ} {l l' : List ℕ} {t t' : Tables} {s
     → result_of (answer o w l) (state t s) ≡ result_of (answer o' w' l') (state t' s')
 made eo ew el et es = λ i. result_of (answer (eo i) (ew i) (el i)) (state (et i) (es i))
 
--- the store after a change's operations
-abbrev pub after_ops : Board → State → Change → Store
-after_ops b st change = carry_out b (accepted change.frame change.ops) st.store
+-- the store after a frame's operations
+abbrev pub after_ops : Board → State → FrameOps → Store
+after_ops b st o = carry_out b (accepted o.frame o.ops) st.store
 
 module _ (b : Board) (st : State) (call : Single) where
-  -- the plan that was told is a refusal, of this number
-  pub planned_refused : (change : Change) {told : Plan} {n k : ℕ} → told ≡ plan_step b st call change → told ≡ step_plan.Refused n → k ≡ refusal_of told
-      → result_of (answer (refused k) none (lent_buffer call)) st ≡ step b st call
-  planned_refused change {k = k} p e ek =
-      step_refused b st call k (planned_refusal _ k change (sym p ∙ e ∙ ap step_plan.Refused (sym (ek ∙ ap refusal_of e))))
+  -- the exit of a `?`: the call is refused with this number
+  refused_call : (e : Refusal) → refusal_number e ≡ first_refusal (causes b st call)
+      → result_of (answer (refused (refusal_number e)) none (lent_buffer call)) st ≡ step b st call
+  refused_call e told = step_refused b st call _ (sym told, λ z. some_number e (told ∙ z))
+
+  -- as the plan tells
+  pub plan_refused : {A : Type 0} (made : A) (e : Refusal) → Err (refusal_number e) ≡ plan_call b st call made → refusal_number e ≡ first_refusal (causes b st call)
+  plan_refused made e told = sym (planned_refusal _ _ made (sym told)).0
+
+  pub call_refused : (r : std.Result FrameOps Refusal) (e : Refusal) → lent_buffer call ≡ [] → refusal_number e ≡ first_refusal (causes b st call) → IsErrAnd r (λ y. y ≡ e)
+      → result_of (answer (outcome r) none []) st ≡ step b st call
+  call_refused r e lent told is =
+      let p = err_from_is_err_and r is in
+      rw (p.1, p.2) (ap (λ (l : List ℕ). result_of (answer (refused (refusal_number e)) none l) st) (sym lent) ∙ refused_call e told)
+
+  pub transfer_refused : (r : std.Result FrameOps Refusal) (e : Refusal) → refusal_number e ≡ first_refusal (causes b st call) → IsErrAnd r (λ y. y ≡ e)
+      → result_of (answer (outcome r) none (lent_buffer call)) st ≡ step b st call
+  transfer_refused r e told is = let p = err_from_is_err_and r is in rw (p.1, p.2) (refused_call e told)
+
+  pub loaded_refused : (r : std.Result Loaded Refusal) (e : Refusal) → lent_buffer call ≡ [] → refusal_number e ≡ first_refusal (causes b st call) → IsErrAnd r (λ y. y ≡ e)
+      → result_of (loaded r) st ≡ step b st call
+  loaded_refused r e lent told is =
+      let p = err_from_is_err_and r is in
+      rw (p.1, p.2) (ap (λ (l : List ℕ). result_of (answer (refused (refusal_number e)) none l) st) (sym lent) ∙ refused_call e told)
+
+  pub listed_refused : (r : std.Result MappingList Refusal) (e : Refusal) → lent_buffer call ≡ [] → refusal_number e ≡ first_refusal (causes b st call) → IsErrAnd r (λ y. y ≡ e)
+      → result_of (answer (list_outcome r) none []) (state (tables (list_left st.tables.list r) st.tables.records st.tables.protections) st.store) ≡ step b st call
+  listed_refused r e lent told is =
+      let p = err_from_is_err_and r is in
+      rw (p.1, p.2) (ap (λ (l : List ℕ). result_of (answer (refused (refusal_number e)) none l) st) (sym lent) ∙ refused_call e told)
 
   -- the plan was a change, of a call that is a step of a frame's record
-  pub stepped_made : (change : Change) {told : Change} → plan_step b st call change ≡ step_plan.Step told
+  pub stepped_made : (change : Change) {told : Change} {o : FrameOps} → plan_call b st call change ≡ Ok told → o ≡ ops_of told
       → (word : ℕ → Store → Option ℕ) (buffer : ℕ → Store → List ℕ) (access : ℕ → Store → Store)
       → accept b st call ≡ stepped_call b st change (word change.frame) (buffer change.frame) (access change.frame)
       → {w : Option ℕ} {l : List ℕ} {t : Tables} {s : Store}
-      → w ≡ word told.frame (after_ops b st told)
-      → l ≡ buffer told.frame (after_ops b st told)
+      → w ≡ word o.frame (after_ops b st o)
+      → l ≡ buffer o.frame (after_ops b st o)
       → t ≡ commit_change b st.tables told.frame told.next
-      → s ≡ access told.frame (after_ops b st told)
-      → result_of (answer (accepted told.frame told.ops) w l) (state t s) ≡ step b st call
-  stepped_made change {told} p word buffer access a ew el et es =
-      let q = planned_step _ change told p in
-      made refl ew el et es
+      → s ≡ access o.frame (after_ops b st o)
+      → result_of (answer (accepted o.frame o.ops) w l) (state t s) ≡ step b st call
+  stepped_made change {told} p eo word buffer access a ew el et es =
+      let q = planned_made _ change told p in
+      made (ap (λ (o : FrameOps). accepted o.frame o.ops) eo) (ew ∙ ap (λ (o : FrameOps). word o.frame (after_ops b st o)) eo)
+      (el ∙ ap (λ (o : FrameOps). buffer o.frame (after_ops b st o)) eo) et (es ∙ ap (λ (o : FrameOps). access o.frame (after_ops b st o)) eo)
       ∙ ap (λ (m : Change). stepped_call b st m (word m.frame) (buffer m.frame) (access m.frame)) (sym q.1)
       ∙ sym a
       ∙ step_accepted b st call q.0
 
   -- and makes an access through a page's colour
-  pub access_made : (change : Change) {told : Change} → plan_step b st call change ≡ step_plan.Step told
+  pub access_made : (change : Change) {told : Change} {o : FrameOps} → plan_call b st call change ≡ Ok told → o ≡ ops_of told
       → (colour : ℕ) (word : ℕ → ℕ → Store → Option ℕ) (access : ℕ → ℕ → Store → Store)
       → accept b st call ≡ stepped_call b st change (word change.frame colour) (λ s. []) (access change.frame colour)
       → {k : ℕ} {w : Option ℕ} {t : Tables} {s : Store}
       → k ≡ colour
-      → w ≡ word told.frame k (after_ops b st told)
+      → w ≡ word o.frame k (after_ops b st o)
       → t ≡ commit_change b st.tables told.frame told.next
-      → s ≡ access told.frame k (after_ops b st told)
-      → result_of (answer (accepted told.frame told.ops) w []) (state t s) ≡ step b st call
-  access_made change {told} p colour word access a ek ew et es =
-      stepped_made change p (λ f. word f colour) (λ f s. []) (λ f. access f colour) a
-      (ew ∙ ap (λ (k : ℕ). word told.frame k (after_ops b st told)) ek) refl et
-      (es ∙ ap (λ (k : ℕ). access told.frame k (after_ops b st told)) ek)
-
-  -- the same for a plan of the list
-  pub placed_refused : (place : ℕ) {told : ListPlan} {n k : ℕ} → told ≡ plan_place b st call place → told ≡ list_plan.Refused n → k ≡ place_refusal told
-      → {o : Outcome} {l : MappingList} → o ≡ refused k → l ≡ st.tables.list
-      → result_of (answer o none (lent_buffer call)) (state (tables l st.tables.records st.tables.protections) st.store) ≡ step b st call
-  placed_refused place {k = k} p e ek eo el =
-      made eo refl refl (ap (λ (l : MappingList). tables l st.tables.records st.tables.protections) el) refl
-      ∙ step_refused b st call k (placed_refusal _ k place (sym p ∙ e ∙ ap list_plan.Refused (sym (ek ∙ ap place_refusal e))))
+      → s ≡ access o.frame k (after_ops b st o)
+      → result_of (answer (accepted o.frame o.ops) w []) (state t s) ≡ step b st call
+  access_made change {told} {o} p eo colour word access a ek ew et es =
+      stepped_made change p eo (λ f. word f colour) (λ f s. []) (λ f. access f colour) a
+      (ew ∙ ap (λ (k : ℕ). word o.frame k (after_ops b st o)) ek) refl et
+      (es ∙ ap (λ (k : ℕ). access o.frame k (after_ops b st o)) ek)
 
   -- an accepted call without orders: its access is made in the store as it was
   pub plain_made : first_refusal (causes b st call) ≡ 0 → outcome_of b st.tables.records (effect_of b st call) ≡ accepted 0 no_ops
@@ -310,12 +327,12 @@ module _ (b : Board) (st : State) (call : Single) where
           result_of (answer o a.word a.buffer) (state (tables_left b st call) a.store)
 
   -- the plan of the list was a place, at which the tables change
-  pub placed_made : (place : ℕ) {told : ℕ} → plan_place b st call place ≡ list_plan.Place told
+  pub placed_made : (place : ℕ) {told : ℕ} → plan_call b st call place ≡ Ok told
       → (commit : ℕ → Tables) → commit place ≡ tables_left b st call
       → outcome_of b st.tables.records (effect_of b st call) ≡ accepted 0 no_ops → access_of b st call st.store ≡ accessed none [] st.store
-      → {o : Outcome} {l l' : MappingList} {records protections : List ℕ} → o ≡ accepted 0 no_ops → l ≡ l' → tables l' records protections ≡ commit told
-      → result_of (answer o none []) (state (tables l records protections) st.store) ≡ step b st call
-  placed_made place {told} p commit left unordered only {records = records} {protections = protections} eo el et =
-      let q = placed_place _ place told p in
-      plain_made q.0 unordered eo (ap (λ (a : Access). a.word) (sym only)) (ap (λ (a : Access). a.buffer) (sym only))
-      (ap (λ (l : MappingList). tables l records protections) el ∙ et ∙ ap commit (sym q.1) ∙ left) (ap (λ (a : Access). a.store) (sym only))
+      → {t : Tables} → t ≡ commit told
+      → result_of (answer (accepted 0 no_ops) none []) (state t st.store) ≡ step b st call
+  placed_made place {told} p commit left unordered only et =
+      let q = planned_made _ place told p in
+      plain_made q.0 unordered refl (ap (λ (a : Access). a.word) (sym only)) (ap (λ (a : Access). a.buffer) (sym only))
+      (et ∙ ap commit (sym q.1) ∙ left) (ap (λ (a : Access). a.store) (sym only))

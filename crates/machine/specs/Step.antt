@@ -1,18 +1,19 @@
 -- What a single call answers and leaves: a refusal leaves all as it was; an accepted one asks the manager, carries out its orders, then makes
 -- the access. Document 01, "The board as modelled" and "Answers".
-use Rattle.std.specs.Prelude.{List, [], ℕ, zero, suc}
+use Rattle.std.specs.Prelude.{List, [], ℕ, zero, suc, Ok, Err}
+use Rattle.std.specs.Prelude as std
 use Rattle.std.proofs.Math.Option.{Option, none, some}
 use Rattle.board.specs.declared.Board.{Board}
 use Rattle.board.specs.Board.{instruction_page}
+use Rattle.manager.specs.declared.refusal.Refusal.{Refusal}
 use Rattle.manager.specs.Answers as operation
-use Rattle.manager.specs.Answers.{Outcome, refused, accepted, FrameOperation, first_operation, second_operation}
+use Rattle.manager.specs.Answers.{Outcome, refused, refusal_number, accepted, FrameOperation, first_operation, second_operation}
 use Rattle.manager.specs.Refusals.{first_refusal}
 use Rattle.manager.specs.Tables.{Tables, tables, refill}
 use Rattle.cache.specs.Cache as hardware
 use Rattle.cache.specs.Cache.{FlushKind, leaving}
 use Rattle.cache.specs.Store.{Store}
 use Rattle.machine.specs.declared.Loaded.{Loaded}
-use Rattle.machine.specs.declared.Loaded.TheVariants.{Refused, Word}
 use Rattle.machine.specs.Parts.{effect_of, outcome_of, records_after, list_after, Access, access_of}
 use Rattle.machine.specs.State.{State, state, Single, Answer, Result, lent_buffer}
 use Rattle.machine.specs.Refusals.{causes}
@@ -43,9 +44,9 @@ abbrev pub answer : Outcome → Option ℕ → List ℕ → Answer
 answer o word buffer = record { outcome = o; word = word; buffer = buffer }
 
 -- what an answer with a word says
-abbrev pub loaded : Loaded → Answer
-loaded (Refused n) = answer (refused n) none []
-loaded (Word ops word) = answer (accepted ops.frame ops.ops) (some word) []
+abbrev pub loaded : std.Result Loaded Refusal → Answer
+loaded (Ok l) = answer (accepted l.operations.frame l.operations.ops) (some l.word) []
+loaded (Err r) = answer (refused (refusal_number r)) none []
 
 abbrev pub result_of : Answer → State → Result
 result_of a st = record { answer = a; after = st }

@@ -1,17 +1,18 @@
 // The processor's accesses, and a line turned out of its cache.
-ghost use Rattle.std.specs.Prelude.{◌≡◌, []};
+ghost use Rattle.std.specs.Prelude.{◌≡◌, ◌<◌, []};
 ghost use Rattle.std.proofs.Math.Option.{none};
-ghost use Rattle.board.specs.Board.{board01};
+ghost use Rattle.board.specs.Board.{board01, cache_pages};
 ghost use Rattle.manager.specs.Answers.{outcome};
 ghost use Rattle.machine.specs.State as call;
 ghost use Rattle.machine.specs.State.{machine_of};
+ghost use Rattle.machine.specs.Scaffold.Loads.{access_through, page_through, loads};
 ghost use Rattle.machine.specs.Step.{answer, loaded, result_of, step};
 
 use super::{Loaded, operations, plans};
 use board::BOARD01;
 use manager::commits::COLOURS;
 use manager::plans::plan_access;
-use manager::{AccessKind, Answer, FrameOps, Plan};
+use manager::{AccessKind, FrameOps, Refusal};
 use mapping::MappingList;
 
 // The processor reads a word.
@@ -25,44 +26,25 @@ pub fn read(
     space: u8,
     page: u16,
     offset: usize,
-) -> Loaded
+) -> Result<Loaded, Refusal>
     ensures { result_of (loaded result)
         (machine_of list records.new protections.new memory.new words.new tags.new)
         ≡ step board01
         (machine_of list records.old protections.old memory.old words.old tags.old)
         (call.read space page offset) }
 {
-    let own = plans::access_refusal(BOARD01, memory, words, tags, BOARD01.page, offset);
-    let seen = mapping::look(BOARD01, list, space, page);
-    let managers = plan_access(
-        BOARD01,
-        seen,
+    load(
+        list,
         records,
         protections,
-        space,
-        page,
-        AccessKind::Read,
-    );
-    let plan = plans::with_step(own, managers);
-    let Plan::Step(change) = plan else {
-        return Loaded::Refused(plans::refusal_of(plan));
-    };
-    let frame = change.frame;
-    let next = change.next;
-    let ops = change.ops;
-    manager::commits::commit_change(COLOURS, list, records, protections, frame, next);
-    let colour = board::colour_of(BOARD01, page as usize);
-    let word = operations::load(
-        BOARD01,
         memory,
         words,
         tags,
-        frame as usize,
-        ops,
-        colour,
+        space,
+        page,
         offset,
-    );
-    Loaded::Word(FrameOps { frame, ops }, word)
+        Cache::Data,
+    )
 }
 
 // The processor writes a word.
@@ -77,7 +59,7 @@ pub fn write(
     page: u16,
     offset: usize,
     word: u32,
-) -> Answer
+) -> Result<FrameOps, Refusal>
     ensures { result_of (answer (outcome result) none [])
         (machine_of list records.new protections.new memory.new words.new tags.new)
         ≡ step board01
@@ -85,37 +67,23 @@ pub fn write(
         (call.write space page offset word) }
 {
     let own = plans::access_refusal(BOARD01, memory, words, tags, BOARD01.page, offset);
-    let seen = mapping::look(BOARD01, list, space, page);
+    let looked = mapping::look(BOARD01, list, space, page);
     let managers = plan_access(
         BOARD01,
-        seen,
+        looked,
         records,
         protections,
         space,
         page,
         AccessKind::Write,
     );
-    let plan = plans::with_step(own, managers);
-    let Plan::Step(change) = plan else {
-        return Answer::Refused(plans::refusal_of(plan));
-    };
-    let frame = change.frame;
-    let next = change.next;
-    let ops = change.ops;
-    manager::commits::commit_change(COLOURS, list, records, protections, frame, next);
-    let colour = board::colour_of(BOARD01, page as usize);
+    let change = plans::earlier(own, managers)?;
+    let operations = manager::commits::carry_out(COLOURS, list, records, protections, change);
+    let colour = board::colour_of(BOARD01, usize::from(page));
     operations::put(
-        BOARD01,
-        memory,
-        words,
-        tags,
-        frame as usize,
-        ops,
-        colour,
-        offset,
-        word,
+        BOARD01, memory, words, tags, operations, colour, offset, word,
     );
-    Answer::Accepted(FrameOps { frame, ops })
+    Ok(operations)
 }
 
 // The processor fetches an instruction: it reads a word through the instruction cache.
@@ -129,45 +97,25 @@ pub fn fetch(
     space: u8,
     page: u16,
     offset: usize,
-) -> Loaded
+) -> Result<Loaded, Refusal>
     ensures { result_of (loaded result)
         (machine_of list records.new protections.new memory.new words.new tags.new)
         ≡ step board01
         (machine_of list records.old protections.old memory.old words.old tags.old)
         (call.fetch space page offset) }
 {
-    let own = plans::access_refusal(BOARD01, memory, words, tags, BOARD01.page, offset);
-    let seen = mapping::look(BOARD01, list, space, page);
-    let managers = plan_access(
-        BOARD01,
-        seen,
+    load(
+        list,
         records,
         protections,
-        space,
-        page,
-        AccessKind::Fetch,
-    );
-    let plan = plans::with_step(own, managers);
-    let Plan::Step(change) = plan else {
-        return Loaded::Refused(plans::refusal_of(plan));
-    };
-    let frame = change.frame;
-    let next = change.next;
-    let ops = change.ops;
-    manager::commits::commit_change(COLOURS, list, records, protections, frame, next);
-    let colour = board::colour_of(BOARD01, page as usize);
-    let instructions = board::instruction_page(BOARD01, colour);
-    let instruction = operations::load(
-        BOARD01,
         memory,
         words,
         tags,
-        frame as usize,
-        ops,
-        instructions,
+        space,
+        page,
         offset,
-    );
-    Loaded::Word(FrameOps { frame, ops }, instruction)
+        Cache::Instructions,
+    )
 }
 
 // A line is written back if it is dirty, and emptied: document 01's turning out.
@@ -179,7 +127,7 @@ pub fn evict(
     words: &[u32],
     tags: &mut [u8],
     line: usize,
-) -> Answer
+) -> Result<FrameOps, Refusal>
     ensures { result_of (answer (outcome result) none [])
         (machine_of list records.now protections.new memory.new words.now tags.new)
         ≡ step board01
@@ -189,11 +137,69 @@ pub fn evict(
     let own = plans::access_refusal(BOARD01, memory, words, tags, board::lines(BOARD01), line);
     let kept = mapping::keeps_rules(BOARD01, list);
     let managers = manager::refusals::tables_refusal(BOARD01, kept, records, protections);
-    let refusal = plans::earlier(own, managers);
-    if refusal != 0 {
-        return Answer::Refused(refusal);
-    }
+    plans::earlier(own, managers)?;
     manager::records::refill(COLOURS, list, records, protections);
     cache::line::evict(BOARD01, memory, words, tags, line);
-    manager::no_operations()
+    Ok(manager::nothing())
+}
+
+// The processor reads a word through a cache.
+fn load(
+    list: MappingList,
+    records: &mut [u32],
+    protections: &mut [u8],
+    memory: &mut [u32],
+    words: &mut [u32],
+    tags: &mut [u8],
+    space: u8,
+    page: u16,
+    offset: usize,
+    cache: Cache,
+) -> Result<Loaded, Refusal>
+    ensures { result_of (loaded result)
+        (machine_of list records.new protections.new memory.new words.new tags.new)
+        ≡ step board01
+        (machine_of list records.old protections.old memory.old words.old tags.old)
+        (loads cache space page offset) }
+{
+    let own = plans::access_refusal(BOARD01, memory, words, tags, BOARD01.page, offset);
+    let looked = mapping::look(BOARD01, list, space, page);
+    let kind = cache.access();
+    let managers = plan_access(BOARD01, looked, records, protections, space, page, kind);
+    let change = plans::earlier(own, managers)?;
+    let operations = manager::commits::carry_out(COLOURS, list, records, protections, change);
+    let through = cache.page(board::colour_of(BOARD01, usize::from(page)));
+    let word = operations::load(BOARD01, memory, words, tags, operations, through, offset);
+    Ok(Loaded { operations, word })
+}
+
+// The caches.
+#[derive(Clone, Copy, Debug, PartialEq, Eq)]
+enum Cache {
+    Data,
+    Instructions,
+}
+
+impl Cache {
+    // The access that reads a word through the cache.
+    fn access(self) -> AccessKind
+        ensures { result ≡ access_through self }
+    {
+        match self {
+            Cache::Data => AccessKind::Read,
+            Cache::Instructions => AccessKind::Fetch,
+        }
+    }
+
+    // The page of the caches that the cache has for a colour.
+    fn page(self, colour: usize) -> usize
+        requires { colour < board01.colours }
+        ensures value { result ≡ page_through board01 self colour }
+        ensures within { result < cache_pages board01 }
+    {
+        match self {
+            Cache::Data => colour,
+            Cache::Instructions => board::instruction_page(BOARD01, colour),
+        }
+    }
 }

@@ -9,7 +9,7 @@ mod transfers;
 ghost use Rattle.std.specs.Prelude.{◌≡◌, []};
 ghost use Rattle.std.proofs.Math.Option.{none};
 ghost use Rattle.board.specs.Board.{board01};
-ghost use Rattle.manager.specs.Answers.{outcome};
+ghost use Rattle.manager.specs.Calls.{list_outcome, list_left};
 ghost use Rattle.machine.specs.State as call;
 ghost use Rattle.machine.specs.State.{machine_of};
 ghost use Rattle.machine.specs.Step.{answer, result_of, step};
@@ -19,18 +19,18 @@ ghost use Rattle.mapping.specs.Batch.{items_of};
 pub use accesses::{evict, fetch, read, write};
 use board::BOARD01;
 use manager::commits::COLOURS;
-use manager::{FrameOps, ListPlan, Listed};
+use manager::{FrameOps, Refusal};
 use mapping::{Batch, Mapping, MappingList};
 pub use transfers::{
     begin_read, begin_write, bring_word, device_read, device_write, device_write_part,
     end_transfer, take_word,
 };
 
-// The answer of a read: the refusal's number, or the operations and the word.
-#[derive(Clone, Copy)]
-pub enum Loaded {
-    Refused(u8),
-    Word(FrameOps, u32),
+// What a read or fetch answers, and a word that a device takes: the operations and the word.
+#[derive(Clone, Copy, Debug, PartialEq, Eq)]
+pub struct Loaded {
+    pub operations: FrameOps,
+    pub word: u32,
 }
 
 // Gives a page of a space its frame.
@@ -42,20 +42,17 @@ pub fn map(
     words: &[u32],
     tags: &[u8],
     m: Mapping,
-) -> Listed
-    ensures { result_of (answer (outcome result.answer) none [])
-        (machine_of result.list records.now protections.new memory.now words.now tags.now)
+) -> Result<MappingList, Refusal>
+    ensures { result_of (answer (list_outcome result) none [])
+        (machine_of (list_left list result) records.now protections.new memory.now words.now tags.now)
         ≡ step board01
         (machine_of list records.now protections.old memory.now words.now tags.now)
         (call.map m.space m.page m.frame m.rights) }
 {
     let own = plans::store_refusal(BOARD01, memory, words, tags);
     let managers = manager::plans::plan_map(BOARD01, list, records, protections, m);
-    let plan = plans::with_place(own, managers);
-    let ListPlan::Place(place) = plan else {
-        return manager::refused_as(list, plans::place_refusal(plan));
-    };
-    manager::listed_as(manager::commits::commit_map(COLOURS, list, records, protections, place, m))
+    let place = plans::earlier(own, managers)?;
+    Ok(manager::commits::commit_map(COLOURS, list, records, protections, place, m))
 }
 
 // Gives each item's page its frame, in order, and answers each: 0, or the number of its refusal. Only 1 and 12 refuse the whole.
@@ -68,9 +65,9 @@ pub fn map_all(
     tags: &[u8],
     batch: Batch,
     answers: &mut [u8],
-) -> Listed
-    ensures { result_of (answer (outcome result.answer) none answers.new)
-        (machine_of result.list records.now protections.new memory.now words.now tags.now)
+) -> Result<MappingList, Refusal>
+    ensures { result_of (answer (list_outcome result) none answers.new)
+        (machine_of (list_left list result) records.now protections.new memory.now words.now tags.now)
         ≡ perform board01
         (machine_of list records.now protections.old memory.now words.now tags.now)
         (call.map_all (items_of batch) answers.old) }
@@ -92,18 +89,15 @@ pub fn unmap(
     tags: &[u8],
     space: u8,
     page: u16,
-) -> Listed
-    ensures { result_of (answer (outcome result.answer) none [])
-        (machine_of result.list records.now protections.new memory.now words.now tags.now)
+) -> Result<MappingList, Refusal>
+    ensures { result_of (answer (list_outcome result) none [])
+        (machine_of (list_left list result) records.now protections.new memory.now words.now tags.now)
         ≡ step board01
         (machine_of list records.now protections.old memory.now words.now tags.now)
         (call.unmap space page) }
 {
     let own = plans::store_refusal(BOARD01, memory, words, tags);
     let managers = manager::plans::plan_unmap(BOARD01, list, records, protections, space, page);
-    let plan = plans::with_place(own, managers);
-    let ListPlan::Place(place) = plan else {
-        return manager::refused_as(list, plans::place_refusal(plan));
-    };
-    manager::listed_as(manager::commits::commit_unmap(COLOURS, list, records, protections, place))
+    let place = plans::earlier(own, managers)?;
+    Ok(manager::commits::commit_unmap(COLOURS, list, records, protections, place))
 }

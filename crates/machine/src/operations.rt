@@ -9,6 +9,7 @@ ghost use Rattle.machine.specs.Scaffold.Ready.{OperationsReady, AccessReady, Tra
 ghost use Rattle.machine.specs.Step.{operate, carry_out};
 
 use board::Board;
+use manager::FrameOps;
 use page_model::{Op, Ops};
 
 // Carries out one operation on a frame.
@@ -34,16 +35,15 @@ pub fn carry_out(
     memory: &mut [u32],
     words: &[u32],
     tags: &mut [u8],
-    frame: usize,
-    ops: Ops,
+    operations: FrameOps,
 )
-    requires { OperationsReady board (store memory.old words.now tags.old) frame ops }
+    requires { OperationsReady board (store memory.old words.now tags.old) operations.frame operations.ops }
     ensures { store memory.new words.now tags.new
-        ≡ carry_out board (accepted frame ops) (store memory.old words.now tags.old) }
+        ≡ carry_out board (accepted operations.frame operations.ops) (store memory.old words.now tags.old) }
 {
-    let first = ops.first;
+    let frame = usize::from(operations.frame);
+    let Ops { first, second } = operations.ops;
     operate(board, memory, words, tags, frame, first);
-    let second = ops.second;
     operate(board, memory, words, tags, frame, second);
 }
 
@@ -53,18 +53,18 @@ pub fn load(
     memory: &mut [u32],
     words: &mut [u32],
     tags: &mut [u8],
-    frame: usize,
-    ops: Ops,
+    operations: FrameOps,
     colour: usize,
     offset: usize,
 ) -> u32
-    requires { AccessReady board (store memory.old words.old tags.old) frame ops colour offset }
+    requires { AccessReady board (store memory.old words.old tags.old) operations.frame operations.ops colour offset }
     ensures word { result
-        ≡ read_word board frame colour offset (carry_out board (accepted frame ops) (store memory.old words.old tags.old)) }
+        ≡ read_word board operations.frame colour offset (carry_out board (accepted operations.frame operations.ops) (store memory.old words.old tags.old)) }
     ensures state { store memory.new words.new tags.new
-        ≡ access board frame colour offset (carry_out board (accepted frame ops) (store memory.old words.old tags.old)) }
+        ≡ access board operations.frame colour offset (carry_out board (accepted operations.frame operations.ops) (store memory.old words.old tags.old)) }
 {
-    carry_out(board, memory, words, tags, frame, ops);
+    carry_out(board, memory, words, tags, operations);
+    let frame = usize::from(operations.frame);
     cache::access::read_word(board, memory, words, tags, frame, colour, offset)
 }
 
@@ -74,17 +74,17 @@ pub fn put(
     memory: &mut [u32],
     words: &mut [u32],
     tags: &mut [u8],
-    frame: usize,
-    ops: Ops,
+    operations: FrameOps,
     colour: usize,
     offset: usize,
     word: u32,
 )
-    requires { AccessReady board (store memory.old words.old tags.old) frame ops colour offset × (colour < board.colours) }
+    requires { AccessReady board (store memory.old words.old tags.old) operations.frame operations.ops colour offset × (colour < board.colours) }
     ensures { store memory.new words.new tags.new
-        ≡ write_word board frame colour offset word (carry_out board (accepted frame ops) (store memory.old words.old tags.old)) }
+        ≡ write_word board operations.frame colour offset word (carry_out board (accepted operations.frame operations.ops) (store memory.old words.old tags.old)) }
 {
-    carry_out(board, memory, words, tags, frame, ops);
+    carry_out(board, memory, words, tags, operations);
+    let frame = usize::from(operations.frame);
     cache::access::write_word(board, memory, words, tags, frame, colour, offset, word);
 }
 
@@ -94,17 +94,17 @@ pub fn send(
     memory: &mut [u32],
     words: &[u32],
     tags: &mut [u8],
-    frame: usize,
-    ops: Ops,
+    operations: FrameOps,
     buffer: &mut [u32],
 )
-    requires { TransferReady board (store memory.old words.now tags.old) frame ops buffer.old }
+    requires { TransferReady board (store memory.old words.now tags.old) operations.frame operations.ops buffer.old }
     ensures state { store memory.new words.now tags.new
-        ≡ carry_out board (accepted frame ops) (store memory.old words.now tags.old) }
+        ≡ carry_out board (accepted operations.frame operations.ops) (store memory.old words.now tags.old) }
     ensures filled { buffer.new
-        ≡ device_read board frame (carry_out board (accepted frame ops) (store memory.old words.now tags.old)) }
+        ≡ device_read board operations.frame (carry_out board (accepted operations.frame operations.ops) (store memory.old words.now tags.old)) }
 {
-    carry_out(board, memory, words, tags, frame, ops);
+    carry_out(board, memory, words, tags, operations);
+    let frame = usize::from(operations.frame);
     cache::device::device_read(board, memory, buffer, frame);
 }
 
@@ -114,15 +114,15 @@ pub fn receive(
     memory: &mut [u32],
     words: &[u32],
     tags: &mut [u8],
-    frame: usize,
-    ops: Ops,
+    operations: FrameOps,
     first: usize,
     buffer: &[u32],
 )
-    requires { PartReady board (store memory.old words.now tags.old) frame ops first buffer.now }
+    requires { PartReady board (store memory.old words.now tags.old) operations.frame operations.ops first buffer.now }
     ensures { store memory.new words.now tags.new
-        ≡ device_write board frame first buffer.now (carry_out board (accepted frame ops) (store memory.old words.now tags.old)) }
+        ≡ device_write board operations.frame first buffer.now (carry_out board (accepted operations.frame operations.ops) (store memory.old words.now tags.old)) }
 {
-    carry_out(board, memory, words, tags, frame, ops);
+    carry_out(board, memory, words, tags, operations);
+    let frame = usize::from(operations.frame);
     cache::device::device_write(board, memory, buffer, frame, first);
 }

@@ -1,32 +1,37 @@
-// What a call would do, found before anything changes: the machine's own refusal and the manager's plan or refusal are found apart, and the refusal that stands earlier in the order is given.
-ghost use Rattle.std.specs.Prelude.{◌≡◌, true, eqb, length};
+// What a call would do, found before anything changes: the machine's own refusal and the manager's plan or refusal are found apart, and of two refusals the one that is tested earlier is given.
+ghost use Rattle.std.specs.Prelude.{◌≡◌, true, nat_eq, length};
 ghost use Rattle.board.specs.Board.{Regular};
+ghost use Rattle.manager.specs.Answers.{refusal_number, refusal_in, by_number};
 ghost use Rattle.manager.specs.Refusals.{first_refusal};
 ghost use Rattle.cache.specs.Store.{store};
-ghost use Rattle.machine.specs.Scaffold.Plans.{store_causes, access_causes, earlier, with_step, with_place, refusal_of, place_refusal};
+ghost use Rattle.machine.specs.Scaffold.Plans.{store_causes, access_causes, earlier, with_own};
 
 use board::Board;
-use manager::refusals::{first, or_else, place};
-use manager::{ListPlan, Plan};
+use manager::Refusal;
 
-// The refusal in memory, cache words and tags, or 0.
-pub fn store_refusal(board: Board, memory: &[u32], words: &[u32], tags: &[u8]) -> u8
+// The refusal in memory, cache words and tags.
+pub fn store_refusal(
+    board: Board,
+    memory: &[u32],
+    words: &[u32],
+    tags: &[u8],
+) -> Result<(), Refusal>
     requires { Regular board }
-    ensures { result ≡ first_refusal (store_causes board (store memory.now words.now tags.now) true) }
+    ensures { refusal_in result ≡ first_refusal (store_causes board (store memory.now words.now tags.now) true) }
 {
     if memory.len() != board::memory_words(board) {
-        return 1;
+        return Err(Refusal::WrongLength);
     }
     if words.len() != board::cache_words(board) {
-        return 1;
+        return Err(Refusal::WrongLength);
     }
     if tags.len() != board::lines(board) {
-        return 1;
+        return Err(Refusal::WrongLength);
     }
     if !cache::tag::tags_keep_rules(board, tags) {
-        return 2;
+        return Err(Refusal::BrokenRules);
     }
-    0
+    Ok(())
 }
 
 // The same with a device's buffer of so many words.
@@ -37,12 +42,12 @@ pub fn transfer_refusal(
     tags: &[u8],
     buffer: &[u32],
     number: usize,
-) -> u8
+) -> Result<(), Refusal>
     requires { Regular board }
-    ensures { result ≡ first_refusal (store_causes board (store memory.now words.now tags.now) (eqb (length buffer.now) number)) }
+    ensures { refusal_in result ≡ first_refusal (store_causes board (store memory.now words.now tags.now) (nat_eq (length buffer.now) number)) }
 {
     if buffer.len() != number {
-        return 1;
+        return Err(Refusal::WrongLength);
     }
     store_refusal(board, memory, words, tags)
 }
@@ -55,75 +60,35 @@ pub fn access_refusal(
     tags: &[u8],
     limit: usize,
     offset: usize,
-) -> u8
+) -> Result<(), Refusal>
     requires { Regular board }
-    ensures { result ≡ first_refusal (access_causes board (store memory.now words.now tags.now) limit offset) }
+    ensures { refusal_in result ≡ first_refusal (access_causes board (store memory.now words.now tags.now) limit offset) }
 {
-    or_else(
-        store_refusal(board, memory, words, tags),
-        first(offset >= limit, 6, 0),
-    )
+    store_refusal(board, memory, words, tags)?;
+    if offset >= limit {
+        return Err(Refusal::NoSuchOffset);
+    }
+    Ok(())
 }
 
-// The manager's refusal is handed on, unless the machine's own stands earlier.
-pub fn with_step(own: u8, plan: Plan) -> Plan
-    ensures { result ≡ with_step own plan }
+// What the manager plans, unless the machine's own refusal, or the manager's, refuses the call: of both the earlier.
+pub fn earlier<T: Copy>(
+    own: Result<(), Refusal>,
+    managers: Result<T, Refusal>,
+) -> Result<T, Refusal>
+    ensures plan { by_number result ≡ with_own (refusal_in own) (by_number managers) }
+    ensures refusal { refusal_in result ≡ earlier (refusal_in own) (refusal_in managers) }
 {
-    let Plan::Refused(number) = plan else {
-        if own != 0 {
-            return Plan::Refused(own);
-        }
-        return plan;
-    };
-    Plan::Refused(earlier(own, number))
-}
-
-// The same for a plan of the list.
-pub fn with_place(own: u8, plan: ListPlan) -> ListPlan
-    ensures { result ≡ with_place own plan }
-{
-    let ListPlan::Refused(number) = plan else {
-        if own != 0 {
-            return ListPlan::Refused(own);
-        }
-        return plan;
-    };
-    ListPlan::Refused(earlier(own, number))
-}
-
-// The number of a plan that is a refusal, else 0.
-pub fn refusal_of(plan: Plan) -> u8
-    ensures { result ≡ refusal_of plan }
-{
-    match plan {
-        Plan::Refused(number) => number,
-        Plan::Step(_) => 0,
+    match (own, managers) {
+        (Err(own), Err(managers)) => Err(first(own, managers)),
+        (Err(own), Ok(_)) => Err(own),
+        (Ok(()), _) => managers,
     }
 }
 
-// The same of a plan of the list.
-pub fn place_refusal(plan: ListPlan) -> u8
-    ensures { result ≡ place_refusal plan }
+// Of two refusals the one that is tested first.
+fn first(own: Refusal, managers: Refusal) -> Refusal
+    ensures { refusal_number result ≡ earlier (refusal_number own) (refusal_number managers) }
 {
-    match plan {
-        ListPlan::Refused(number) => number,
-        ListPlan::Place(_) => 0,
-    }
-}
-
-// Of two refusals, 0 for none, the one whose place comes first.
-pub fn earlier(own: u8, managers: u8) -> u8
-    ensures { result ≡ earlier own managers }
-{
-    if own == 0 {
-        return managers;
-    }
-    if managers == 0 {
-        return own;
-    }
-    if place(own) <= place(managers) {
-        own
-    } else {
-        managers
-    }
+    if own <= managers { own } else { managers }
 }

@@ -11,9 +11,9 @@ ghost use Rattle.machine.specs.Scaffold.Plans.{begins};
 use super::{Loaded, operations, plans};
 use board::BOARD01;
 use manager::commits::COLOURS;
-use manager::{Answer, FrameOps, Plan};
+use manager::{FrameOps, Refusal};
 use mapping::MappingList;
-use page_model::busy;
+use page_model::{Step, busy};
 
 // A device reads a frame: its buffer is filled.
 pub fn device_read(
@@ -25,7 +25,7 @@ pub fn device_read(
     tags: &mut [u8],
     buffer: &mut [u32],
     frame: u8,
-) -> Answer
+) -> Result<FrameOps, Refusal>
     ensures { result_of (answer (outcome result) none buffer.new)
         (machine_of list records.new protections.new memory.new words.now tags.new)
         ≡ step board01
@@ -33,17 +33,18 @@ pub fn device_read(
         (call.device_read frame buffer.old) }
 {
     let own = plans::transfer_refusal(BOARD01, memory, words, tags, buffer, BOARD01.page);
-    let managers = manager::plans::plan_device_read(BOARD01, list, records, protections, frame);
-    let plan = plans::with_step(own, managers);
-    let Plan::Step(change) = plan else {
-        return Answer::Refused(plans::refusal_of(plan));
-    };
-    let frame = change.frame;
-    let next = change.next;
-    let ops = change.ops;
-    manager::commits::commit_change(COLOURS, list, records, protections, frame, next);
-    operations::send(BOARD01, memory, words, tags, frame as usize, ops, buffer);
-    Answer::Accepted(FrameOps { frame, ops })
+    let managers = manager::plans::plan_transfer(
+        BOARD01,
+        list,
+        records,
+        protections,
+        frame,
+        Step::DeviceRead,
+    );
+    let change = plans::earlier(own, managers)?;
+    let operations = manager::commits::carry_out(COLOURS, list, records, protections, change);
+    operations::send(BOARD01, memory, words, tags, operations, buffer);
+    Ok(operations)
 }
 
 // A device writes a frame: its buffer is only read.
@@ -56,7 +57,7 @@ pub fn device_write(
     tags: &mut [u8],
     buffer: &[u32],
     frame: u8,
-) -> Answer
+) -> Result<FrameOps, Refusal>
     ensures { result_of (answer (outcome result) none [])
         (machine_of list records.new protections.new memory.new words.now tags.new)
         ≡ step board01
@@ -89,7 +90,7 @@ pub fn device_write_part(
     frame: u8,
     first: usize,
     number: usize,
-) -> Answer
+) -> Result<FrameOps, Refusal>
     ensures { result_of (answer (outcome result) none [])
         (machine_of list records.new protections.new memory.new words.now tags.new)
         ≡ step board01
@@ -106,25 +107,10 @@ pub fn device_write_part(
         first,
         number,
     );
-    let plan = plans::with_step(own, managers);
-    let Plan::Step(change) = plan else {
-        return Answer::Refused(plans::refusal_of(plan));
-    };
-    let frame = change.frame;
-    let next = change.next;
-    let ops = change.ops;
-    manager::commits::commit_change(COLOURS, list, records, protections, frame, next);
-    operations::receive(
-        BOARD01,
-        memory,
-        words,
-        tags,
-        frame as usize,
-        ops,
-        first,
-        buffer,
-    );
-    Answer::Accepted(FrameOps { frame, ops })
+    let change = plans::earlier(own, managers)?;
+    let operations = manager::commits::carry_out(COLOURS, list, records, protections, change);
+    operations::receive(BOARD01, memory, words, tags, operations, first, buffer);
+    Ok(operations)
 }
 
 // A device begins to read a frame, word by word.
@@ -136,7 +122,7 @@ pub fn begin_read(
     words: &[u32],
     tags: &mut [u8],
     frame: u8,
-) -> Answer
+) -> Result<FrameOps, Refusal>
     ensures { result_of (answer (outcome result) none [])
         (machine_of list records.new protections.new memory.new words.now tags.new)
         ≡ step board01
@@ -164,7 +150,7 @@ pub fn begin_write(
     words: &[u32],
     tags: &mut [u8],
     frame: u8,
-) -> Answer
+) -> Result<FrameOps, Refusal>
     ensures { result_of (answer (outcome result) none [])
         (machine_of list records.new protections.new memory.new words.now tags.new)
         ≡ step board01
@@ -185,7 +171,7 @@ pub fn bring_word(
     frame: u8,
     offset: usize,
     word: u32,
-) -> Answer
+) -> Result<FrameOps, Refusal>
     ensures { result_of (answer (outcome result) none [])
         (machine_of list records.now protections.new memory.new words.now tags.now)
         ≡ step board01
@@ -203,13 +189,10 @@ pub fn bring_word(
         offset,
         busy::WRITING,
     );
-    let refusal = plans::earlier(own, managers);
-    if refusal != 0 {
-        return Answer::Refused(refusal);
-    }
+    plans::earlier(own, managers)?;
     manager::records::refill(COLOURS, list, records, protections);
-    cache::device::bring_word(BOARD01, memory, frame as usize, offset, word);
-    manager::no_operations()
+    cache::device::bring_word(BOARD01, memory, usize::from(frame), offset, word);
+    Ok(manager::nothing())
 }
 
 // A device that reads a frame takes the word at an offset of it.
@@ -222,7 +205,7 @@ pub fn take_word(
     tags: &[u8],
     frame: u8,
     offset: usize,
-) -> Loaded
+) -> Result<Loaded, Refusal>
     ensures { result_of (loaded result)
         (machine_of list records.now protections.new memory.now words.now tags.now)
         ≡ step board01
@@ -240,13 +223,11 @@ pub fn take_word(
         offset,
         busy::READING,
     );
-    let refusal = plans::earlier(own, managers);
-    if refusal != 0 {
-        return Loaded::Refused(refusal);
-    }
+    plans::earlier(own, managers)?;
     manager::records::refill(COLOURS, list, records, protections);
-    let word = cache::device::take_word(BOARD01, memory, frame as usize, offset);
-    Loaded::Word(manager::nothing(), word)
+    let word = cache::device::take_word(BOARD01, memory, usize::from(frame), offset);
+    let operations = manager::nothing();
+    Ok(Loaded { operations, word })
 }
 
 // A device ends its transfer.
@@ -258,7 +239,7 @@ pub fn end_transfer(
     words: &[u32],
     tags: &[u8],
     frame: u8,
-) -> Answer
+) -> Result<FrameOps, Refusal>
     ensures { result_of (answer (outcome result) none [])
         (machine_of list records.new protections.new memory.now words.now tags.now)
         ≡ step board01
@@ -268,13 +249,10 @@ pub fn end_transfer(
     let own = plans::store_refusal(BOARD01, memory, words, tags);
     let kept = mapping::keeps_rules(BOARD01, list);
     let managers = manager::refusals::end_refusal(BOARD01, kept, records, protections, frame);
-    let refusal = plans::earlier(own, managers);
-    if refusal != 0 {
-        return Answer::Refused(refusal);
-    }
+    plans::earlier(own, managers)?;
     let next = manager::records::record_at(records, frame).end();
     manager::commits::commit_change(COLOURS, list, records, protections, frame, next);
-    manager::no_operations()
+    Ok(manager::nothing())
 }
 
 // A device begins a transfer, a write or a read.
@@ -287,7 +265,7 @@ fn begin(
     tags: &mut [u8],
     frame: u8,
     writes: bool,
-) -> Answer
+) -> Result<FrameOps, Refusal>
     ensures { result_of (answer (outcome result) none [])
         (machine_of list records.new protections.new memory.new words.now tags.new)
         ≡ step board01
@@ -295,15 +273,14 @@ fn begin(
         (begins writes frame) }
 {
     let own = plans::store_refusal(BOARD01, memory, words, tags);
-    let managers = manager::plans::plan_begin(BOARD01, list, records, protections, frame, writes);
-    let plan = plans::with_step(own, managers);
-    let Plan::Step(change) = plan else {
-        return Answer::Refused(plans::refusal_of(plan));
+    let step = if writes {
+        Step::BeginWrite
+    } else {
+        Step::BeginRead
     };
-    let frame = change.frame;
-    let next = change.next;
-    let ops = change.ops;
-    manager::commits::commit_change(COLOURS, list, records, protections, frame, next);
-    operations::carry_out(BOARD01, memory, words, tags, frame as usize, ops);
-    Answer::Accepted(FrameOps { frame, ops })
+    let managers = manager::plans::plan_transfer(BOARD01, list, records, protections, frame, step);
+    let change = plans::earlier(own, managers)?;
+    let operations = manager::commits::carry_out(COLOURS, list, records, protections, change);
+    operations::carry_out(BOARD01, memory, words, tags, operations);
+    Ok(operations)
 }

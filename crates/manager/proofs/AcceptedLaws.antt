@@ -2,7 +2,7 @@
 use mathlib.Core.Path.{◌≡◌, refl, sym, ◌∙◌}
 use mathlib.Core.Bool.{Bool, true, false, ◌&&◌, ◌||◌, false≢true}
 use mathlib.Core.Logic.{◌≢◌}
-use Prim.Native.Nat.{◌*◌, ◌<◌}
+use Prim.Native.Nat.{ℕ, ◌*◌, ◌<◌}
 use native.Mathlib.Omega.{arith}
 use borrow.Author.Tests.{eqb-true, eqb-false, leb-false, not-false}
 use lib.Dec.{eqb, leb}
@@ -10,13 +10,12 @@ use lib.ListN.{length}
 use Rattle.bits.proofs.Tautology.{and_left, and_right}
 use Rattle.board.specs.declared.Board.{Board}
 use Rattle.board.specs.Board.{spaces, pages}
-use Rattle.mapping.specs.declared.Found.{Found}
-use Rattle.mapping.specs.declared.Found.TheVariants.{At, Nothing}
+use Rattle.std.specs.Prelude.{Option, Some, None, is_some}
 use Rattle.mapping.specs.declared.Mapping.{Mapping}
 use Rattle.mapping.specs.declared.MappingList.{MappingList}
 use Rattle.mapping.specs.Entry.{capacity}
 use Rattle.mapping.specs.Facts.{InRange}
-use Rattle.mapping.specs.Lookup.{lookup, found}
+use Rattle.mapping.specs.Lookup.{lookup}
 use Rattle.mapping.specs.Rules as list_of
 use Rattle.mapping.proofs.Laws.{rights_known}
 use Rattle.manager.specs.Refusals.{first_refusal, table_causes, map_causes, mapping_causes}
@@ -48,13 +47,13 @@ pub or_neither : (x y : Bool) → (x || y) ≡ false → (x ≡ false) × (y ≡
 or_neither true y e = absurd (false≢true (sym e))
 or_neither false y e = (refl, e)
 
-not_found : (f : Found) → found f ≡ false → f ≡ Nothing
-not_found (At i) e = absurd (false≢true (sym e))
-not_found Nothing e = refl
+not_found : (f : Option ℕ) → is_some f ≡ false → f ≡ None
+not_found (Some i) e = absurd (false≢true (sym e))
+not_found None e = refl
 
 -- a mapping that the list does not refuse
 pub mapping_accepted : (b : Board) (l : MappingList) (m : Mapping) → mapping_refusal b l m ≡ 0
-    → InRange b m × (lookup l m.space m.page ≡ Nothing) × (l.count ≢ capacity)
+    → InRange b m × (lookup l m.space m.page ≡ None) × (l.count ≢ capacity)
 unfolding mapping_refusal
 mapping_accepted b l m e =
     let cs = mapping_causes b l m.space m.page m.frame m.rights in
@@ -70,7 +69,7 @@ mapping_accepted b l m e =
     )
 
 pub map_accepted : (b : Board) (t : Tables) (m : Mapping) → first_refusal (map_causes b t m.space m.page m.frame m.rights) ≡ 0
-    → WellFormedTables b t × InRange b m × (lookup t.list m.space m.page ≡ Nothing) × (t.list.count < capacity)
+    → WellFormedTables b t × InRange b m × (lookup t.list m.space m.page ≡ None) × (t.list.count < capacity)
 unfolding first_refusal map_causes mapping_refusal table_causes
 map_accepted b t m e =
     let cs = map_causes b t m.space m.page m.frame m.rights in

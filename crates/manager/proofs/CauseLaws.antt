@@ -16,20 +16,20 @@ use Rattle.bits.proofs.Tautology.{and_left, and_right}
 use Rattle.board.specs.declared.Board.{Board}
 use Rattle.page_model.specs.Record as frame_record
 use Rattle.mapping.specs.declared.MappingList.{MappingList}
-use Rattle.mapping.specs.Entry.{capacity}
-use Rattle.mapping.specs.declared.Found.{Found}
+use Rattle.mapping.specs.declared.Mapping.{Mapping}
+use Rattle.mapping.specs.Entry.{capacity, zero_mapping}
 use Rattle.mapping.specs.declared.Seen.{Seen}
-use Rattle.mapping.specs.declared.Found.TheVariants.{At, Nothing}
+use Rattle.std.specs.Prelude.{Option, Some, None, is_some, unwrap_or}
 use Rattle.mapping.specs.Facts.{InRange, Rules, FoundAt}
 use Rattle.mapping.specs.Look.{find, look}
-use Rattle.mapping.specs.Lookup.{lookup, found, is_mapped, place_of, listed_mapping, place_for}
+use Rattle.mapping.specs.Lookup.{lookup, is_mapped, place_of, listed_mapping, place_for}
 use Rattle.mapping.specs.Rules as list_of
-use Rattle.mapping.proofs.Laws.{keeps_rules_true, lookup_at, found_place, look_kept, look_broken}
+use Rattle.mapping.proofs.Laws.{keeps_rules_true, lookup_at, found_place, look_kept, look_broken, find_mapped, find_listed}
 use Rattle.manager.specs.declared.refusal.Refusal.{Refusal}
 use Rattle.manager.specs.declared.refusal.Refusal.TheVariants as refusal
 use Rattle.manager.specs.Answers.{refusal_number, refusal_in}
-use Rattle.manager.specs.Refusals.{Cause, first_refusal, or_else, table_causes, page_causes, frame_cause}
-use Rattle.manager.specs.Scaffold.Told.{told_tables}
+use Rattle.manager.specs.Refusals.{Cause, ◌if◌, first_refusal, or_else, table_causes, page_causes, mapping_causes, space_cause, frame_cause, rights_cause, full_cause, unmapped_cause}
+use Rattle.manager.specs.Scaffold.Told.{told_tables, told_mapping, told_page}
 use Rattle.manager.specs.Tables.{Tables, tables, record_words, record_at, records_keep_rules, lengths_right, rules_kept}
 
 -- ---- the lent tables
@@ -122,7 +122,6 @@ refusal_rest (c ∷ cs) ds n e =
 
 -- no refusal's number is 0
 pub some_number : (e : Refusal) → refusal_number e ≡ 0 → ⊥
-some_number refusal.WrongHold z = omega arith
 some_number refusal.WrongLength z = omega arith
 some_number refusal.WrongBatch z = omega arith
 some_number refusal.BrokenRules z = omega arith
@@ -177,9 +176,9 @@ module _ (b : Board) (t : Tables) (kept : rules_kept b t ≡ true) where
   pub mapped_found : (space page : ℕ) → is_mapped t.list space page ≡ true → FoundAt t.list space page (place_of (lookup t.list space page))
   mapped_found space page e = go (lookup t.list space page) refl e
     where
-      go : (f : Found) → lookup t.list space page ≡ f → found f ≡ true → FoundAt t.list space page (place_of f)
-      go (At i) z k = lookup_at t.list space page i z
-      go Nothing z k = absurd (false≢true k)
+      go : (f : Option ℕ) → lookup t.list space page ≡ f → is_some f ≡ true → FoundAt t.list space page (place_of f)
+      go (Some i) z k = lookup_at t.list space page i z
+      go None z k = absurd (false≢true k)
 
   pub mapped_range : (space page : ℕ) → is_mapped t.list space page ≡ true → InRange b (listed_mapping t.list space page)
   mapped_range space page e = list_rules.in_range_holds _ (mapped_found space page e).listed
@@ -201,37 +200,40 @@ pub told_tables_lem : (b : Board) (l : MappingList) (rs ps : List ℕ) {kept : B
 unfolding first_refusal told_tables table_causes lengths_right rules_kept
 told_tables_lem b l rs ps long e = rw (eq-eqb _ _ long, e)
 
-module _ (b : Board) (l : MappingList) (s p : ℕ) {seen : Seen} (told : seen ≡ look b l s p) where
-  told_kept : seen.kept ≡ list_of.keeps_rules b l
-  told_kept = ap (λ (x : Seen). x.kept) told ∙ go (list_of.keeps_rules b l) refl
-    where
-      go : (t : Bool) → list_of.keeps_rules b l ≡ t → (look b l s p).kept ≡ t
-      go true e = ap (λ (x : Seen). x.kept) (look_kept b l s p e)
-      go false e = ap (λ (x : Seen). x.kept) (look_broken b l s p e)
+-- a look tells something exactly of a list that keeps its rules, and then what `find` tells
+pub looked_kept : (b : Board) (l : MappingList) (s p : ℕ) → is_some (look b l s p) ≡ list_of.keeps_rules b l
+looked_kept b l s p = go (list_of.keeps_rules b l) refl
+  where
+    go : (t : Bool) → list_of.keeps_rules b l ≡ t → is_some (look b l s p) ≡ t
+    go true e = ap (λ (x : Option Seen). is_some x) (look_kept b l s p e)
+    go false e = ap (λ (x : Option Seen). is_some x) (look_broken b l s p e)
 
-  pub told_found : list_of.keeps_rules b l ≡ true → seen ≡ find l s p
-  told_found kept = told ∙ look_kept b l s p kept
+pub looked_found : (b : Board) (l : MappingList) (s p : ℕ) {seen : Seen} → look b l s p ≡ Some seen → (list_of.keeps_rules b l ≡ true) × (seen ≡ find l s p)
+looked_found b l s p {seen} e = go (list_of.keeps_rules b l) refl
+  where
+    go : (t : Bool) → list_of.keeps_rules b l ≡ t → (list_of.keeps_rules b l ≡ true) × (seen ≡ find l s p)
+    go true k = (k, (let z : Some seen ≡ Some (find l s p) = sym e ∙ look_kept b l s p k in cc))
+    go false k = absurd (let z : Some seen ≡ None = sym e ∙ look_broken b l s p k in cc)
 
-  -- the refusal by what was told is that of the tables
-  pub told_rest : (rs ps : List ℕ) (own : Seen → List Cause) → length l.items ≡ capacity
-      → first_refusal (told_tables b seen.kept rs ps ++ own seen) ≡ first_refusal (table_causes b (tables l rs ps) ++ own (find l s p))
-  unfolding told_tables table_causes
-  told_rest rs ps own long = go (first_refusal (told_tables b seen.kept rs ps)) refl
-    where
-      same : first_refusal (told_tables b seen.kept rs ps) ≡ first_refusal (table_causes b (tables l rs ps))
-      same = told_tables_lem b l rs ps long told_kept
+-- the refusal of what is lent by what a look told
+pub tables_told : (b : Board) (l : MappingList) (rs ps : List ℕ) (s p : ℕ) {looked : Option Seen} {n : ℕ} → length l.items ≡ capacity → looked ≡ look b l s p
+    → n ≡ first_refusal (told_tables b (is_some looked) rs ps) → n ≡ first_refusal (table_causes b (tables l rs ps))
+tables_told b l rs ps s p long looked told =
+    told ∙ told_tables_lem b l rs ps long (ap (λ (x : Option Seen). is_some x) looked ∙ looked_kept b l s p)
 
-      go : (n : ℕ) → first_refusal (told_tables b seen.kept rs ps) ≡ n
-          → first_refusal (told_tables b seen.kept rs ps ++ own seen) ≡ first_refusal (table_causes b (tables l rs ps) ++ own (find l s p))
-      go zero e =
-          let none = sym same ∙ e in
-          sym (refusal_rest (told_tables b seen.kept rs ps) (own seen) refl e)
-          ∙ ap (λ (x : Seen). first_refusal (own x)) (told_found (list_keeps b (tables l rs ps) (tables_clear b (tables l rs ps) none).1))
-          ∙ refusal_rest (table_causes b (tables l rs ps)) (own (find l s p)) refl none
-      go (suc n) e =
-          sym (refusal_prefix (told_tables b seen.kept rs ps) (own seen) (λ z. omega arith))
-          ∙ same
-          ∙ refusal_prefix (table_causes b (tables l rs ps)) (own (find l s p)) (λ z. let w = sym same ∙ e in omega arith)
+-- what was found tells whether the page is mapped
+pub mapping_told : (b : Board) (l : MappingList) (s p frame rights : ℕ) {seen : Seen} → seen ≡ find l s p → told_mapping b s p frame rights seen ≡ mapping_causes b l s p frame rights
+mapping_told b l s p frame rights e =
+    ap (told_mapping b s p frame rights) e
+    ∙ ap (λ (t : Bool). space_cause s p ∷ frame_cause b frame ∷ rights_cause rights ∷ (7 if t) ∷ full_cause l ∷ []) (find_mapped l s p)
+
+pub page_told : (l : MappingList) (s p : ℕ) {seen : Seen} → seen ≡ find l s p → told_page s p seen ≡ space_cause s p ∷ unmapped_cause l s p ∷ []
+page_told l s p e = ap (told_page s p) e ∙ ap (λ (t : Bool). space_cause s p ∷ (8 if not t) ∷ []) (find_mapped l s p)
+
+-- and the mapping that was found is the page's
+pub mapping_listed : (l : MappingList) (s p : ℕ) {seen : Seen} {m : Mapping} → length l.items ≡ capacity → seen ≡ find l s p → seen.mapping ≡ Some m → m ≡ listed_mapping l s p
+mapping_listed l s p long e is =
+    ap (λ (x : Option Mapping). unwrap_or x zero_mapping) (sym is ∙ ap (λ (x : Seen). x.mapping) e) ∙ find_listed l s p (omega arith)
 
 -- and of a transfer, whose own causes are not the list's
 pub told_own : (b : Board) (l : MappingList) (rs ps : List ℕ) (own : List Cause) {kept : Bool} → length l.items ≡ capacity → kept ≡ list_of.keeps_rules b l

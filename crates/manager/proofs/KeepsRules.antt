@@ -10,7 +10,7 @@ use Rattle.page_model.specs.Record.{keeps_rules}
 use Rattle.page_model.specs.Step.{stepped}
 use Rattle.page_model.specs.Table as step
 use Rattle.page_model.proofs.Theorems.{step_keeps_rules, freed_record}
-use Rattle.mapping.specs.declared.Found.TheVariants.{Nothing}
+use Rattle.std.specs.Prelude.{None}
 use Rattle.mapping.specs.declared.Mapping.{Mapping}
 use Rattle.mapping.specs.Change.{insert, remove}
 use Rattle.mapping.specs.Entry.{capacity}
@@ -51,7 +51,7 @@ module _ (b : Board) (t : Tables) (w : WellFormedTables b t) where
   pub end_keeps : (f : ℕ) → f < b.frames → WellFormedTables b (ended_tables b t f)
   end_keeps f h = commit_keeps f _ h (freed_record b.colours _ (record_rules b t w.1 f h)).0
 
-  pub map_keeps : (m : Mapping) → InRange b m → lookup t.list m.space m.page ≡ Nothing → t.list.count < capacity → WellFormedTables b (commit_map b t (place_for t.list m.space m.page) m)
+  pub map_keeps : (m : Mapping) → InRange b m → lookup t.list m.space m.page ≡ None → t.list.count < capacity → WellFormedTables b (commit_map b t (place_for t.list m.space m.page) m)
   map_keeps m range fresh room =
       let n = lengths_known b t w.0 in
       let rules = list_rules b t w.1 in

@@ -26,9 +26,9 @@ use Rattle.manager.specs.declared.refusal.Refusal.{Refusal}
 use Rattle.manager.specs.Calls.{ListPlan, Plan, planned, change_of, plan_access, call_result, list_outcome, list_left, no_ops, plain_result, commit_change, step_result, list_result}
 use Rattle.manager.specs.Answers.{refused, refusal_number, by_number, outcome}
 use Rattle.manager.specs.Refusals.{Cause, first_refusal, busy_cause, table_causes, page_causes, read_causes, write_causes, fetch_causes}
-use Rattle.manager.specs.Scaffold.Told.{told_tables, told_rights, told_access}
+use Rattle.manager.specs.Scaffold.Told.{told_rights}
 use Rattle.manager.specs.Tables.{Tables, tables, record_at}
-use Rattle.manager.proofs.CauseLaws.{numbered, some_number, refusal_prefix, refusal_rest, told_found, told_rest, call_list_keeps, page_rules}
+use Rattle.manager.proofs.CauseLaws.{numbered, some_number, refusal_prefix, refusal_rest, page_rules}
 
 -- a refusal plans nothing
 pub planned_refused : (e : Refusal) {A : Type 0} (made : A) → Err (refusal_number e) ≡ planned (refusal_number e) made
@@ -61,15 +61,15 @@ access_step Read colour = read colour
 access_step Write colour = write colour
 access_step Fetch colour = fetch colour
 
--- what is tested before the frame's mark
+-- what is tested before the frame's mark: what is lent, the page, and the rights of its mapping
 abbrev before_mark : Board → Tables → ℕ → ℕ → AccessKind → List Cause
-before_mark b t space page kind = table_causes b t ++ told_access kind space page (find t.list space page)
+before_mark b t space page kind = page_causes b t space page ++ told_rights kind (listed_mapping t.list space page).rights
 
 access_plan : (b : Board) (t : Tables) (space page : ℕ) (kind : AccessKind)
     → let f = (listed_mapping t.list space page).frame in
     let s = access_step kind (colour_of b page) in
     planned (first_refusal (before_mark b t space page kind ++ busy_cause t.records f s ∷ [])) (change_of b t f s) ≡ plan_access b t space page kind
-unfolding first_refusal read_causes write_causes fetch_causes
+unfolding first_refusal page_causes read_causes write_causes fetch_causes
 access_plan b t space page Read = refl
 access_plan b t space page Write = refl
 access_plan b t space page Fetch = refl
@@ -79,39 +79,32 @@ rights_numbered Read rights = refl
 rights_numbered Write rights = refl
 rights_numbered Fetch rights = refl
 
-access_numbered : (kind : AccessKind) (space page : ℕ) (seen : Seen) → numbered (told_access kind space page seen) ≡ true
-access_numbered Read space page seen = refl
-access_numbered Write space page seen = refl
-access_numbered Fetch space page seen = refl
+access_numbered : (b : Board) (t : Tables) (kind : AccessKind) (space page : ℕ) → numbered (before_mark b t space page kind) ≡ true
+unfolding page_causes table_causes
+access_numbered b t Read space page = refl
+access_numbered b t Write space page = refl
+access_numbered b t Fetch space page = refl
 
-module _ (b : Board) (l : MappingList) (rs ps : List ℕ) (space page : ℕ) (kind : AccessKind) {seen : Seen} {n : ℕ} (looked : seen ≡ look b l space page)
-    (long : length l.items ≡ capacity) (told : n ≡ first_refusal (told_tables b seen.kept rs ps ++ told_access kind space page seen)) where
-  refusal : n ≡ first_refusal (before_mark b (tables l rs ps) space page kind)
-  refusal = told ∙ told_rest b l _ _ looked rs ps (told_access kind space page) long
+module _ (b : Board) (t : Tables) (space page : ℕ) (kind : AccessKind) where
+  -- a refusal in what is tested before the mark is the access's
+  pub access_refused : (r : Result Change Refusal) (e : Refusal) → refusal_number e ≡ first_refusal (before_mark b t space page kind) → IsErrAnd r (λ y. y ≡ e)
+      → by_number r ≡ plan_access b t space page kind
+  access_refused r e told is = planned_first (before_mark b t space page kind) _ r e _ told is ∙ access_plan b t space page kind
 
-  pub access_refused : (r : Result Change Refusal) (e : Refusal) → refusal_number e ≡ n → IsErrAnd r (λ y. y ≡ e) → by_number r ≡ plan_access b (tables l rs ps) space page kind
-  access_refused r e same is = planned_first (before_mark b (tables l rs ps) space page kind) _ r e _ (same ∙ refusal) is ∙ access_plan b (tables l rs ps) space page kind
-
-  -- past these refusals: the record of the page's frame keeps the rules, and its mark decides
-  module _ (none : 0 ≡ n) where
-    frame : seen.mapping.frame ≡ (listed_mapping l space page).frame
-    frame =
-        ap (λ (x : Seen). x.mapping.frame) (told_found b l _ _ looked (call_list_keeps b (tables l rs ps) (told_access kind space page (find l space page)) (access_numbered kind space page (find l space page)) (sym (none ∙ refusal))))
-
-    pub access_rules : keeps_rules b.colours (record_at rs seen.mapping.frame) ≡ true
-    unfolding page_causes
+  -- past it the record of the page's frame keeps the rules, and its mark decides
+  module _ (none : 0 ≡ first_refusal (before_mark b t space page kind)) {f : ℕ} (frame : f ≡ (listed_mapping t.list space page).frame) where
+    pub access_rules : keeps_rules b.colours (record_at t.records f) ≡ true
     access_rules =
-        ap (λ (f : ℕ). keeps_rules b.colours (record_at rs f)) frame
-        ∙ page_rules b (tables l rs ps) space page (told_rights kind (listed_mapping l space page).rights) (rights_numbered kind (listed_mapping l space page).rights) (sym (none ∙ refusal))
+        ap (λ (f : ℕ). keeps_rules b.colours (record_at t.records f)) frame
+        ∙ page_rules b t space page (told_rights kind (listed_mapping t.list space page).rights) (rights_numbered kind (listed_mapping t.list space page).rights) (sym none)
 
     pub access_planned : {plan : Plan} {s : Step} → s ≡ access_step kind (colour_of b page)
-        → plan ≡ planned (cond (bars (record_at rs seen.mapping.frame).busy s) 15 0) (change_of b (tables l rs ps) seen.mapping.frame s)
-        → plan ≡ plan_access b (tables l rs ps) space page kind
-    unfolding table_causes
-    access_planned {plan} {s} es e =
-        planned_then (tables l rs ps) (before_mark b (tables l rs ps) space page kind) (listed_mapping l space page).frame (access_step kind (colour_of b page)) _ (access_numbered kind space page (find l space page)) (none ∙ refusal)
-        (e ∙ (λ i. planned (cond (bars (record_at rs (frame i)).busy (es i)) 15 0) (change_of b (tables l rs ps) (frame i) (es i))))
-        ∙ access_plan b (tables l rs ps) space page kind
+        → plan ≡ planned (cond (bars (record_at t.records f).busy s) 15 0) (change_of b t f s)
+        → plan ≡ plan_access b t space page kind
+    access_planned es e =
+        planned_then t (before_mark b t space page kind) (listed_mapping t.list space page).frame (access_step kind (colour_of b page)) _ (access_numbered b t kind space page) none
+        (e ∙ (λ i. planned (cond (bars (record_at t.records (frame i)).busy (es i)) 15 0) (change_of b t (frame i) (es i))))
+        ∙ access_plan b t space page kind
 
 -- ---- calls, at the exit of a `?` and past it
 

@@ -22,7 +22,6 @@ refusal_number refusal.ListFull = 9
 refusal_number refusal.NotWritable = 10
 refusal_number refusal.WrongBatch = 12
 refusal_number refusal.NoSuchPart = 13
-refusal_number refusal.WrongHold = 14
 refusal_number refusal.Busy = 15
 refusal_number refusal.NoTransfer = 16
 refusal_number refusal.NotFetchable = 17

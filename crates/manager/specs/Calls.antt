@@ -72,10 +72,6 @@ write_step b number = cond (ltb number b.page) device_write_part device_write
 abbrev pub plan_device_write_part : Board → Tables → ℕ → ℕ → ℕ → Plan
 plan_device_write_part b t frame first number = planned (first_refusal (part_causes b t frame first number)) (change_of b t frame (write_step b number))
 
--- the step that begins a device's transfer, a write or a read
-abbrev pub begin_step : Bool → Step
-begin_step writes = cond writes begin_write begin_read
-
 -- the tables with a frame's next record, and the protections that agree with it
 abbrev pub commit_change : Board → Tables → ℕ → FrameRecord → Tables
 commit_change b t frame next = refill b (tables t.list (put_record t.records frame next) t.protections)

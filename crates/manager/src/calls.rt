@@ -80,10 +80,10 @@ pub fn read(
     ensures { call_result (outcome result) (tables list records.new protections.new)
         ≡ read_call board01 (tables list records.old protections.old) space page }
 {
-    let seen = mapping::look(BOARD01, list, space, page);
+    let looked = mapping::look(BOARD01, list, space, page);
     let change = plan_access(
         BOARD01,
-        seen,
+        looked,
         records,
         protections,
         space,
@@ -104,10 +104,10 @@ pub fn write(
     ensures { call_result (outcome result) (tables list records.new protections.new)
         ≡ write_call board01 (tables list records.old protections.old) space page }
 {
-    let seen = mapping::look(BOARD01, list, space, page);
+    let looked = mapping::look(BOARD01, list, space, page);
     let change = plan_access(
         BOARD01,
-        seen,
+        looked,
         records,
         protections,
         space,
@@ -128,10 +128,10 @@ pub fn fetch(
     ensures { call_result (outcome result) (tables list records.new protections.new)
         ≡ fetch_call board01 (tables list records.old protections.old) space page }
 {
-    let seen = mapping::look(BOARD01, list, space, page);
+    let looked = mapping::look(BOARD01, list, space, page);
     let change = plan_access(
         BOARD01,
-        seen,
+        looked,
         records,
         protections,
         space,

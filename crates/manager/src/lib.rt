@@ -21,7 +21,7 @@ use page_model::{FrameRecord, Op, Ops};
 pub use refusal::Refusal;
 
 // The operations of a call, on one frame.
-#[derive(Clone, Copy)]
+#[derive(Clone, Copy, Debug, PartialEq, Eq)]
 pub struct FrameOps {
     pub frame: u8,
     pub ops: Ops,
@@ -36,7 +36,7 @@ pub enum AccessKind {
 }
 
 // What a step makes of one frame's record.
-#[derive(Clone, Copy)]
+#[derive(Clone, Copy, Debug, PartialEq, Eq)]
 pub struct Change {
     pub frame: u8,
     pub next: FrameRecord,

@@ -13,7 +13,9 @@ ghost use Rattle.manager.specs.Calls.{plan_map, plan_unmap, planned, change_of, 
 ghost use Rattle.manager.specs.Tables.{tables, record_at};
 
 use super::records::record_at;
-use super::refusals::{access_refusal, map_refusal, page_refusal, part_refusal, transfer_refusal};
+use super::refusals::{
+    mapping_at, mapping_refusal, part_refusal, rights_refusal, tested, transfer_refusal,
+};
 use super::{AccessKind, Change, Refusal};
 use board::Board;
 use mapping::{Mapping, MappingList, Seen};
@@ -30,8 +32,9 @@ pub fn plan_map(
     requires { Regular board }
     ensures { by_number result ≡ plan_map board (tables list records.now protections.now) m.space m.page m.frame m.rights }
 {
-    let seen = mapping::look(board, list, m.space, m.page);
-    map_refusal(board, seen, records, protections, m)?;
+    let looked = mapping::look(board, list, m.space, m.page);
+    let seen = tested(board, looked, records, protections)?;
+    mapping_refusal(board, seen, m)?;
     Ok(seen.place)
 }
 
@@ -47,16 +50,17 @@ pub fn plan_unmap(
     requires { Regular board }
     ensures { by_number result ≡ plan_unmap board (tables list records.now protections.now) space page }
 {
-    let seen = mapping::look(board, list, space, page);
-    page_refusal(board, seen, records, protections, space, page)?;
+    let looked = mapping::look(board, list, space, page);
+    let seen = tested(board, looked, records, protections)?;
+    mapping_at(seen, space, page)?;
     Ok(seen.place)
 }
 
-// What an access of the processor makes of the page's frame, where seen is what a look at the list told of the page. The list
+// What an access of the processor makes of the page's frame, where `looked` is what a look at the list told of the page. The list
 // itself is not handed on: that would copy it once more.
 pub fn plan_access(
     board: Board,
-    seen: Seen,
+    looked: Option<Seen>,
     records: &[u32],
     protections: &[u8],
     space: u8,
@@ -64,17 +68,19 @@ pub fn plan_access(
     kind: AccessKind,
 ) -> Result<Change, Refusal>
     requires { Regular board }
-    ensures { (list : any.MappingList) → length list.items ≡ capacity → seen ≡ look board list space page
+    ensures { (list : any.MappingList) → length list.items ≡ capacity → looked ≡ look board list space page
         → by_number result ≡ plan_access board (tables list records.now protections.now) space page kind }
 {
-    access_refusal(board, seen, records, protections, space, page, kind)?;
+    let seen = tested(board, looked, records, protections)?;
+    let mapping = mapping_at(seen, space, page)?;
+    rights_refusal(kind, mapping.rights)?;
     let colour = board::colour_of(board, usize::from(page));
     let step = match kind {
         AccessKind::Read => Step::Read(colour),
         AccessKind::Write => Step::Write(colour),
         AccessKind::Fetch => Step::Fetch(colour),
     };
-    plan_step(board, records, seen.mapping.frame, step)
+    plan_step(board, records, mapping.frame, step)
 }
 
 // What a device's transfer of a page, or the beginning of one, makes of a frame.

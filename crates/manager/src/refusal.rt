@@ -8,8 +8,6 @@ use std::fmt;
 // The causes of refusal, in the order in which they are tested: of two, the lesser is answered.
 #[derive(Clone, Copy, Debug, PartialEq, Eq, PartialOrd, Ord)]
 pub enum Refusal {
-    // A hold that position hold does not have.
-    WrongHold,
     // A lent buffer of another length.
     WrongLength,
     // A list of more mappings than a batch has, or of not as many as there are answers.
@@ -55,7 +53,6 @@ impl Refusal {
             Refusal::NotWritable => 10,
             Refusal::WrongBatch => 12,
             Refusal::NoSuchPart => 13,
-            Refusal::WrongHold => 14,
             Refusal::Busy => 15,
             Refusal::NoTransfer => 16,
             Refusal::NotFetchable => 17,
@@ -66,7 +63,6 @@ impl Refusal {
 impl fmt::Display for Refusal {
     fn fmt<W: fmt::Write>(&self, f: &mut fmt::Formatter<W>) -> fmt::Result {
         let cause = match self {
-            Refusal::WrongHold => "no such position hold",
             Refusal::WrongLength => "a lent buffer of another length",
             Refusal::WrongBatch => "too many mappings, or not as many as answers",
             Refusal::BrokenRules => "what is lent breaks its rules",

@@ -1,9 +1,9 @@
-// The refusal of each call, by the first cause that applies. Where a function takes `seen`, that is what a look at the list told of the call's page; `kept` says whether the list keeps its rules.
-ghost use Rattle.std.specs.Prelude.{[], ◌∷◌, ◌++◌, ◌≡◌};
+// The refusal of each call, by the first cause that applies. `seen` is what a look at the list told of the call's page, and `kept` whether the list keeps its rules.
+ghost use Rattle.std.specs.Prelude.{[], ◌∷◌, ◌++◌, ◌≡◌, IfOk, Some, is_some};
 ghost use Rattle.board.specs.Board.{Regular};
 ghost use Rattle.manager.specs.Answers.{refusal_in};
 ghost use Rattle.manager.specs.Refusals.{first_refusal, frame_cause, part_cause, offset_cause, word_cause, end_cause, out_of_space, out_of_page};
-ghost use Rattle.manager.specs.Scaffold.Told.{told_tables, told_mapping, told_page, told_rights, told_access};
+ghost use Rattle.manager.specs.Scaffold.Told.{told_tables, told_mapping, told_page, told_rights};
 
 use super::records::{RECORD_WORDS, record_at, records_keep_rules};
 use super::{AccessKind, Refusal};
@@ -36,19 +36,19 @@ pub fn tables_refusal(
     Ok(())
 }
 
-// The refusal of `map`.
-pub fn map_refusal(
+// What a look at the list told, where all that is lent is as it should be.
+pub fn tested(
     board: Board,
-    seen: Seen,
+    looked: Option<Seen>,
     records: &[u32],
     protections: &[u8],
-    m: Mapping,
-) -> Result<(), Refusal>
+) -> Result<Seen, Refusal>
     requires { Regular board }
-    ensures { refusal_in result ≡ first_refusal (told_tables board seen.kept records.now protections.now ++ told_mapping board m.space m.page m.frame m.rights seen) }
+    ensures refusal { refusal_in result ≡ first_refusal (told_tables board (is_some looked) records.now protections.now) }
+    ensures seen { IfOk result (λ seen. looked ≡ Some seen) }
 {
-    tables_refusal(board, seen.kept, records, protections)?;
-    mapping_refusal(board, seen, m)
+    tables_refusal(board, looked.is_some(), records, protections)?;
+    looked.ok_or(Refusal::BrokenRules)
 }
 
 // The refusal of a mapping in its numbers and the list, where all that is lent is as it should be.
@@ -64,7 +64,7 @@ pub fn mapping_refusal(board: Board, seen: Seen, m: Mapping) -> Result<(), Refus
     if !mapping::is_rights(m.rights) {
         return Err(Refusal::NoSuchRights);
     }
-    if seen.mapped {
+    if seen.mapping.is_some() {
         return Err(Refusal::AlreadyMapped);
     }
     if seen.count == mapping::CAPACITY {
@@ -73,47 +73,19 @@ pub fn mapping_refusal(board: Board, seen: Seen, m: Mapping) -> Result<(), Refus
     Ok(())
 }
 
-// The refusal of `unmap`.
-pub fn page_refusal(
-    board: Board,
-    seen: Seen,
-    records: &[u32],
-    protections: &[u8],
-    space: u8,
-    page: u16,
-) -> Result<(), Refusal>
-    requires { Regular board }
-    ensures { refusal_in result ≡ first_refusal (told_tables board seen.kept records.now protections.now ++ told_page space page seen) }
+// The mapping of a page of a space, where all that is lent is as it should be.
+pub fn mapping_at(seen: Seen, space: u8, page: u16) -> Result<Mapping, Refusal>
+    ensures refusal { refusal_in result ≡ first_refusal (told_page space page seen) }
+    ensures mapping { IfOk result (λ m. seen.mapping ≡ Some m) }
 {
-    tables_refusal(board, seen.kept, records, protections)?;
     if out_of_space(space, page) {
         return Err(Refusal::NoSuchPage);
     }
-    if !seen.mapped {
-        return Err(Refusal::NotMapped);
-    }
-    Ok(())
-}
-
-// The refusal of an access of the processor but for the frame's busy mark.
-pub fn access_refusal(
-    board: Board,
-    seen: Seen,
-    records: &[u32],
-    protections: &[u8],
-    space: u8,
-    page: u16,
-    kind: AccessKind,
-) -> Result<(), Refusal>
-    requires { Regular board }
-    ensures { refusal_in result ≡ first_refusal (told_tables board seen.kept records.now protections.now ++ told_access kind space page seen) }
-{
-    page_refusal(board, seen, records, protections, space, page)?;
-    rights_refusal(kind, seen.mapping.rights)
+    seen.mapping.ok_or(Refusal::NotMapped)
 }
 
 // The refusal of an access in the rights of its mapping.
-fn rights_refusal(kind: AccessKind, rights: u8) -> Result<(), Refusal>
+pub fn rights_refusal(kind: AccessKind, rights: u8) -> Result<(), Refusal>
     ensures { refusal_in result ≡ first_refusal (told_rights kind rights) }
 {
     match kind {

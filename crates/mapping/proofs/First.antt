@@ -5,9 +5,9 @@ use mathlib.Core.Logic.{◌⊎◌, inl, inr, ⊎_elim}
 use Prim.Native.Nat.{ℕ, zero, suc, ◌<◌, ◌≤◌}
 use native.Mathlib.Omega.{arith}
 use native.Mathlib.Nat.{eq-or-lt_of_le}
-use Rattle.mapping.specs.declared.Found.{Found}
-use Rattle.mapping.specs.declared.Found.TheVariants.{At, Nothing}
-use Rattle.mapping.specs.Lookup.{or_else, first_found}
+use Rattle.std.specs.Prelude.{Option, Some, None}
+use Rattle.std.specs.Option.{option_or}
+use Rattle.mapping.specs.Lookup.{first_found}
 
 -- i is the first place below n that p picks
 pub record First (n : ℕ) (p : ℕ → Bool) (i : ℕ) : Type 0 where
@@ -20,16 +20,16 @@ last_or_below : (k n : ℕ) → k < suc n → (k ≡ n) ⊎ (k < n)
 last_or_below k n l = eq-or-lt_of_le (let m : k ≤ n = omega arith in m)
 
 -- one more place: what is found below n, else n itself
-step : (n : ℕ) (p : ℕ → Bool) {f : Found} {t : Bool} → first_found n p ≡ f → p n ≡ t → first_found (suc n) p ≡ or_else f (cond t (At n) Nothing)
+step : (n : ℕ) (p : ℕ → Bool) {f : Option ℕ} {t : Bool} → first_found n p ≡ f → p n ≡ t → first_found (suc n) p ≡ option_or f (cond t (Some n) None)
 unfolding first_found
-step n p e z = ap₂ (λ (f : Found) (t : Bool). or_else f (cond t (At n) Nothing)) e z
+step n p e z = ap₂ (λ (f : Option ℕ) (t : Bool). option_or f (cond t (Some n) None)) e z
 
-pub nothing_first_found : (n : ℕ) (p : ℕ → Bool) → ((k : ℕ) → k < n → p k ≡ false) → first_found n p ≡ Nothing
+pub nothing_first_found : (n : ℕ) (p : ℕ → Bool) → ((k : ℕ) → k < n → p k ≡ false) → first_found n p ≡ None
 unfolding first_found
 nothing_first_found zero p h = refl
 nothing_first_found (suc n) p h = step n p (nothing_first_found n p (λ k l. h k (omega arith))) (h n (omega arith))
 
-pub at_first_found : (n : ℕ) (p : ℕ → Bool) (i : ℕ) → First n p i → first_found n p ≡ At i
+pub at_first_found : (n : ℕ) (p : ℕ → Bool) (i : ℕ) → First n p i → first_found n p ≡ Some i
 at_first_found zero p i f = absurd (omega arith)
 at_first_found (suc n) p i f =
     ⊎_elim (λ e. rw e (step n p (nothing_first_found n p (rw e at f.earlier)) (rw e at f.picked)))
@@ -48,7 +48,7 @@ first_found_cases (suc n) p = ⊎_elim (λ s. inl (s.0, further s.0 s.1)) (λ h.
     last true z h = inl (n, record { below = omega arith; picked = z; earlier = h })
     last false z h = inr (λ k l. ⊎_elim (λ e. rw e z) (λ m. h k m) (last_or_below k n l))
 
-pub first_found_at : (n : ℕ) (p : ℕ → Bool) (i : ℕ) → first_found n p ≡ At i → First n p i
+pub first_found_at : (n : ℕ) (p : ℕ → Bool) (i : ℕ) → first_found n p ≡ Some i → First n p i
 first_found_at n p i e = ⊎_elim found none (first_found_cases n p)
   where
     found : (j : ℕ) × First n p j → First n p i
@@ -57,7 +57,7 @@ first_found_at n p i e = ⊎_elim found none (first_found_cases n p)
     none : ((k : ℕ) → k < n → p k ≡ false) → First n p i
     none h = let f = nothing_first_found n p h in let z : ◌≡◌ {A = ℕ} 0 1 = cc in absurd (omega arith)
 
-pub first_found_nothing : (n : ℕ) (p : ℕ → Bool) → first_found n p ≡ Nothing → (k : ℕ) → k < n → p k ≡ false
+pub first_found_nothing : (n : ℕ) (p : ℕ → Bool) → first_found n p ≡ None → (k : ℕ) → k < n → p k ≡ false
 first_found_nothing n p e = ⊎_elim found (λ h. h) (first_found_cases n p)
   where
     found : (j : ℕ) × First n p j → (k : ℕ) → k < n → p k ≡ false

@@ -1,22 +1,19 @@
--- The laws of a list of records with one more at a place, and the loop that moves the later ones up.
+-- The laws of a list of records with one more at a place, and what a copy of the later ones makes of it.
 use mathlib.Core.Path.{◌≡◌, refl, sym, ap, ◌∙◌}
 use mathlib.Core.Bool.{Bool, true, false}
 use mathlib.Core.List.{List, ◌∷◌, ◌++◌}
-use Prim.Native.Nat.{ℕ, suc, ◌+◌, ◌-◌, ◌≤◌, ◌<◌}
+use mathlib.Core.Logic.{⊎_elim}
+use Prim.Native.Nat.{ℕ, zero, suc, ◌+◌, ◌-◌, ◌≤◌, ◌<◌}
 use native.Mathlib.Omega.{arith}
-use native.Mathlib.Numerals.{add-one}
-use borrow.Author.Count.{below_more}
 use borrow.Author.Tests.{eqb-true, eqb-false}
 use lib.Dec.{eqb}
 use lib.ListN.{length, get_or, take, drop, set, length-append, length-take, length-drop, length-set, get_or-append}
 use lib.Seq.{length-take-le, get_or-append-add, get_or_at, get_or-take, get_or-drop, get_or-set_same, get_or-set_other, ext_get_or}
+use Rattle.std.specs.List.{CopiedTo, SameBelow}
 use Rattle.mapping.specs.declared.Mapping.{Mapping}
 use Rattle.mapping.specs.Entry.{zero_mapping}
 use Rattle.mapping.specs.Change.{including}
-
--- below place j the records with m at place i, but for that place
-abbrev pub Shifted : List Mapping → ℕ → Mapping → List Mapping → ℕ → Type 0
-Shifted items i m next j = (k : ℕ) → k < j → (k ≡ i → ⊥) → get_or next k zero_mapping ≡ get_or (including items i m) k zero_mapping
+use Rattle.mapping.proofs.Tests.{lt_or_le}
 
 module _ (items : List Mapping) (i : ℕ) (m : Mapping) (inside : i < length items) where
   joined : length (take i items ++ (m ∷ drop i items)) ≡ suc (length items)
@@ -54,21 +51,24 @@ module _ (items : List Mapping) (i : ℕ) (m : Mapping) (inside : i < length ite
       ∙ get_or-drop i items (j - i) zero_mapping
       ∙ ap (λ (n : ℕ). get_or items n zero_mapping) f
 
-  -- one record more is moved
-  pub shift_one : (next : List Mapping) (j : ℕ) → i ≤ j → suc j < length items → j + 1 < length next → Shifted items i m next (j + 1)
-      → Shifted items i m (set next (j + 1) (get_or items j zero_mapping)) (j + 1 + 1)
-  shift_one next j l inner within h =
-      below_more _ (j + 1) (λ k o e. get_or-set_other next (j + 1) k _ zero_mapping (λ z. omega arith) ∙ h k o e)
-      (λ e. get_or-set_same next (j + 1) _ zero_mapping within ∙ sym (ap (λ (n : ℕ). get_or (including items i m) n zero_mapping) (add-one j) ∙ including_later j l inner))
-
-  -- all are moved, and m is put at its place
-  pub shift_last : (next : List Mapping) → length next ≡ length items → Shifted items i m next (length items) → set next i m ≡ including items i m
-  shift_last next n h =
-      ext_get_or zero_mapping (set next i m) (including items i m) (length-set next i m ∙ n ∙ sym including_length) (λ k l. each k (eqb k i) refl (omega (arith, length-set next i m)))
+  -- the later ones are copied up by one, and m is put at its place
+  pub copied_up : (next : List Mapping) (n : ℕ) → length items ≡ suc n → length next ≡ length items
+      → CopiedTo items next i (i + 1) (n - i) → SameBelow items next (i + 1) → set next i m ≡ including items i m
+  copied_up next n long same copied below =
+      ext_get_or zero_mapping (set next i m) (including items i m) (length-set next i m ∙ same ∙ sym including_length) (λ k l. each k (eqb k i) refl (omega (arith, length-set next i m)))
     where
+      earlier : (k : ℕ) → k < i → get_or next k zero_mapping ≡ get_or (including items i m) k zero_mapping
+      earlier k h = below k zero_mapping (omega arith) ∙ sym (including_earlier k h)
+
+      later : (k : ℕ) → i < k → k < length items → get_or next k zero_mapping ≡ get_or (including items i m) k zero_mapping
+      later zero h l = absurd (omega arith)
+      later (suc j) h l =
+          let e : i + (suc j - (i + 1)) ≡ j = omega arith in
+          copied (suc j) zero_mapping (omega arith) (omega arith) ∙ ap (λ (n : ℕ). get_or items n zero_mapping) e ∙ sym (including_later j (omega arith) l)
+
       each : (k : ℕ) (t : Bool) → eqb k i ≡ t → k < length items → get_or (set next i m) k zero_mapping ≡ get_or (including items i m) k zero_mapping
       each k true z l =
           let e = eqb-true k i z in
           ap (λ (n : ℕ). get_or (set next i m) n zero_mapping) e ∙ get_or-set_same next i m zero_mapping (omega arith)
           ∙ sym (ap (λ (n : ℕ). get_or (including items i m) n zero_mapping) e ∙ including_same)
-      each k false z l = get_or-set_other next i k m zero_mapping (eqb-false k i z) ∙ h k l (eqb-false k i z)
+      each k false z l = get_or-set_other next i k m zero_mapping (eqb-false k i z) ∙ ⊎_elim (earlier k) (λ h. later k (let ne = eqb-false k i z in omega arith) l) (lt_or_le k i)

@@ -9,7 +9,7 @@ use lib.ListN.{length, get_or-eq_default}
 use Rattle.board.specs.declared.Board.{Board}
 use Rattle.mapping.specs.declared.Mapping.{Mapping}
 use Rattle.mapping.specs.declared.MappingList.{MappingList}
-use Rattle.mapping.specs.declared.Found.TheVariants.{Nothing}
+use Rattle.std.specs.Prelude.{None}
 use Rattle.mapping.specs.Entry.{capacity, zero_mapping, mapping_at}
 use Rattle.mapping.specs.Lookup.{lookup, mapping_of, place_for}
 use Rattle.mapping.specs.Change.{insert}
@@ -18,7 +18,7 @@ use Rattle.mapping.proofs.Tests.{lt_or_le}
 use Rattle.mapping.proofs.Entry.{maps_cong}
 use Rattle.mapping.proofs.Order.{behind, before_cong₂}
 use Rattle.mapping.proofs.Place.{place_goes}
-use Rattle.mapping.proofs.Lookups.{at_lookup, lookup_nothing, nothing_lookup, lookup_cases, mapping_of_at, mapping_of_nothing, mapping_of_listed, mapping_of_unlisted}
+use Rattle.mapping.proofs.Lookups.{at_lookup, lookup_none, none_lookup, lookup_cases, mapping_of_at, mapping_of_nothing, mapping_of_listed, mapping_of_unlisted}
 use Rattle.mapping.proofs.Change.{insert_at_count, insert_at_length, insert_at_at_earlier, insert_at_at_same, insert_at_at_later}
 
 module _ (l : MappingList) (m : Mapping) (long : length l.items ≡ capacity) (room : l.count < capacity) (b : Board) (rules : Rules b l) where
@@ -64,10 +64,10 @@ module _ (l : MappingList) (m : Mapping) (long : length l.items ≡ capacity) (r
       later zero o h = absurd (omega arith)
       later (suc k) o h = let n = inserted_count in old k (omega arith) (inr (refl, omega arith)) (at_later k (omega arith) (omega arith))
 
-  module _ (range : InRange b m) (fresh : lookup l m.space m.page ≡ Nothing) where
+  module _ (range : InRange b m) (fresh : lookup l m.space m.page ≡ None) where
     -- a listed mapping from the place on stands behind the new one
     new_before : (k : ℕ) → place ≤ k → k < l.count → Before m (mapping_at l k).space (mapping_at l k).page
-    new_before k h j = behind (mapping_at l k) _ _ (goes.later k h j) (λ e. lookup_nothing l m.space m.page fresh k j (omega arith) e)
+    new_before k h j = behind (mapping_at l k) _ _ (goes.later k h j) (λ e. lookup_none l m.space m.page fresh k j (omega arith) e)
 
     in_range_holds : (j : ℕ) → j < (insert l m).count → InRange b (mapping_at (insert l m) j)
     in_range_holds j h = go (source j h)
@@ -120,7 +120,7 @@ module _ (l : MappingList) (m : Mapping) (long : length l.items ≡ capacity) (r
             mapping_of_listed b (insert l m) inserted_rules j.0 s p j.1 (maps_cong (sym j.2) f.maps) ∙ ap some j.2 ∙ sym (mapping_of_at l s p k (at_lookup l s p k f))
 
         none_still : Unlisted l s p → mapping_of (insert l m) s p ≡ mapping_of l s p
-        none_still u = mapping_of_unlisted b (insert l m) inserted_rules s p (λ j o. go (source j o)) ∙ sym (mapping_of_nothing l s p (nothing_lookup l s p u))
+        none_still u = mapping_of_unlisted b (insert l m) inserted_rules s p (λ j o. go (source j o)) ∙ sym (mapping_of_nothing l s p (none_lookup l s p u))
           where
             go : {j : ℕ} → Source j → MapsTo (mapping_at (insert l m) j) s p → ⊥
             go (new e) q = h (maps_cong (ap (mapping_at (insert l m)) e ∙ at_place) q)

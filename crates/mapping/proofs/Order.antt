@@ -1,20 +1,19 @@
--- The order of mappings by space, then page: what its test says, its laws, the keys that the code compares, and what it means for neighbours.
-use mathlib.Core.Path.{◌≡◌, refl, sym, ap, subst, subst⁻¹, ◌∙◌}
+-- The order of mappings by space, then page: what its test says, its laws, and what it means for neighbours.
+use mathlib.Core.Path.{◌≡◌, refl, sym, subst, ◌∙◌}
 use mathlib.Core.Bool.{Bool, true, false, or-true, false≢true}
 use mathlib.Core.Logic.{◌⊎◌, inl, inr, ⊎_elim}
-use Prim.Native.Nat.{ℕ, zero, suc, ◌+◌, ◌≤◌, ◌<◌}
+use Prim.Native.Nat.{ℕ, zero, suc, ◌≤◌, ◌<◌}
 use native.Mathlib.Omega.{arith}
 use native.Mathlib.Nat.{eq-or-lt_of_le}
-use native.Mathlib.Numerals.{add-one}
 use borrow.Author.Tests.{ltb-true, lt-ltb, eqb-true, eq-eqb}
 use Rattle.bits.proofs.Mask.{all_at, all_of}
 use Rattle.mapping.specs.declared.Mapping.{Mapping}
 use Rattle.mapping.specs.declared.MappingList.{MappingList}
-use Rattle.mapping.specs.Entry.{page_numbers, key_of, is_before, mapping_at}
+use Rattle.mapping.specs.Entry.{is_before, mapping_at}
 use Rattle.mapping.specs.Rules.{rises_at, rising}
 use Rattle.mapping.specs.Facts.{MapsTo, Before, Ordered}
 use Rattle.mapping.specs.Theorems.{NeighboursOrder, OrderedDistinct}
-use Rattle.mapping.proofs.Tests.{and_both, or_either, all_not, lt_or_le}
+use Rattle.mapping.proofs.Tests.{and_both, or_either, lt_or_le}
 
 -- ---- the test
 
@@ -61,15 +60,6 @@ before_cong₂ {m} {m'} {n} {n'} e f h = subst (λ (x : Mapping). Before x n'.sp
 pub before_page : (m n : Mapping) (s p : ℕ) → MapsTo n s p → Before m n.space n.page → Before m s p
 before_page m n s p e h = subst (λ (x : ℕ). Before m x p) e.0 (subst (λ (y : ℕ). Before m n.space y) e.1 h)
 
--- ---- keys
-
-module _ (m : Mapping) (s p : ℕ) (own : m.page < page_numbers) (other : p < page_numbers) where
-  pub before_key : Before m s p → key_of m.space m.page < key_of s p
-  before_key = ⊎_elim (λ h. omega arith) (λ h. omega arith)
-
-  pub key_before : key_of m.space m.page < key_of s p → Before m s p
-  key_before h = ⊎_elim (λ k. inl k) (λ k. inr (omega arith, omega arith)) (lt_or_le m.space s)
-
 -- ---- neighbours
 
 -- each of a list in order stands before the next
@@ -91,41 +81,3 @@ ordered_distinct l o i j h k e =
     ⊎_elim (λ b. absurd (before_not_at (mapping_at l i) _ _ (o i j b k) e))
     (λ b. ⊎_elim sym (λ c. absurd (before_not_at (mapping_at l j) _ _ (o j i c h) (sym e.0, sym e.1))) (eq-or-lt_of_le b))
     (lt_or_le i j)
-
--- ---- one pass over the neighbours
-
--- the least key that the mapping at place i may have
-unfoldable pub least_at : MappingList → ℕ → ℕ
-least_at l zero = 0
-least_at l (suc k) = key_of (mapping_at l k).space (mapping_at l k).page + 1
-
-pub least_next : (l : MappingList) (i : ℕ) → key_of (mapping_at l i).space (mapping_at l i).page + 1 ≡ least_at l (i + 1)
-unfolding least_at
-least_next l i = ap (least_at l) (sym (add-one i))
-
--- a mapping whose key is no less stands behind the one before it, and else does not
-module _ (l : MappingList) (i : ℕ) (listed : i < l.count) (pages : (k : ℕ) → k < i + 1 → (mapping_at l k).page < page_numbers) where
-  pub least_kept : least_at l i ≤ key_of (mapping_at l i).space (mapping_at l i).page → (k : ℕ) → suc k ≡ i → rises_at l k ≡ true
-  unfolding least_at rises_at
-  least_kept h k e = go i e h (pages i (omega arith)) (pages k (omega arith))
-    where
-      go : (i : ℕ) → suc k ≡ i → least_at l i ≤ key_of (mapping_at l i).space (mapping_at l i).page → (mapping_at l i).page < page_numbers
-          → (mapping_at l k).page < page_numbers → rises_at l k ≡ true
-      go zero e h p q = absurd (omega arith)
-      go (suc j) e h p q =
-          let z : k ≡ j = omega arith in
-          let f = ap (λ (n : ℕ). key_of (mapping_at l n).space (mapping_at l n).page) z in
-          let g = ap (λ (n : ℕ). key_of (mapping_at l (suc n)).space (mapping_at l (suc n)).page) z in
-          let r = subst⁻¹ (λ (n : ℕ). (mapping_at l (suc n)).page < page_numbers) z p in
-          before_is_before _ _ _ (key_before (mapping_at l k) _ _ q r (omega arith))
-
-  pub least_broken : key_of (mapping_at l i).space (mapping_at l i).page < least_at l i → rising l ≡ false
-  unfolding least_at rising rises_at
-  least_broken h = go i listed h pages
-    where
-      go : (i : ℕ) → i < l.count → key_of (mapping_at l i).space (mapping_at l i).page < least_at l i
-          → ((k : ℕ) → k < i + 1 → (mapping_at l k).page < page_numbers) → rising l ≡ false
-      go zero o h p = absurd (omega arith)
-      go (suc j) o h p =
-          all_not _ _ j (omega arith)
-          (not_is_before _ _ _ (λ b. let n = before_key (mapping_at l j) _ _ (p j (omega arith)) (p (suc j) (omega arith)) b in omega arith))

@@ -1,21 +1,27 @@
--- The laws of the place where a mapping of a page of a space goes.
-use mathlib.Core.Path.{◌≡◌, ap₂, subst⁻¹, ◌∙◌}
+-- The laws of the place where a mapping of a page of a space goes, and how halving finds it.
+use mathlib.Core.Path.{◌≡◌, sym, ap, ap₂, subst⁻¹, ◌∙◌}
 use mathlib.Core.Bool.{Bool, true, false, not}
 use mathlib.Core.Logic.{⊎_elim}
 use Prim.Native.Nat.{ℕ, zero, suc, ◌+◌, ◌≤◌, ◌<◌}
 use native.Mathlib.Omega.{arith}
 use native.Mathlib.Nat.{eq-or-lt_of_le}
 use borrow.Author.Tests.{not-true, not-false}
+use lib.ListN.{length, get_or, take}
+use lib.Seq.{length-take-le, get_or-take}
+use Rattle.std.proofs.lemmas.List.{get_or_default}
+use Rattle.std.specs.List.Sorted.{IsPartitionedBy, IsPartitionPoint}
 use Rattle.bits.specs.Mask.{digit, count_of}
 use Rattle.board.specs.declared.Board.{Board}
+use Rattle.mapping.specs.declared.Mapping.{Mapping}
 use Rattle.mapping.specs.declared.MappingList.{MappingList}
-use Rattle.mapping.specs.declared.Found.TheVariants.{At, Nothing}
-use Rattle.mapping.specs.Entry.{is_before, mapping_at}
+use Rattle.std.specs.Prelude.{Some, None}
+use Rattle.mapping.specs.Entry.{zero_mapping, is_before, mapping_at}
 use Rattle.mapping.specs.Lookup.{lookup, place_for}
 use Rattle.mapping.specs.Facts.{MapsTo, Before, Ordered, Rules, FoundAt, Unlisted, GoesTo}
 use Rattle.mapping.proofs.Tests.{lt_or_le}
+use Rattle.mapping.proofs.Rules.{count_length}
 use Rattle.mapping.proofs.First.{First, first_found_cases}
-use Rattle.mapping.proofs.Lookups.{at_lookup, nothing_lookup, listed_found}
+use Rattle.mapping.proofs.Lookups.{at_lookup, none_lookup, listed_found}
 use Rattle.mapping.proofs.Order.{is_before_true, before_is_before, is_before_false, not_is_before, before_not_at, before_trans, before_page}
 
 -- a test that holds of the first i places and of none from there on counts i
@@ -67,7 +73,7 @@ module _ (b : Board) (l : MappingList) (rules : Rules b l) (s p : ℕ) where
 
   module _ (i : ℕ) (g : GoesTo l s p i) where
     -- one that stands at the place where it would go is found there
-    pub goes_found : i < l.count → MapsTo (mapping_at l i) s p → lookup l s p ≡ At i
+    pub goes_found : i < l.count → MapsTo (mapping_at l i) s p → lookup l s p ≡ Some i
     goes_found h e = at_lookup l s p i (listed_found b l rules i s p h e)
 
     -- and one that does not is not listed
@@ -78,5 +84,33 @@ module _ (b : Board) (l : MappingList) (rules : Rules b l) (s p : ℕ) where
         (λ q. g.later i (omega arith) (omega arith) (before_page (mapping_at l i) (mapping_at l k) s p e (rules.ordered i k q j))) (eq-or-lt_of_le o))
         (lt_or_le k i)
 
-    pub goes_nothing : (i < l.count → MapsTo (mapping_at l i) s p → ⊥) → lookup l s p ≡ Nothing
-    goes_nothing h = nothing_lookup l s p (goes_unlisted h)
+    pub goes_nothing : (i < l.count → MapsTo (mapping_at l i) s p → ⊥) → lookup l s p ≡ None
+    goes_nothing h = none_lookup l s p (goes_unlisted h)
+
+-- ---- by halving
+
+module _ (b : Board) (l : MappingList) (rules : Rules b l) (s p : ℕ) where
+  stands : (k : ℕ) → k < l.count → (d : Mapping) → get_or (take l.count l.items) k d ≡ mapping_at l k
+  stands k h d =
+      let n = count_length b l rules in
+      get_or-take l.count l.items k d h ∙ get_or_default l.items k d zero_mapping (omega arith)
+
+  listed : length (take l.count l.items) ≡ l.count
+  listed = length-take-le l.count l.items (count_length b l rules)
+
+  -- the listed mappings that stand before the page are the first
+  pub parted : IsPartitionedBy (λ m. is_before m s p) (take l.count l.items)
+  parted i j d h k e =
+      let o : j < l.count = omega (arith, listed) in
+      let before = is_before_true _ _ _ (ap (λ (m : Mapping). is_before m s p) (sym (stands j o d)) ∙ e) in
+      ap (λ (m : Mapping). is_before m s p) (stands i (omega arith) d)
+      ∙ before_is_before _ _ _ (⊎_elim (λ z. subst⁻¹ (λ (n : ℕ). Before (mapping_at l n) s p) z before) (λ q. before_trans (mapping_at l i) (mapping_at l j) s p (rules.ordered i j q o) before) (eq-or-lt_of_le h))
+
+  -- and a mapping of the page goes behind them
+  pub parted_goes : (i : ℕ) → i ≤ l.count → IsPartitionPoint (λ m. is_before m s p ≡ true) (λ m. is_before m s p ≡ false) (take l.count l.items) i → GoesTo l s p i
+  parted_goes i h part =
+      record {
+        within = h;
+        earlier = λ k o. is_before_true _ _ _ (ap (λ (m : Mapping). is_before m s p) (sym (stands k (omega arith) zero_mapping)) ∙ part.0 k zero_mapping (omega arith) o);
+        later = λ k o u. is_before_false _ _ _ (ap (λ (m : Mapping). is_before m s p) (sym (stands k u zero_mapping)) ∙ part.1 k zero_mapping o (omega (arith, listed)));
+      }

@@ -11,7 +11,7 @@ use lib.ListN.{length}
 use borrow.Author.Tests.{lt-ltb, le-ltb}
 use Rattle.board.specs.declared.Board.{Board}
 use Rattle.mapping.specs.declared.MappingList.{MappingList}
-use Rattle.mapping.specs.declared.Found.TheVariants.{Nothing}
+use Rattle.std.specs.Prelude.{None}
 use Rattle.mapping.specs.Entry.{mapping_at}
 use Rattle.mapping.specs.Lookup.{lookup, mapping_of}
 use Rattle.mapping.specs.Change.{remove}
@@ -20,7 +20,7 @@ use Rattle.mapping.proofs.Tests.{cond_true, cond_false, lt_or_le}
 use Rattle.mapping.proofs.Entry.{maps_cong}
 use Rattle.mapping.proofs.Order.{ordered_distinct, before_cong₂}
 use Rattle.mapping.proofs.Rules.{count_length}
-use Rattle.mapping.proofs.Lookups.{at_lookup, nothing_lookup, lookup_cases, mapping_of_at, mapping_of_nothing, mapping_of_listed, mapping_of_unlisted}
+use Rattle.mapping.proofs.Lookups.{at_lookup, none_lookup, lookup_cases, mapping_of_at, mapping_of_nothing, mapping_of_listed, mapping_of_unlisted}
 use Rattle.mapping.proofs.Change.{remove_count, remove_at_earlier, remove_at_later}
 
 -- the place in the list before a remove at i of what stands at place j after it
@@ -78,9 +78,9 @@ module _ (b : Board) (l : MappingList) (i : ℕ) (rules : Rules b l) (listed : i
       rest j h = let n = counted in ⊎_elim (λ p. omega arith) (λ p. omega arith) (source_of i j)
 
   -- the removed pair is no longer found
-  pub lookup_remove_same : lookup (remove l i) (mapping_at l i).space (mapping_at l i).page ≡ Nothing
+  pub lookup_remove_same : lookup (remove l i) (mapping_at l i).space (mapping_at l i).page ≡ None
   lookup_remove_same =
-      nothing_lookup (remove l i) _ _ (λ j h k e. source_not i j (ordered_distinct l rules.ordered (source i j) i (source_listed j h) listed (maps_cong (moved j) e)))
+      none_lookup (remove l i) _ _ (λ j h k e. source_not i j (ordered_distinct l rules.ordered (source i j) i (source_listed j h) listed (maps_cong (moved j) e)))
 
   pub mapping_of_remove_same : mapping_of (remove l i) (mapping_at l i).space (mapping_at l i).page ≡ none
   mapping_of_remove_same = mapping_of_nothing (remove l i) _ _ lookup_remove_same
@@ -100,4 +100,4 @@ module _ (b : Board) (l : MappingList) (i : ℕ) (rules : Rules b l) (listed : i
       none_still u =
           let n = count_length b l rules in
           mapping_of_unlisted b (remove l i) remove_rules s p (λ j o e. let q = source_listed j o in u (source i j) q (omega arith) (maps_cong (moved j) e))
-          ∙ sym (mapping_of_nothing l s p (nothing_lookup l s p u))
+          ∙ sym (mapping_of_nothing l s p (none_lookup l s p u))

@@ -7,7 +7,7 @@ use Rattle.board.specs.declared.Board.{Board}
 use Rattle.mapping.specs.Lookup.{mapping_of}
 use Rattle.mapping.specs.Change.{empty}
 use Rattle.mapping.specs.Facts.{Rules}
-use Rattle.mapping.proofs.Lookups.{nothing_lookup, mapping_of_nothing}
+use Rattle.mapping.proofs.Lookups.{none_lookup, mapping_of_nothing}
 use Rattle.mapping.proofs.Change.{empty_count, empty_at_lem}
 
 pub empty_rules : (b : Board) → Rules b empty
@@ -16,4 +16,4 @@ empty_rules b =
     record { count_le = omega arith; in_range_holds = λ i h. absurd (omega arith); ordered = λ i j h k. absurd (omega arith); rest_zero_holds = λ i h. empty_at_lem i }
 
 pub mapping_of_empty : (s p : ℕ) → mapping_of empty s p ≡ none
-mapping_of_empty s p = mapping_of_nothing empty s p (nothing_lookup empty s p (λ i h k m. let n = empty_count in omega arith))
+mapping_of_empty s p = mapping_of_nothing empty s p (none_lookup empty s p (λ i h k m. let n = empty_count in omega arith))

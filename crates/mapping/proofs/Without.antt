@@ -1,15 +1,17 @@
--- The laws of a list of records without the one at a place, and the loop that moves the later ones down.
+-- The laws of a list of records without the one at a place, and what a copy of the later ones makes of it.
 use mathlib.Core.Path.{◌≡◌, refl, sym, ap, ◌∙◌}
 use mathlib.Core.List.{List, [], ◌∷◌, ◌++◌}
+use mathlib.Core.Logic.{⊎_elim}
 use Prim.Native.Nat.{ℕ, zero, suc, ◌+◌, ◌-◌, ◌≤◌, ◌<◌}
 use native.Mathlib.Omega.{arith}
-use native.Mathlib.Numerals.{add-one}
 use borrow.Author.Count.{below_more}
 use lib.ListN.{length, get_or, take, drop, set, length-append, length-take, length-drop, length-set, get_or-append, get_or-eq_default}
 use lib.Seq.{length-take-le, get_or-append-add, get_or-take, get_or-drop, get_or-set_same, get_or-set_other, ext_get_or}
+use Rattle.std.specs.List.{CopiedTo, SameBelow}
 use Rattle.mapping.specs.declared.Mapping.{Mapping}
 use Rattle.mapping.specs.Entry.{zero_mapping}
 use Rattle.mapping.specs.Change.{without}
+use Rattle.mapping.proofs.Tests.{lt_or_le}
 
 -- a default put last changes no element
 get_or_pad : (xs : List Mapping) (z : Mapping) (n : ℕ) → get_or (xs ++ (z ∷ [])) n z ≡ get_or xs n z
@@ -44,23 +46,21 @@ module _ (items : List Mapping) (i : ℕ) (inside : i < length items) where
       ∙ get_or-drop (suc i) items (j - i) zero_mapping
       ∙ ap (λ (n : ℕ). get_or items n zero_mapping) f
 
-  -- one record more is moved
-  pub move_one : (next : List Mapping) (j : ℕ) → i ≤ j → j < length next
-      → ((k : ℕ) → k < j → get_or next k zero_mapping ≡ get_or (without items i) k zero_mapping)
-      → (k : ℕ) → k < j + 1 → get_or (set next j (get_or items (j + 1) zero_mapping)) k zero_mapping ≡ get_or (without items i) k zero_mapping
-  move_one next j l within h =
-      below_more _ j (λ k m. get_or-set_other next j k _ zero_mapping (λ e. omega arith) ∙ h k m)
-      (get_or-set_same next j _ zero_mapping within ∙ ap (λ (n : ℕ). get_or items n zero_mapping) (add-one j) ∙ sym (without_later j l))
-
-  -- all are moved, and the last is zeroed
-  pub move_last : (next : List Mapping) (n : ℕ) → length items ≡ suc n → length next ≡ suc n
-      → ((k : ℕ) → k < n → get_or next k zero_mapping ≡ get_or (without items i) k zero_mapping)
-      → set next n zero_mapping ≡ without items i
-  move_last next n p q h =
-      ext_get_or zero_mapping (set next n zero_mapping) (without items i) (length-set next n zero_mapping ∙ q ∙ sym p ∙ sym without_length)
+  -- the later ones are copied down by one, and the last is zeroed
+  pub copied_down : (next : List Mapping) (n : ℕ) → length items ≡ suc n → length next ≡ length items
+      → CopiedTo items next (i + 1) i (length items - (i + 1)) → SameBelow items next i → set next n zero_mapping ≡ without items i
+  copied_down next n long same copied below =
+      ext_get_or zero_mapping (set next n zero_mapping) (without items i) (length-set next n zero_mapping ∙ same ∙ sym without_length)
       (λ k l. each k (omega (arith, length-set next n zero_mapping)))
     where
+      moved : (k : ℕ) → k < n → get_or next k zero_mapping ≡ get_or (without items i) k zero_mapping
+      moved k h =
+          ⊎_elim (λ o. below k zero_mapping o ∙ sym (without_earlier k o))
+          (λ o. let e : i + 1 + (k - i) ≡ suc k = omega arith in
+          copied k zero_mapping o (omega arith) ∙ ap (λ (n : ℕ). get_or items n zero_mapping) e ∙ sym (without_later k o))
+          (lt_or_le k i)
+
       each : (k : ℕ) → k < n + 1 → get_or (set next n zero_mapping) k zero_mapping ≡ get_or (without items i) k zero_mapping
       each =
-          below_more _ n (λ k m. get_or-set_other next n k zero_mapping zero_mapping (λ e. omega arith) ∙ h k m)
+          below_more _ n (λ k m. get_or-set_other next n k zero_mapping zero_mapping (λ e. omega arith) ∙ moved k m)
           (get_or-set_same next n zero_mapping zero_mapping (omega arith) ∙ sym (without_later n (omega arith) ∙ get_or-eq_default items zero_mapping (omega arith)))

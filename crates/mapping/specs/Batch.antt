@@ -1,5 +1,5 @@
 -- Request N1, "one call for a lent list of up to 64 mappings": the batch of a lent list, and the items of a batch.
-use Rattle.std.specs.Prelude.{List, ◌++◌, ℕ, length, set, take, replicate}
+use Rattle.std.specs.Prelude.{List, ◌++◌, ℕ, length, take, replicate}
 use Rattle.mapping.specs.declared.Mapping.{Mapping}
 use Rattle.mapping.specs.declared.Batch.{Batch}
 use Rattle.mapping.specs.Entry.{zero_mapping}
@@ -15,13 +15,3 @@ batch_of xs = record { items = take batch_size (xs ++ replicate batch_size zero_
 -- the items of a batch, as many as are counted, in order; a record past the last of the array is all 0
 unfoldable pub items_of : Batch → List Mapping
 items_of x = take x.count (x.items ++ replicate x.count zero_mapping)
-
--- ---- how a batch is filled
-
--- zero records only
-abbrev pub zero_batch : ℕ → Batch
-zero_batch count = record { items = replicate batch_size zero_mapping; count = count }
-
--- m at place i
-abbrev pub put : Batch → ℕ → Mapping → Batch
-put x i m = record { items = set x.items i m; count = x.count }

@@ -1,5 +1,5 @@
 -- Document 01, "Frame records and mapping list": one mapping, request N2's order of space, then page, and the mapping at a place of the list.
-use Rattle.std.specs.Prelude.{Bool, ◌&&◌, ◌||◌, ℕ, ◌+◌, ◌*◌, eqb, leb, ltb, get_or}
+use Rattle.std.specs.Prelude.{Bool, ◌&&◌, ◌||◌, ℕ, eqb, leb, ltb, get_or}
 use Rattle.board.specs.declared.Board.{Board}
 use Rattle.board.specs.Board.{spaces, pages}
 use Rattle.mapping.specs.declared.Mapping.{Mapping}
@@ -39,14 +39,6 @@ is_zero m = eqb m.space 0 && eqb m.page 0 && eqb m.frame 0 && eqb m.rights 0
 -- whether m maps this page of this space
 unfoldable pub is_at : Mapping → ℕ → ℕ → Bool
 is_at m space page = eqb m.space space && eqb m.page page
-
--- how many numbers a page's field can hold: the field has 16 bits
-abbrev pub page_numbers : ℕ
-page_numbers = 65536
-
--- a number that rises with the space, and in a space with the page
-abbrev pub key_of : ℕ → ℕ → ℕ
-key_of space page = space * page_numbers + page
 
 -- whether m stands before this page of this space: in a smaller space, or in the same one at a smaller page
 unfoldable pub is_before : Mapping → ℕ → ℕ → Bool

@@ -3,13 +3,12 @@
 
 pub mod lent;
 
-ghost use Rattle.std.specs.Prelude.{◌≡◌, true, ◌^◌, ◌≤◌, ◌<◌, eqb};
+ghost use Rattle.std.specs.Prelude.{◌≡◌, true};
 ghost use Rattle.board.specs.declared.Board as any;
-ghost use Rattle.mapping.specs.Entry.{is_rights, zero_mapping, page_numbers, key_of, in_range, is_zero, is_at};
+ghost use Rattle.mapping.specs.Entry.{is_rights, zero_mapping, in_range, is_zero, is_at, is_before};
 ghost use Rattle.mapping.specs.Rules.{keeps_rules};
 ghost use Rattle.mapping.specs.Change.{empty, insert_at, remove};
 ghost use Rattle.mapping.specs.Look.{find, look, ToldWithin};
-ghost use Rattle.mapping.specs.Batch.{batch_size, zero_batch, put};
 
 use board::Board;
 
@@ -18,11 +17,6 @@ pub const CAPACITY: usize = 256;
 
 // How many records a batch has.
 pub const BATCH: usize = 64;
-
-// How many numbers a page's field can hold, and a page's and a frame's together.
-const PAGE_NUMBERS: u32 = 65536;
-
-const FRAME_NUMBERS: u32 = 16777216;
 
 // The rights of a mapping: read; read and write; read and fetch (request N8).
 pub const READ_ONLY: u8 = 1;
@@ -35,10 +29,10 @@ pub const READ_FETCH: u8 = 3;
 pub fn is_rights(rights: u8) -> bool
     ensures { result ≡ is_rights rights }
 {
-    (READ_ONLY <= rights) & (rights <= READ_FETCH)
+    (READ_ONLY..=READ_FETCH).contains(&rights)
 }
 
-#[derive(Clone, Copy)]
+#[derive(Clone, Copy, Debug, Default, PartialEq, Eq)]
 pub struct Mapping {
     pub space: u8,
     pub page: u16,
@@ -61,23 +55,13 @@ pub struct Batch {
 }
 
 // What one look at the list tells of a page of a space.
-#[derive(Clone, Copy)]
+#[derive(Clone, Copy, Debug, PartialEq, Eq)]
 pub struct Seen {
-    // Whether the list keeps its rules; where it does not, nothing else is told. True where that is not tested.
-    pub kept: bool,
     pub count: usize,
     // The place of the page's mapping, or the one where it would go.
     pub place: usize,
-    pub mapped: bool,
-    // The page's mapping, all 0 where there is none.
-    pub mapping: Mapping,
-}
-
-// The place of a mapping in the list.
-#[derive(Clone, Copy)]
-pub enum Found {
-    At(usize),
-    Nothing,
+    // The page's mapping, if there is one.
+    pub mapping: Option<Mapping>,
 }
 
 impl Mapping {
@@ -85,164 +69,81 @@ impl Mapping {
     pub fn zero() -> Self
         ensures { result ≡ zero_mapping }
     {
-        Self {
-            space: 0,
-            page: 0,
-            frame: 0,
-            rights: 0,
-        }
+        Self::default()
     }
 
     // Whether space, page, frame and rights lie in their ranges.
     pub fn in_range(self, board: Board) -> bool
         ensures { result ≡ in_range board self }
     {
-        if self.space as usize >= board::SPACES {
-            return false;
-        }
-        if self.page as usize >= board::PAGES {
-            return false;
-        }
-        if self.frame as usize >= board.frames {
-            return false;
-        }
-        is_rights(self.rights)
+        usize::from(self.space) < board::SPACES
+            && usize::from(self.page) < board::PAGES
+            && usize::from(self.frame) < board.frames
+            && is_rights(self.rights)
     }
 
     // Whether this is the mapping of a page of a space.
     pub fn is_at(self, space: u8, page: u16) -> bool
         ensures { result ≡ is_at self space page }
     {
-        self.space == space && self.page == page
+        (self.space, self.page) == (space, page)
     }
 
-    // A number that is smaller for mappings that stand earlier: rising order of space, then page.
-    fn key(self) -> u32
-        ensures { (result ≡ key_of self.space self.page) × (self.page < page_numbers) }
+    // Whether this stands before a page of a space: rising order of space, then page.
+    fn is_before(self, space: u8, page: u16) -> bool
+        ensures { result ≡ is_before self space page }
     {
-        key_of(self.space, self.page)
+        (self.space, self.page) < (space, page)
     }
 
-    // A number that is 0 exactly if all fields are. Three of them make up a word, so that they are read at once.
-    fn content(self) -> u64
-        ensures { (eqb result 0 ≡ is_zero self) × (result ≤ 2 ^ 33) }
+    // Whether all fields are 0. Three of them make up a word, so that they are read at once.
+    fn is_zero(self) -> bool
+        ensures { result ≡ is_zero self }
     {
-        let word = self.page as u32
-            + self.frame as u32 * PAGE_NUMBERS
-            + self.rights as u32 * FRAME_NUMBERS;
-        self.space as u64 + word as u64
+        let word = u32::from(self.page)
+            | u32::from(self.frame) << 16
+            | u32::from(self.rights) << 24;
+        self.space == 0 && word == 0
     }
 }
 
-impl Batch {
-    // Zero records only, with a count.
-    fn zero(count: usize) -> Self
-        ensures { result ≡ zero_batch count }
-    {
-        Self {
-            items: [Mapping::zero(); BATCH],
-            count: count,
-        }
-    }
-
-    // The batch with m at place i.
-    fn put(self, i: usize, m: Mapping) -> Self
-        requires { i < batch_size }
-        ensures { result ≡ put self i m }
-    {
-        let mut next = self;
-        next.items[i] = m;
-        next
-    }
-}
-
-// What one look at the list tells a call of a page of a space.
-pub fn look(board: Board, list: MappingList, space: u8, page: u16) -> Seen
+// What one look at the list tells a call of a page of a space, or nothing where the list breaks its rules.
+pub fn look(board: Board, list: MappingList, space: u8, page: u16) -> Option<Seen>
     ensures { result ≡ look board list space page }
 {
     if keeps_rules(board, list) {
-        return find(list, space, page);
-    }
-    Seen {
-        kept: false,
-        count: 0,
-        place: 0,
-        mapped: false,
-        mapping: Mapping::zero(),
+        Some(find(list, space, page))
+    } else {
+        None
     }
 }
 
-// Whether the list keeps its rules, whatever it holds: one pass over its records.
+// Whether the list keeps its rules, whatever it holds.
 pub fn keeps_rules(board: Board, list: MappingList) -> bool
     ensures { result ≡ keeps_rules board list }
 {
-    let count = list.count;
-    if count > CAPACITY {
+    if list.count > CAPACITY {
         return false;
     }
-    // The least key that the next mapping may have.
-    let mut least: u32 = 0;
-    let mut i = 0;
-    while i < count {
-        let m = list.items[i];
-        if !m.in_range(board) {
-            return false;
-        }
-        let key = m.key();
-        if key < least {
-            return false;
-        }
-        least = key + 1;
-        i += 1;
-    }
-    let mut rest: u64 = 0;
-    while i < CAPACITY {
-        let m = list.items[i];
-        rest += m.content();
-        i += 1;
-    }
-    rest == 0
+    let (listed, rest) = list.items.split_at(list.count);
+    listed.iter().all(|m| m.in_range(board))
+        && listed.is_sorted_by(|m, n| m.is_before(n.space, n.page))
+        && rest.iter().all(|m| m.is_zero())
 }
 
-// What a list that keeps its rules tells of a page of a space, found by halving. The rules are not tested: kept is true whatever the list. In one
-// that breaks them the place is free, but at most the count and CAPACITY; mapped says whether the page's mapping is listed at that place, and mapping
-// is that record, or all 0.
+// What a list that keeps its rules tells of a page of a space, found by halving. The rules are not tested. In a list that breaks them the place is
+// free, but at most the count and CAPACITY; a mapping is told if the page's is listed at that place.
 pub fn find(list: MappingList, space: u8, page: u16) -> Seen
     ensures told { (b : any.Board) → keeps_rules b list ≡ true → result ≡ find list space page }
     ensures always { ToldWithin list space page result }
 {
-    let count = list.count;
-    let end = if count < CAPACITY { count } else { CAPACITY };
-    let wanted = key_of(space, page);
-    let mut place = 0;
-    let mut past = end;
-    while place < past {
-        let middle = (place + past) / 2;
-        let m = list.items[middle];
-        if m.key() < wanted {
-            place = middle + 1;
-        } else {
-            past = middle;
-        }
-    }
-    if place < end {
-        let m = list.items[place];
-        if m.is_at(space, page) {
-            return Seen {
-                kept: true,
-                count,
-                place,
-                mapped: true,
-                mapping: m,
-            };
-        }
-    }
+    let end = list.count.min(CAPACITY);
+    let listed = &list.items[..end];
+    let place = listed.partition_point(|m| m.is_before(space, page));
     Seen {
-        kept: true,
-        count,
+        count: list.count,
         place,
-        mapped: false,
-        mapping: Mapping::zero(),
+        mapping: listed.get(place).copied().filter(|m| m.is_at(space, page)),
     }
 }
 
@@ -260,22 +161,13 @@ pub fn empty() -> MappingList
 pub fn insert_at(list: MappingList, i: usize, m: Mapping) -> MappingList
     ensures { result ≡ insert_at list i m }
 {
-    let n = list.count;
-    if n >= CAPACITY {
-        return list;
-    }
-    if n < i {
+    if list.count >= CAPACITY || list.count < i {
         return list;
     }
     let mut next = list;
-    let mut j = i;
-    while j < CAPACITY - 1 {
-        let moved = list.items[j];
-        next.items[j + 1] = moved;
-        j += 1;
-    }
+    next.items.copy_within(i..CAPACITY - 1, i + 1);
     next.items[i] = m;
-    next.count = n + 1;
+    next.count += 1;
     next
 }
 
@@ -283,28 +175,12 @@ pub fn insert_at(list: MappingList, i: usize, m: Mapping) -> MappingList
 pub fn remove(list: MappingList, i: usize) -> MappingList
     ensures { result ≡ remove list i }
 {
-    let n = list.count;
-    if n <= i {
-        return list;
-    }
-    if n > CAPACITY {
+    if i >= list.count || CAPACITY < list.count {
         return list;
     }
     let mut next = list;
-    let mut j = i;
-    while j < CAPACITY - 1 {
-        let m = list.items[j + 1];
-        next.items[j] = m;
-        j += 1;
-    }
+    next.items.copy_within(i + 1.., i);
     next.items[CAPACITY - 1] = Mapping::zero();
-    next.count = n - 1;
+    next.count -= 1;
     next
-}
-
-// The key of a page of a space.
-fn key_of(space: u8, page: u16) -> u32
-    ensures { (result ≡ key_of space page) × (page < page_numbers) }
-{
-    space as u32 * PAGE_NUMBERS + page as u32
 }

@@ -17,12 +17,12 @@ use Rattle.page_model.specs.Busy.{free}
 use Rattle.page_model.specs.Record.{start_record}
 use Rattle.page_model.specs.Table.{empty}
 use Rattle.page_model.proofs.Theorems.{start_record_lem}
-use Rattle.mapping.specs.declared.Found.TheVariants.{Nothing}
+use Rattle.std.specs.Prelude.{None, is_some}
 use Rattle.mapping.specs.declared.MappingList.{MappingList}
 use Rattle.mapping.specs.Change.{insert}
 use Rattle.mapping.specs.Entry.{capacity, read_write, read_fetch, is_rights}
 use Rattle.mapping.specs.Facts as facts
-use Rattle.mapping.specs.Lookup.{lookup, mapping_of, found}
+use Rattle.mapping.specs.Lookup.{lookup, mapping_of}
 use Rattle.mapping.proofs.Laws.{rights_known, none_found, empty_count, mapping_of_empty, inserted_count, mapping_of_inserted_same, mapping_of_inserted_other}
 use Rattle.manager.specs.Refusals.{first_refusal}
 use Rattle.manager.specs.Tables.{record_at, refill}
@@ -67,7 +67,7 @@ module _ (b : Board) (reg : Regular b) (f : ℕ) (hf : f < b.frames) where
     abbrev call : Single
     call = map 0 i f (rights_of b i)
 
-    fresh : lookup st.tables.list 0 i ≡ Nothing
+    fresh : lookup st.tables.list 0 i ≡ None
     fresh = none_found st.tables.list 0 i (u.unmapped i (omega arith))
 
     room : st.tables.list.count < capacity
@@ -82,7 +82,7 @@ module _ (b : Board) (reg : Regular b) (f : ℕ) (hf : f < b.frames) where
         let few = reg.few_colours in
         own_clear b st call u.tables_kept u.inv.kept refl (
           lt-leb pages i (omega arith),
-          (lt-leb b.frames f hf, (ap not (is_rights_lem b i), (ap found fresh, (ne_eqb st.tables.list.count capacity (λ e. let r = room in omega arith), tt)))),
+          (lt-leb b.frames f hf, (ap not (is_rights_lem b i), (ap is_some fresh, (ne_eqb st.tables.list.count capacity (λ e. let r = room in omega arith), tt)))),
         )
 
     list_length : length st.tables.list.items ≡ capacity

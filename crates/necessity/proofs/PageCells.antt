@@ -9,7 +9,7 @@ use borrow.Author.Tests.{eq-eqb, ne_eqb, eqb-true, ltb-true, ltb-false, lt-ltb, 
 use lib.Dec.{eqb, ltb}
 use Rattle.bits.proofs.Tautology.{and_left, and_right}
 use Rattle.page_model.specs.declared.FrameRecord.{FrameRecord}
-use Rattle.page_model.specs.Cases.{step_number, instruction_row_at}
+use Rattle.page_model.specs.Cases.{instruction_row_of}
 use Rattle.page_model.specs.Instructions.{InstructionState, unfetched, fetched, outdated, InstructionCell, fetched_cell, instruction_cell_at}
 use Rattle.page_model.specs.Record.{state_of, instruction_state_of}
 use Rattle.page_model.specs.Step.{cell_of, instruction_cell_of}
@@ -98,7 +98,7 @@ in_instructions begin_write = false
 in_instructions (fetch c) = true
 
 abbrev instruction_row : Step → Role → ColourState → Cell
-instruction_row s role z = as_cell (instruction_row_at (step_number s) role (as_instruction z))
+instruction_row s role z = as_cell (instruction_row_of s role (as_instruction z))
 
 module _ (n : ℕ) where
   data_in_row : (s : Step) (k : ℕ) (z : ColourState) → k < n → (cell_at s k z ≡ row_of s (role_if (is_own n s k)) z) × (is_own n s k ≡ true → in_data s ≡ true)

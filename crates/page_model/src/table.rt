@@ -1,5 +1,5 @@
-// Document 01's two tables, request N3's row, request N6's two and request N8's: what a step makes of one colour's state, own or other, for data and for
-// instructions. Rows that are alike are one; states stand in the papers' order.
+// Document 01's two tables, request N3's row, request N6's two and request N8's, by cases: what a step makes of one colour's state, own or other, for
+// data and for instructions. Steps, rows and states stand in the papers' order.
 ghost use Rattle.std.specs.Prelude.{◌≡◌};
 ghost use Rattle.page_model.specs.Cases.{step_of, state_of_code, mask_state_of, cell_of_code, row_of, instruction_of_code, instruction_cell_of_code, instruction_row_of};
 ghost use Rattle.page_model.specs.Record.{is_held, is_dirty};
@@ -104,6 +104,13 @@ impl Step {
                 Dirty => Cell::new(None, Dirty),
                 Stale => Cell::new(Some(Purge), Present),
             },
+            // others
+            Step::Read(_) => match state {
+                Empty => Cell::new(None, Empty),
+                Present => Cell::new(None, Present),
+                Dirty => Cell::new(Some(Flush), Present),
+                Stale => Cell::new(None, Stale),
+            },
             // processor write, own colour
             Step::Write(_) if own => match state {
                 Empty => Cell::new(None, Dirty),
@@ -111,18 +118,18 @@ impl Step {
                 Dirty => Cell::new(None, Dirty),
                 Stale => Cell::new(Some(Purge), Dirty),
             },
-            // processor read, others; device read (memory to device), begin read and fetch, every colour
-            Step::Read(_) | Step::DeviceRead | Step::BeginRead | Step::Fetch(_) => match state {
-                Empty => Cell::new(None, Empty),
-                Present => Cell::new(None, Present),
-                Dirty => Cell::new(Some(Flush), Present),
-                Stale => Cell::new(None, Stale),
-            },
-            // processor write, others; part transfer and begin write, every colour
-            Step::Write(_) | Step::DeviceWritePart | Step::BeginWrite => match state {
+            // others
+            Step::Write(_) => match state {
                 Empty => Cell::new(None, Empty),
                 Present => Cell::new(None, Stale),
                 Dirty => Cell::new(Some(Flush), Stale),
+                Stale => Cell::new(None, Stale),
+            },
+            // device read (memory to device), every colour
+            Step::DeviceRead => match state {
+                Empty => Cell::new(None, Empty),
+                Present => Cell::new(None, Present),
+                Dirty => Cell::new(Some(Flush), Present),
                 Stale => Cell::new(None, Stale),
             },
             // device write (device to memory), every colour
@@ -130,6 +137,34 @@ impl Step {
                 Empty => Cell::new(None, Empty),
                 Present => Cell::new(None, Stale),
                 Dirty => Cell::new(Some(Purge), Empty),
+                Stale => Cell::new(None, Stale),
+            },
+            // part transfer, every colour
+            Step::DeviceWritePart => match state {
+                Empty => Cell::new(None, Empty),
+                Present => Cell::new(None, Stale),
+                Dirty => Cell::new(Some(Flush), Stale),
+                Stale => Cell::new(None, Stale),
+            },
+            // begin read, every colour
+            Step::BeginRead => match state {
+                Empty => Cell::new(None, Empty),
+                Present => Cell::new(None, Present),
+                Dirty => Cell::new(Some(Flush), Present),
+                Stale => Cell::new(None, Stale),
+            },
+            // begin write, every colour
+            Step::BeginWrite => match state {
+                Empty => Cell::new(None, Empty),
+                Present => Cell::new(None, Stale),
+                Dirty => Cell::new(Some(Flush), Stale),
+                Stale => Cell::new(None, Stale),
+            },
+            // fetch, every colour
+            Step::Fetch(_) => match state {
+                Empty => Cell::new(None, Empty),
+                Present => Cell::new(None, Present),
+                Dirty => Cell::new(Some(Flush), Present),
                 Stale => Cell::new(None, Stale),
             },
         }
@@ -140,16 +175,12 @@ impl Step {
         ensures { instruction_cell_of_code result ≡ instruction_row_of (step_of self) (role_if own) (instruction_of_code state) }
     {
         match self {
-            // fetch, own colour
-            Step::Fetch(_) if own => match state {
-                MaskState::Empty => Cell::new(None, MaskState::Held),
+            // processor read, device read and begin read, every colour
+            Step::Read(_) | Step::DeviceRead | Step::BeginRead => match state {
+                MaskState::Empty => Cell::new(None, MaskState::Empty),
                 MaskState::Held => Cell::new(None, MaskState::Held),
-                MaskState::Stale => Cell::new(Some(Purge), MaskState::Held),
+                MaskState::Stale => Cell::new(None, MaskState::Stale),
             },
-            // processor read, device read and begin read, every colour; fetch, others
-            Step::Read(_) | Step::DeviceRead | Step::BeginRead | Step::Fetch(_) => {
-                Cell::new(None, state)
-            }
             // processor write, device write, part transfer and begin write, every colour
             Step::Write(_) | Step::DeviceWrite | Step::DeviceWritePart | Step::BeginWrite =>
                 match state {
@@ -157,6 +188,18 @@ impl Step {
                     MaskState::Held => Cell::new(None, MaskState::Stale),
                     MaskState::Stale => Cell::new(None, MaskState::Stale),
                 },
+            // fetch, own colour
+            Step::Fetch(_) if own => match state {
+                MaskState::Empty => Cell::new(None, MaskState::Held),
+                MaskState::Held => Cell::new(None, MaskState::Held),
+                MaskState::Stale => Cell::new(Some(Purge), MaskState::Held),
+            },
+            // others
+            Step::Fetch(_) => match state {
+                MaskState::Empty => Cell::new(None, MaskState::Empty),
+                MaskState::Held => Cell::new(None, MaskState::Held),
+                MaskState::Stale => Cell::new(None, MaskState::Stale),
+            },
         }
     }
 }

@@ -3,15 +3,14 @@ use mathlib.Core.Path.{◌≡◌, refl, sym, ap, ◌∙◌}
 use mathlib.Core.Bool.{Bool, true, false, cond, ◌||◌, true≢false}
 use mathlib.Core.List.{List}
 use mathlib.Core.Logic.{inl, inr}
-use Prim.Native.Nat.{ℕ, ◌-◌, ◌≤◌, ◌<◌}
+use Prim.Native.Nat.{ℕ, ◌-◌, ◌≤◌}
 use native.Mathlib.Omega.{arith}
-use borrow.Author.Tests.{lt-ltb, le-ltb, ltb-false}
+use borrow.Author.Tests.{le-ltb, ltb-false}
 use lib.Dec.{eqb, ltb}
 use Rattle.board.specs.declared.Board.{Board}
 use Rattle.manager.proofs.AcceptedLaws.{or_neither}
 use Rattle.machine.specs.State.{State}
-use Rattle.position_hold.specs.declared.Found.{Found}
-use Rattle.position_hold.specs.declared.Found.TheVariants as found_by
+use Rattle.std.specs.Prelude.{Result, Ok, Err}
 use Rattle.position_hold.specs.Fix.{Fix, Display, refused, blank, position, shortest_hold, longest_hold, hold_refused, is_outside, is_blank, judged}
 use Rattle.position_hold.specs.Theorems.{SameButBlank}
 use Rattle.position_hold.specs.Look.{Words, stopped, words, Reads, reads, fix_reads, fix_of, Look, looked, drawn_from, look, words_found}
@@ -19,14 +18,6 @@ use Rattle.position_hold.specs.Look.{Words, stopped, words, Reads, reads, fix_re
 pub hold_accepted : (hold : ℕ) → shortest_hold ≤ hold → hold ≤ longest_hold → hold_refused hold ≡ false
 unfolding hold_refused
 hold_accepted hold low high = rw (le-ltb hold shortest_hold low, le-ltb longest_hold hold high)
-
-pub hold_short : (hold : ℕ) → hold < shortest_hold → hold_refused hold ≡ true
-unfolding hold_refused
-hold_short hold h = rw (lt-ltb hold shortest_hold h)
-
-pub hold_long : (hold : ℕ) → longest_hold < hold → hold_refused hold ≡ true
-unfolding hold_refused
-hold_long hold h = rw (lt-ltb longest_hold hold h, le-ltb hold shortest_hold (omega arith))
 
 pub hold_range : (hold : ℕ) → hold_refused hold ≡ false → (shortest_hold ≤ hold) × (hold ≤ longest_hold)
 unfolding hold_refused
@@ -46,13 +37,13 @@ module _ (b : Board) (st : State) (space page clock hold : ℕ) where
   look_accepted e reads_are = rw (e, reads_are)
 
   -- by what the code has found
-  module _ (e : hold_refused hold ≡ false) {found : Found} {after : State} (reads_are : reads (words_found found) after ≡ fix_reads b st space page) where
-    pub look_handed_on : {number : ℕ} → found ≡ found_by.Refused number → looked (refused number) after ≡ look b st space page clock hold
-    look_handed_on known = ap (λ (f : Found). looked (drawn_from clock hold (words_found f)) after) (sym known) ∙ look_accepted e reads_are
+  module _ (e : hold_refused hold ≡ false) {found : Result Fix ℕ} {after : State} (reads_are : reads (words_found found) after ≡ fix_reads b st space page) where
+    pub look_handed_on : {number : ℕ} → found ≡ Err number → looked (refused number) after ≡ look b st space page clock hold
+    look_handed_on known = ap (λ (f : Result Fix ℕ). looked (drawn_from clock hold (words_found f)) after) (sym known) ∙ look_accepted e reads_are
 
-    pub look_judged : {fix : Fix} {display : Display} → found ≡ found_by.Fix fix → display ≡ judged clock hold fix → looked display after ≡ look b st space page clock hold
+    pub look_judged : {fix : Fix} {display : Display} → found ≡ Ok fix → display ≡ judged clock hold fix → looked display after ≡ look b st space page clock hold
     look_judged known shown =
-        ap (λ (d : Display). looked d after) shown ∙ ap (λ (f : Found). looked (drawn_from clock hold (words_found f)) after) (sym known) ∙ look_accepted e reads_are
+        ap (λ (d : Display). looked d after) shown ∙ ap (λ (f : Result Fix ℕ). looked (drawn_from clock hold (words_found f)) after) (sym known) ∙ look_accepted e reads_are
 
 -- what is not blank at a hold is not blank at a longer one
 not_blank_longer : (clock short long : ℕ) (fix : Fix) → short ≤ long → is_blank clock short fix ≡ false → is_blank clock long fix ≡ false

@@ -10,8 +10,7 @@ use lib.ListN.{length, get_or, length-append, get_or-append}
 use lib.Seq.{get_or_at}
 use Rattle.board.specs.declared.Board.{Board}
 use Rattle.board.specs.Board.{Regular}
-use Rattle.mapping.specs.declared.Found.{Found}
-use Rattle.mapping.specs.declared.Found.TheVariants.{At, Nothing}
+use Rattle.std.specs.Prelude as std
 use Rattle.mapping.specs.Entry.{mapping_at}
 use Rattle.mapping.specs.Lookup.{lookup, mapping_found, mapping_of, place_of}
 use Rattle.cache.specs.Cache.{leaving}
@@ -79,9 +78,9 @@ module _ (b : Board) (reg : Regular b) (m : Cacheless) (space page : ℕ) where
 
 -- the frame that the cacheless memory has for a page is the lent list's
 module _ (b : Board) (st : State) (m : Cacheless) (inv : Invariant b st m) (space page f : ℕ) where
-  behind : (x : Found) → frame_in (mapping_found st.tables.list x) ≡ some f → (mapping_at st.tables.list (place_of x)).frame ≡ f
-  behind (At i) e = cc
-  behind Nothing e = absurd (no_word e)
+  behind : (x : std.Option ℕ) → frame_in (mapping_found st.tables.list x) ≡ some f → (mapping_at st.tables.list (place_of x)).frame ≡ f
+  behind (std.Some i) e = cc
+  behind std.None e = absurd (no_word e)
 
   pub frame_lent : m.frame space page ≡ some f → page_frame st space page ≡ f
   unfolding mapping_of

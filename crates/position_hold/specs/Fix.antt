@@ -1,9 +1,8 @@
 -- Request N5: what is drawn from a fix. Seconds are 32 bits unsigned; coordinates are ten-millionths of a degree, signed in two's complement of 32 bits.
-use Rattle.std.specs.Prelude.{Bool, cond, ◌||◌, ℕ, ◌-◌, ◌*◌, ◌^◌, eqb, ltb}
+use Rattle.std.specs.Prelude.{Bool, cond, ◌||◌, ℕ, ◌-◌, ◌*◌, ◌^◌, eqb, ltb, Option, Some, None, Result, Ok, Err}
 -- a fix: its number, its second, latitude and longitude. It is the code's struct
 pub use Rattle.position_hold.specs.declared.fix.Fix.{Fix}
-use Rattle.position_hold.specs.declared.Drawn.{Drawn}
-use Rattle.position_hold.specs.declared.Drawn.TheVariants as drawn
+pub use Rattle.position_hold.specs.declared.fix.Position.{Position}
 
 -- ---- the answer
 
@@ -13,11 +12,14 @@ pub data Display : Type 0 where
   blank : Display
   position : ℕ → ℕ → Display
 
--- what the code's answer says
-abbrev pub displayed : Drawn → Display
-displayed (drawn.Refused n) = refused n
-displayed drawn.Blank = blank
-displayed (drawn.Position latitude longitude) = position latitude longitude
+-- what the code's judgement says, and its answer
+abbrev pub shown : Option Position → Display
+shown None = blank
+shown (Some p) = position p.latitude p.longitude
+
+abbrev pub displayed : Result (Option Position) ℕ → Display
+displayed (Err n) = refused n
+displayed (Ok p) = shown p
 
 -- ---- the hold
 

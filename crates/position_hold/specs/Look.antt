@@ -1,13 +1,11 @@
 -- Request N5: a look at the position through a page of a space. The fix page's first four words are read by the machine, in order, and then judged.
-use Rattle.std.specs.Prelude.{cond, List, [], ◌∷◌, ◌++◌, ℕ, zero, suc, get_or}
+use Rattle.std.specs.Prelude.{cond, List, [], ◌∷◌, ◌++◌, ℕ, zero, suc, get_or, Result as Answer, Ok, Err}
 use Rattle.std.proofs.Math.Option.{Option, none, some}
 use Rattle.board.specs.declared.Board.{Board}
 use Rattle.manager.specs.Answers as outcome
 use Rattle.manager.specs.Answers.{Outcome}
 use Rattle.machine.specs.State.{State, read, Result}
 use Rattle.machine.specs.Step.{step}
-use Rattle.position_hold.specs.declared.Found.{Found}
-use Rattle.position_hold.specs.declared.Found.TheVariants as found
 use Rattle.position_hold.specs.Fix.{Fix, Display, refused, hold_refused, judged}
 
 -- ---- the reads
@@ -78,6 +76,6 @@ look b st space page clock hold =
 
 -- ---- what the code's reads found
 
-abbrev pub words_found : Found → Words
-words_found (found.Refused n) = stopped n
-words_found (found.Fix fix) = words (fix.number ∷ fix.second ∷ fix.latitude ∷ fix.longitude ∷ [])
+abbrev pub words_found : Answer Fix ℕ → Words
+words_found (Err n) = stopped n
+words_found (Ok fix) = words (fix.number ∷ fix.second ∷ fix.latitude ∷ fix.longitude ∷ [])

@@ -1,13 +1,12 @@
 -- Request N5 at its limits, computed: runs from the start in which a page is mapped, fixes are delivered and looked at, and what each look displays. The
 -- board is document 01's with four frames, on which a call computes in two thirds of the time.
-use Rattle.std.specs.Prelude.{List, [], ◌∷◌, ◌++◌, ◌≡◌, ℕ, ◌+◌, ◌-◌, ◌^◌, replicate}
+use Rattle.std.specs.Prelude.{List, [], ◌∷◌, ◌++◌, ◌≡◌, ℕ, ◌+◌, ◌-◌, ◌^◌, replicate, Some, None, Ok, Err}
 use Rattle.board.specs.declared.Board.{Board}
 use Rattle.board.specs.Board.{board01, memory_words, cache_words}
 use Rattle.mapping.specs.Entry.{capacity}
 use Rattle.machine.specs.State.{State, map, read, device_write_part, begin_read, begin_write, end_transfer}
 use Rattle.consistency.specs.Demand3.{start_state}
 use Rattle.consistency.specs.Rows.{small, at_start, another, over}
-use Rattle.position_hold.specs.declared.Drawn.TheVariants as answer
 use Rattle.position_hold.specs.Demand3.{Holds}
 use Rattle.position_hold.specs.Fix.{Display, refused, blank, position, displayed}
 use Rattle.position_hold.specs.Rows.{one, chart}
@@ -112,7 +111,10 @@ abbrev pub OtherHolds : Type 0
 OtherHolds = with_holds (◌+ 2) (look 0 0 1003 30 ∷ chart ∷ look 0 0 1003 30 ∷ []) ≡ look 0 0 1003 2 ∷ chart ∷ look 0 0 1003 3 ∷ []
 
 abbrev pub Answers : Type 0
-Answers = (displayed (answer.Refused 14) ≡ refused 14) × (displayed answer.Blank ≡ blank) × (displayed (answer.Position 5 6) ≡ position 5 6)
+Answers =
+    (displayed (Err 14) ≡ refused 14)
+    × (displayed (Ok None) ≡ blank)
+    × (displayed (Ok (Some record { latitude = 5; longitude = 6 })) ≡ position 5 6)
 
 -- ---- demand 3 refuses a look that reads another word than the cacheless memory has, and a read beside a look that does: both memories end the same
 

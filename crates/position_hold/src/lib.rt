@@ -10,6 +10,7 @@ ghost use Rattle.position_hold.specs.Fix.{displayed};
 ghost use Rattle.position_hold.specs.Look.{fix_reads, look, looked, reads, words_found};
 
 use fix::Fix;
+pub use fix::Position;
 use machine::Loaded;
 use mapping::MappingList;
 
@@ -21,23 +22,11 @@ pub const LONGEST_HOLD: u32 = 30;
 // The words of a fix, which stand at the front of its page.
 const FIX_WORDS: usize = 4;
 
-// The answer: the refusal's number, blank, or latitude and longitude as they were read.
-#[derive(Clone, Copy)]
-pub enum Drawn {
-    Refused(u8),
-    Blank,
-    Position(u32, u32),
-}
+// The refusal of a hold outside them.
+const HOLD_REFUSED: u8 = 14;
 
-// What the reads of a fix found.
-#[derive(Clone, Copy)]
-enum Found {
-    Refused(u8),
-    Fix(Fix),
-}
-
-// Looks at the position through a page of a space, at a time of the clock, with a fix held for so many seconds. All four words are read before any is
-// judged; a refused read ends the look.
+// Looks at the position through a page of a space, at a time of the clock, with a fix held for so many seconds: the position that is drawn, `None` where
+// it is blank, or the refusal. All four words are read before any is judged; a refused read ends the look.
 pub fn look(
     list: MappingList,
     records: &mut [u32],
@@ -49,23 +38,18 @@ pub fn look(
     page: u16,
     clock: u32,
     hold: u32,
-) -> Drawn
+) -> Result<Option<Position>, u8>
     ensures { looked (displayed result)
         (machine_of list records.new protections.new memory.new words.new tags.new)
         ≡ look board01
         (machine_of list records.old protections.old memory.old words.old tags.old)
         space page clock hold }
 {
-    if hold < SHORTEST_HOLD {
-        return Drawn::Refused(14);
+    if !(SHORTEST_HOLD..=LONGEST_HOLD).contains(&hold) {
+        return Err(HOLD_REFUSED);
     }
-    if hold > LONGEST_HOLD {
-        return Drawn::Refused(14);
-    }
-    match read_fix(list, records, protections, memory, words, tags, space, page) {
-        Found::Refused(number) => Drawn::Refused(number),
-        Found::Fix(fix) => fix::judge(fix, clock, hold),
-    }
+    let fix = read_fix(list, records, protections, memory, words, tags, space, page)?;
+    Ok(fix::judge(fix, clock, hold))
 }
 
 // Reads the words of a fix, in their order, up to the first that is refused.
@@ -78,7 +62,7 @@ fn read_fix(
     tags: &mut [u8],
     space: u8,
     page: u16,
-) -> Found
+) -> Result<Fix, u8>
     ensures { reads (words_found result)
         (machine_of list records.new protections.new memory.new words.new tags.new)
         ≡ fix_reads board01
@@ -86,8 +70,7 @@ fn read_fix(
         space page }
 {
     let mut read = [0u32; FIX_WORDS];
-    let mut offset = 0;
-    while offset < FIX_WORDS {
+    for offset in 0..FIX_WORDS {
         match machine::read(
             list,
             records,
@@ -99,15 +82,15 @@ fn read_fix(
             page,
             offset,
         ) {
-            Loaded::Refused(number) => return Found::Refused(number),
+            Loaded::Refused(number) => return Err(number),
             Loaded::Word(_, word) => read[offset] = word,
         }
-        offset += 1;
     }
-    Found::Fix(Fix {
-        number: read[0],
-        second: read[1],
-        latitude: read[2],
-        longitude: read[3],
+    let [number, second, latitude, longitude] = read;
+    Ok(Fix {
+        number,
+        second,
+        latitude,
+        longitude,
     })
 }

@@ -12,8 +12,8 @@ use crate::Progress;
 use board::BOARD01;
 use manager::records::RECORD_WORDS;
 use mapping::MappingList;
-use run_step::{Told, steps};
-use sheet_codec::{Shown, answers, format, text};
+use run_step::steps;
+use sheet_codec::{Kind, answers, format, text};
 
 // What the board's sizes come to: the words of all records, of memory and of both caches, and their lines.
 const RECORDS_WORDS: usize = BOARD01.frames * RECORD_WORDS;
@@ -87,10 +87,9 @@ fn run_calls(
         text,
         0,
     );
-    let list = mapped.list;
     let first = format::first_step(mappings);
     let stepped = run_steps(
-        list,
+        mapped.list,
         records,
         protections,
         memory,
@@ -102,9 +101,8 @@ fn run_calls(
         text,
         mapped.at,
     );
-    let list = stepped.list;
     Progress {
-        list,
+        list: stepped.list,
         at: stepped.at,
         flushes: mapped.flushes + stepped.flushes,
         purges: mapped.purges + stepped.purges,
@@ -136,63 +134,14 @@ fn run_mappings(
     let mut at = at;
     let mut flushes = 0;
     let mut purges = 0;
-    let mut i = 0;
-    while i < count {
-        let made = map_one(
-            list,
-            records,
-            protections,
-            memory,
-            words,
-            tags,
-            sheet,
-            i,
-            text,
-            at,
-        );
-        list = made.list;
-        at = made.at;
-        flushes += made.flushes;
-        purges += made.purges;
-        i += 1;
+    for k in 0..count {
+        let m = format::mapping_at(sheet, k);
+        let got = machine::map(list, records, protections, memory, words, tags, m);
+        list = got.list;
+        at = text::mapping_line(text, at, k, answers::number_of(got.answer));
+        flushes += answers::flushes_of(got.answer);
+        purges += answers::purges_of(got.answer);
     }
-    Progress {
-        list,
-        at,
-        flushes,
-        purges,
-    }
-}
-
-// Mapping k of the sheet.
-fn map_one(
-    list: MappingList,
-    records: &[u32],
-    protections: &mut [u8],
-    memory: &[u32],
-    words: &[u32],
-    tags: &[u8],
-    sheet: &[u8],
-    k: usize,
-    text: &mut [u8],
-    at: usize,
-) -> Progress
-    requires { (k < most_mappings) × (at + line_bytes ≤ length text.old) }
-    ensures { Ran
-        (advance board01 (mapping_line_of k) (mapping_call sheet.now k) (run_from
-        (machine_of list records.now protections.old memory.now words.now tags.now)))
-        1 text.old at
-        (machine_of result.list records.now protections.new memory.now words.now tags.now)
-        text.new result.at result.flushes result.purges }
-{
-    let m = format::mapping_at(sheet, k);
-    let got = machine::map(list, records, protections, memory, words, tags, m);
-    let answer = got.answer;
-    let list = got.list;
-    let number = answers::number_of(answer);
-    let at = text::mapping_line(text, at, k, number);
-    let flushes = answers::flushes_of(answer);
-    let purges = answers::purges_of(answer);
     Progress {
         list,
         at,
@@ -228,28 +177,23 @@ fn run_steps(
     let mut at = at;
     let mut flushes = 0;
     let mut purges = 0;
-    let mut i = 0;
-    while i < count {
-        let f = format::fields_at(sheet, first + format::STEP_BYTES * i);
-        let kind = format::kind_of(f.kind);
-        // Only an unmap hands a list back.
-        let told = if steps::is_unmap(kind) {
-            let got = machine::unmap(list, records, protections, memory, words, tags, f.s, f.p);
-            list = got.list;
-            let answer = got.answer;
-            Told {
-                answer,
-                shown: Shown::Absent,
-            }
-        } else {
-            steps::step(list, records, protections, memory, words, tags, kind, f)
-        };
-        let answer = told.answer;
-        let shown = told.shown;
-        at = text::step_line(text, at, i, answer, shown);
-        flushes += answers::flushes_of(answer);
-        purges += answers::purges_of(answer);
-        i += 1;
+    for k in 0..count {
+        let f = format::fields_at(sheet, first + format::STEP_BYTES * k);
+        // A sheet that is run is not broken, so each step has a kind.
+        let kind = Kind::try_from(f.kind).unwrap_or(Kind::Unmap);
+        let told = steps::step(
+            &mut list,
+            records,
+            protections,
+            memory,
+            words,
+            tags,
+            kind,
+            f,
+        );
+        at = text::step_line(text, at, k, told.answer, told.shown);
+        flushes += answers::flushes_of(told.answer);
+        purges += answers::purges_of(told.answer);
     }
     Progress {
         list,

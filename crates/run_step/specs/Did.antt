@@ -1,6 +1,5 @@
 -- What the code holds after a call: the state, the answer's number and orders, and the word that is shown are those of the machine's step.
-use Rattle.std.proofs.Math.Option.{Option}
-use Rattle.std.specs.Prelude.{◌≡◌, ℕ}
+use Rattle.std.specs.Prelude.{◌≡◌, Option, ℕ}
 use Rattle.board.specs.Board.{board01}
 use Rattle.manager.specs.Answers.{Outcome}
 use Rattle.machine.specs.State.{State, Single}

@@ -1,3 +1,2 @@
 -- What the code holds after a step.
 pub mod Did
-pub mod Kinds

@@ -9,73 +9,37 @@ pub fn bytes(text: &[u8], out: &mut [u8]) -> usize
 {
     let mut digits = 0;
     let mut comment = false;
-    let mut i = 0;
-    while i < text.len() {
-        let c = text[i];
-        comment = in_comment(comment, c);
-        digits = put(out, digits, comment, c);
-        i += 1;
+    for &c in text {
+        comment = match c {
+            b'#' => true,
+            b'\n' => false,
+            _ => comment,
+        };
+        if !comment && let Some(d) = digit(c) {
+            digits = put(out, digits, d);
+        }
     }
     digits / 2
 }
 
-// Whether a byte of the text is in a comment, from whether the one before it is.
-fn in_comment(before: bool, c: u8) -> bool {
-    if c == b'#' {
-        return true;
-    }
-    if c == b'\n' {
-        return false;
-    }
-    before
-}
-
-// Moves c, if it is a digit outside a comment, into its byte of out, and answers how many digits there are then.
-fn put(out: &mut [u8], digits: usize, comment: bool, c: u8) -> usize
+// Moves a digit into its byte of out, if there is one, and answers how many digits there are then.
+fn put(out: &mut [u8], digits: usize, d: u8) -> usize
     requires { digits ≤ 2 * length out.old }
     ensures { result ≤ 2 * length out.old }
 {
-    if comment {
+    let Some(byte) = out.get_mut(digits / 2) else {
         return digits;
-    }
-    let at = digits / 2;
-    let d = digit(c);
-    if d > 15 {
-        return digits;
-    }
-    if at >= out.len() {
-        return digits;
-    }
-    out[at] = ((wide(out[at]) * 16 + d) % 256) as u8;
+    };
+    *byte = *byte << 4 | d;
     digits + 1
 }
 
-// The value of a digit, and 16 for any other byte.
-fn digit(c: u8) -> u64 {
-    if c < b'0' {
-        return 16;
+// The value of a hexadecimal digit.
+fn digit(c: u8) -> Option<u8> {
+    match c {
+        b'0'..=b'9' => Some(c - b'0'),
+        b'A'..=b'F' => Some(c - b'A' + 10),
+        b'a'..=b'f' => Some(c - b'a' + 10),
+        _ => None,
     }
-    if c <= b'9' {
-        return wide(c - b'0');
-    }
-    if c < b'A' {
-        return 16;
-    }
-    if c <= b'F' {
-        return wide(c - b'A') + 10;
-    }
-    if c < b'a' {
-        return 16;
-    }
-    if c <= b'f' {
-        return wide(c - b'a') + 10;
-    }
-    16
-}
-
-// A byte as a larger number.
-pub fn wide(b: u8) -> u64
-    ensures { result ≤ 255 }
-{
-    b as u64
 }

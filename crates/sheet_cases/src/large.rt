@@ -8,10 +8,8 @@ ghost use Rattle.std.specs.Prelude.{◌<◌, ◌≤◌, length};
 pub fn fill(mappings: usize, steps: usize, out: &mut [u8])
     requires { (mappings < 65536) × (steps < 65536) × (length out.old ≤ 65536) }
 {
-    let mut i = 0;
-    while i < out.len() {
-        out[i] = byte_at(mappings, steps, i);
-        i += 1;
+    for (i, byte) in out.iter_mut().enumerate() {
+        *byte = byte_at(mappings, steps, i);
     }
 }
 
@@ -37,42 +35,35 @@ fn mapping_byte(k: usize, at: usize) -> u8
 {
     match at {
         0 => byte(k / 16, 0),
-        1 => byte(258 + 3 * k, 0),
-        2 => byte(258 + 3 * k, 1),
+        1 | 2 => byte(258 + 3 * k, at - 1),
         3 => byte(k / 4, 0),
         _ => 2,
     }
 }
 
 fn step_byte(i: usize, at: usize) -> u8
-    requires { i < 65536 }
+    requires { (i < 65536) × (at < 9) }
 {
     let k = 4 * (i / 64) + i % 4;
     match at {
         0 => byte(2 - i % 2, 0),
         1 => byte(k / 16, 0),
-        2 => byte(258 + 3 * k, 0),
-        3 => byte(258 + 3 * k, 1),
+        2 | 3 => byte(258 + 3 * k, at - 2),
         4 => byte(63 - i % 64 / 2, 0),
-        _ => word_byte(i, at - 5),
+        _ => byte(word(i), at - 5),
     }
 }
 
-// A byte of 4294967295 - i, or of 0 in a read.
-fn word_byte(i: usize, at: usize) -> u8
+// What step i writes, and 0 for a read.
+fn word(i: usize) -> usize
     requires { i < 65536 }
 {
-    if i % 2 == 1 {
-        return 0;
-    }
-    if at < 2 { byte(65535 - i, at) } else { 255 }
+    if i % 2 == 0 { 4294967295 - i } else { 0 }
 }
 
-// The low byte of a number, or the next.
-fn byte(n: usize, at: usize) -> u8 {
-    if at == 0 {
-        (n % 256) as u8
-    } else {
-        (n / 256 % 256) as u8
-    }
+// A byte of a number, the lowest first.
+fn byte(n: usize, at: usize) -> u8
+    requires { at < 8 }
+{
+    n.to_le_bytes()[at]
 }

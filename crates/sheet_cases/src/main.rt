@@ -5,137 +5,116 @@
 mod hex;
 mod large;
 
-ghost use Rattle.std.specs.Prelude.{◌≡◌, length};
+ghost use Rattle.std.specs.Prelude.{◌≡◌, ◌<◌, ◌≤◌, length};
 
 use run_sheet::{INPUT_BYTES, SHEET_BYTES, TEXT_BYTES};
 use std::env::FillError;
 use std::fs::File;
+use std::io::Result;
 use std::os::fd::AsRawFd;
 use std::rt::Env;
-
-// Standard output.
-const STDOUT: i32 = 1;
 
 // The last line of the largest sheet's text, with its line end.
 const LAST_BYTES: usize = 14;
 
-fn main(rt: HostRuntime) {
-    files(&rt);
-    mappings_257();
-    steps_4097();
-    longer();
-    largest();
+fn main(rt: HostRuntime) -> Result<()> {
+    files(&rt)?;
+    filled::<1289>(&rt, "257 mappings", 257, 0)?;
+    filled::<36877>(&rt, "4097 steps", 0, 4097)?;
+    filled::<INPUT_BYTES>(&rt, "256 mappings, 4096 steps and one byte", 256, 4096)?;
+    largest(&rt)
 }
 
 // ---- sheets in files
 
-// The sheets in the files that the arguments name.
-fn files(rt: &HostRuntime) {
+// The sheets in the files that the arguments name. An argument that does not fit is taken for an empty name.
+fn files(rt: &HostRuntime) -> Result<()> {
     for i in 1..usize::MAX {
-        if !named(rt, i) {
-            return;
-        }
+        let mut name = io::buffer();
+        let n = match rt.arg(i, &mut name) {
+            Ok(n) => n,
+            Err(FillError::TooLong) => 0,
+            Err(FillError::NotPresent) => break,
+        };
+        file(rt, &name[..n])?;
     }
+    Ok(())
 }
 
-// The sheet in the file that argument i names; answers whether there is one. An argument that does not fit is taken for an empty name.
-fn named(rt: &HostRuntime, i: usize) -> bool {
-    let mut name = io::buffer();
-    let n = match rt.arg(i, &mut name) {
-        Ok(n) => n,
-        Err(FillError::TooLong) => 0,
-        Err(FillError::NotPresent) => return false,
-    };
-    file(rt, &name[..n]);
-    true
-}
-
-fn file(rt: &HostRuntime, name: &[u8]) {
-    io::write_all(STDOUT, name);
-    io::write_all(STDOUT, b"\n");
+fn file(rt: &HostRuntime, name: &[u8]) -> Result<()> {
+    rt.write_all(name)?;
+    println!(rt)?;
     let Ok(path) = str::from_utf8(name) else {
-        let _ = eprintln!(rt; "the name is not UTF-8");
-        return;
+        return eprintln!(rt; "the name is not UTF-8");
     };
     match File::open(rt, path) {
         Ok(sheet) => {
             let mut text = io::large_buffer();
             let n = io::read_full(sheet.as_raw_fd(), &mut text);
-            written(&text[..n]);
+            written(rt, &text[..n])
         }
-        Err(e) => {
-            let _ = eprintln!(rt; "{path}: {e}");
-        }
+        Err(e) => eprintln!(rt; "{path}: {e}"),
     }
 }
 
 // The sheet that a text of hexadecimal digits has.
-fn written(text: &[u8]) {
+fn written(rt: &HostRuntime, text: &[u8]) -> Result<()> {
     let mut sheet = zeros::<INPUT_BYTES>();
     let n = hex::bytes(text, &mut sheet);
-    run(&sheet[..n]);
+    run(rt, &sheet[..n])
 }
 
-fn run(sheet: &[u8]) {
+fn run(rt: &HostRuntime, sheet: &[u8]) -> Result<()> {
     let mut text = zeros::<TEXT_BYTES>();
     let n = run_sheet::run_sheet(sheet, &mut text);
-    io::write_all(STDOUT, &text[..n]);
+    rt.write_all(&text[..n])
 }
 
 // ---- sheets at the limits of the counts
 
-fn mappings_257() {
-    io::write_all(STDOUT, b"257 mappings\n");
-    let mut sheet = zeros::<1289>();
-    large::fill(257, 0, &mut sheet);
-    run(&sheet);
-}
-
-fn steps_4097() {
-    io::write_all(STDOUT, b"4097 steps\n");
-    let mut sheet = zeros::<36877>();
-    large::fill(0, 4097, &mut sheet);
-    run(&sheet);
-}
-
-fn longer() {
-    io::write_all(STDOUT, b"256 mappings, 4096 steps and one byte\n");
-    let mut sheet = zeros::<INPUT_BYTES>();
-    large::fill(256, 4096, &mut sheet);
-    run(&sheet);
+// The first N bytes of the sheet of some mappings and steps, after a line that says which.
+fn filled<const N: usize>(
+    rt: &HostRuntime,
+    which: &str,
+    mappings: usize,
+    steps: usize,
+) -> Result<()>
+    requires { (mappings < 65536) × (steps < 65536) × (N ≤ 65536) }
+{
+    println!(rt; "{which}")?;
+    let mut sheet = zeros::<N>();
+    large::fill(mappings, steps, &mut sheet);
+    run(rt, &sheet)
 }
 
 // The largest sheet, and its text in short.
-fn largest() {
-    io::write_all(STDOUT, b"256 mappings, 4096 steps\n");
+fn largest(rt: &HostRuntime) -> Result<()> {
+    println!(rt; "256 mappings, 4096 steps")?;
     let mut sheet = zeros::<SHEET_BYTES>();
     large::fill(256, 4096, &mut sheet);
     let mut text = zeros::<TEXT_BYTES>();
     let n = run_sheet::run_sheet(&sheet, &mut text);
-    in_short(&text[..n]);
+    in_short(rt, &text[..n])
 }
 
 // The length of a text, its checksum and its last line.
-fn in_short(text: &[u8]) {
-    io::print_decimal(STDOUT, text.len() as u64);
-    io::write_all(STDOUT, b" bytes, Adler-32 ");
-    io::print_decimal(STDOUT, adler(text));
-    io::write_all(STDOUT, b"\n");
-    if text.len() >= LAST_BYTES {
-        let from = text.len() - LAST_BYTES;
-        io::write_all(STDOUT, &text[from..]);
+fn in_short(rt: &HostRuntime, text: &[u8]) -> Result<()> {
+    let length = text.len();
+    let checksum = adler(text);
+    println!(rt; "{length} bytes, Adler-32 {checksum}")?;
+    match text.last_chunk::<LAST_BYTES>() {
+        Some(last) => rt.write_all(last),
+        None => Ok(()),
     }
 }
 
 // The checksum of RFC 1950.
 fn adler(text: &[u8]) -> u64 {
-    let mut low: u64 = 1;
-    let mut high: u64 = 0;
-    let mut i = 0;
-    while i < text.len() {
-        low = (low + hex::wide(text[i])) % 65521;
+    let mut low = 1;
+    let mut high = 0;
+    for &byte in text {
+        low = (low + u64::from(byte)) % 65521;
         high = (high + low) % 65521;
-        i += 1;
     }
     65536 * high + low
 }

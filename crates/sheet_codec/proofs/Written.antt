@@ -1,7 +1,7 @@
 -- The laws of bytes written into a buffer of text: one after the other, they are their concatenation.
 use mathlib.Core.List.{List, [], ◌∷◌, ◌++◌, append_assoc, append-nil}
 use mathlib.Core.Logic.{⊎_elim}
-use mathlib.Core.Path.{◌≡◌, refl, sym, ap, ap₂, ◌∙◌}
+use mathlib.Core.Path.{◌≡◌, refl, sym, ap, ap₂, subst⁻¹, ◌∙◌}
 use Prim.Native.Nat.{ℕ, zero, suc, ◌+◌, ◌≤◌, ◌<◌}
 use native.Mathlib.Numerals.{add-one}
 use native.Mathlib.Omega.{arith}
@@ -10,6 +10,8 @@ use lib.Seq.{take_all, take_at, drop-nil, drop_at, drop-drop, set_split, paste}
 use Rattle.mapping.proofs.Tests.{lt_or_le}
 use Rattle.cache.specs.Part.{overlay}
 use Rattle.sheet_codec.specs.Put.{Put}
+use Rattle.sheet_codec.specs.Wrote.{Wrote}
+use Rattle.sheet_codec.specs.declared.text.Line.{Line}
 
 pub overlay_nil : (l : List ℕ) (at : ℕ) → overlay l at [] ≡ l
 unfolding overlay
@@ -102,3 +104,15 @@ unfolding overlay
 pasted l at s n e =
     append_assoc (take at l) (take n s) (drop (at + n) l)
     ∙ ap₂ (λ (u v : List ℕ). take at l ++ (u ++ v)) (take_all n s (omega arith)) (sym (drop-drop (length s) at l ∙ ap (λ (k : ℕ). drop (at + k) l) e))
+
+-- ---- the same of a line, which has the buffer and the place
+
+pub wrote_both : {l m n : Line} {p q : List ℕ} {a b : ℕ} → Wrote l p a m → Wrote m q b n → Wrote l (p ++ q) (a + b) n
+wrote_both x y = record { same = y.same ∙ x.same; long = y.long ∙ x.long; put = put_both x.put y.put }
+
+pub wrote_as : {l m : Line} {p q : List ℕ} {a b : ℕ} → p ≡ q → a ≤ b → Wrote l p a m → Wrote l q b m
+wrote_as e h x = record { same = x.same; long = x.long; put = put_as e h x.put }
+
+-- once a line is given back, its buffer holds what it held
+pub put_back : {l m n s q : List ℕ} {at k a b : ℕ} → n ≡ m → s ≡ q → a ≤ b → Put l at s a m k → Put l at q b n k
+put_back {l} {s = s} {q = q} {at = at} {k = k} {a = a} {b = b} e d h x = subst⁻¹ (λ (n : List ℕ). Put l at q b n k) e (put_as d h x)

@@ -1,6 +1,6 @@
 -- Document 01, "The run sheet", with the kinds of requests N3, N6 and N8: the bytes of a sheet, when it is broken, and the calls that it stands
 -- for. A byte past the end counts as 0.
-use Rattle.std.specs.Prelude.{Bool, true, false, not, cond, ◌&&◌, ◌||◌, List, ℕ, ◌+◌, ◌*◌, ◌%◌, ◌^◌, eqb, ltb, length, get_or, replicate}
+use Rattle.std.specs.Prelude.{Bool, true, false, not, cond, ◌&&◌, ◌||◌, Option, Some, None, unwrap_or, List, ℕ, ◌+◌, ◌*◌, ◌%◌, ◌^◌, eqb, ltb, length, get_or, replicate}
 use Rattle.bits.specs.Mask.{all}
 use Rattle.board.specs.declared.Board.{Board}
 use Rattle.manager.specs.Tables.{tabulate}
@@ -8,7 +8,8 @@ use Rattle.machine.specs.State as call
 use Rattle.machine.specs.State.{Single}
 use Rattle.sheet_codec.specs.declared.Fields.{Fields}
 use Rattle.sheet_codec.specs.declared.Kind.{Kind}
-use Rattle.sheet_codec.specs.declared.Kind.TheVariants.{Read, Write, DeviceRead, DeviceWrite, DeviceWritePart, BeginRead, BeginWrite, BringWord, TakeWord, EndTransfer, Fetch, Evict, Unmap, Other}
+use Rattle.sheet_codec.specs.declared.Kind.TheVariants.{Read, Write, DeviceRead, DeviceWrite, DeviceWritePart, BeginRead, BeginWrite, BringWord, TakeWord, EndTransfer, Fetch, Evict, Unmap}
+use Rattle.sheet_codec.specs.declared.UnknownKind.{UnknownKind}
 
 -- ---- numbers, low byte first
 
@@ -75,17 +76,31 @@ unfolding byte_at two_bytes four_bytes
 fields_at sheet at =
     record { kind = byte_at sheet at; s = byte_at sheet (at + 1); p = two_bytes sheet (at + 2); o = byte_at sheet (at + 4); w = four_bytes sheet (at + 5) }
 
-abbrev pub kind_of : ℕ → Kind
+-- the kind with a number, if one of the thirteen has it
+abbrev pub kind_of : ℕ → Option Kind
 kind_of n =
-    cond (eqb n 1) Read
-    (cond (eqb n 2) Write (cond (eqb n 3) DeviceRead (cond (eqb n 4) DeviceWrite (cond (eqb n 5) Evict (cond (eqb n 6) Unmap (cond (eqb n 7) DeviceWritePart
-    (cond (eqb n 8) BeginRead (cond (eqb n 9) BeginWrite (cond (eqb n 10) BringWord (cond (eqb n 11) TakeWord (cond (eqb n 12) EndTransfer (cond (eqb n 13) Fetch Other))))))))))))
+    cond (eqb n 1) (Some Read)
+    (cond (eqb n 2) (Some Write)
+    (cond (eqb n 3) (Some DeviceRead)
+    (cond (eqb n 4) (Some DeviceWrite)
+    (cond (eqb n 5) (Some Evict)
+    (cond (eqb n 6) (Some Unmap)
+    (cond (eqb n 7) (Some DeviceWritePart)
+    (cond (eqb n 8) (Some BeginRead)
+    (cond (eqb n 9) (Some BeginWrite)
+    (cond (eqb n 10) (Some BringWord)
+    (cond (eqb n 11) (Some TakeWord)
+    (cond (eqb n 12) (Some EndTransfer)
+    (cond (eqb n 13) (Some Fetch) None))))))))))))
+
+abbrev pub unknown : ℕ → UnknownKind
+unknown n = record { 0 = n }
 
 -- p, o and w are 0
 abbrev pub all_zero : ℕ → ℕ → ℕ → Bool
 all_zero p o w = eqb p 0 && eqb o 0 && eqb w 0
 
--- the kind is one of the thirteen, and the fields that it does not use are 0
+-- the fields that a kind does not use are 0
 abbrev pub keeps : Kind → Fields → Bool
 keeps Read f = all_zero 0 0 f.w
 keeps Write f = true
@@ -100,11 +115,15 @@ keeps EndTransfer f = all_zero f.p f.o f.w
 keeps Fetch f = all_zero 0 0 f.w
 keeps Evict f = all_zero f.p f.o f.w
 keeps Unmap f = all_zero 0 f.o f.w
-keeps Other f = false
+
+-- there is a kind, and the fields that it does not use are 0
+abbrev pub keeps_as : Option Kind → Fields → Bool
+keeps_as None f = false
+keeps_as (Some kind) f = keeps kind f
 
 unfoldable pub step_keeps : List ℕ → ℕ → Bool
 unfolding fields_at step_place
-step_keeps sheet k = keeps (kind_of (fields_at sheet (step_place sheet k)).kind) (fields_at sheet (step_place sheet k))
+step_keeps sheet k = keeps_as (kind_of (fields_at sheet (step_place sheet k)).kind) (fields_at sheet (step_place sheet k))
 
 -- ---- the whole sheet
 
@@ -128,7 +147,7 @@ mapping_call sheet k =
 abbrev pub sent_word : ℕ → ℕ → ℕ
 sent_word w k = (w + k) % 2 ^ 32
 
--- the call of a step; a device read is lent a buffer of zeros. A kind that breaks the sheet stands for no call: here, as an unmap
+-- the call of a step; a device read is lent a buffer of zeros
 abbrev pub call_of : Board → Kind → Fields → Single
 call_of b Read f = call.read f.s f.p f.o
 call_of b Write f = call.write f.s f.p f.o f.w
@@ -143,8 +162,11 @@ call_of b EndTransfer f = call.end_transfer f.s
 call_of b Fetch f = call.fetch f.s f.p f.o
 call_of b Evict f = call.evict f.s
 call_of b Unmap f = call.unmap f.s f.p
-call_of b Other f = call.unmap f.s f.p
+
+-- a number without a kind breaks the sheet and stands for no call: here, for an unmap
+abbrev pub kind_or_unmap : ℕ → Kind
+kind_or_unmap n = unwrap_or (kind_of n) Unmap
 
 unfoldable pub step_call : Board → List ℕ → ℕ → Single
 unfolding fields_at step_place
-step_call b sheet k = call_of b (kind_of (fields_at sheet (step_place sheet k)).kind) (fields_at sheet (step_place sheet k))
+step_call b sheet k = call_of b (kind_or_unmap (fields_at sheet (step_place sheet k)).kind) (fields_at sheet (step_place sheet k))

@@ -3,4 +3,5 @@ pub mod Format
 pub mod Totals
 pub mod Text
 pub mod Put
+pub mod Wrote
 pub mod Theorems

@@ -1,12 +1,10 @@
 -- Document 01, "The run sheet": the lines that are printed, as ASCII codes.
-use Rattle.std.specs.Prelude.{cond, List, [], ◌∷◌, ◌++◌, ℕ, zero, suc, ◌+◌, ◌*◌, ◌/◌, ltb, get_or}
-use Rattle.std.proofs.Math.Option.{Option, none, some}
+use Rattle.std.specs.Prelude.{cond, Option, Some, None, List, [], ◌∷◌, ◌++◌, ℕ, zero, suc, ◌+◌, ◌*◌, ◌/◌, ltb, get_or}
+use Rattle.std.proofs.Math.Option as maybe
 use Rattle.io.specs.Digits.{last_digits}
 use Rattle.manager.specs.Answers as operation
 use Rattle.manager.specs.Answers.{FrameOperation, Outcome, refused, accepted, number_of, first_operation, second_operation}
 use Rattle.machine.specs.State.{Single, Exchange, no_words, word_out, page_out, page_in, part_in, exchange_of, Answer}
-use Rattle.sheet_codec.specs.declared.Shown.{Shown}
-use Rattle.sheet_codec.specs.declared.Shown.TheVariants.{Absent, Word}
 
 -- ---- characters
 
@@ -77,21 +75,26 @@ operation_text (operation.purge_instructions f c) = instruction_letter ∷ (deci
 
 unfoldable pub word_text : Option ℕ → List ℕ
 unfolding decimal
-word_text none = dash ∷ []
-word_text (some word) = decimal word
+word_text None = dash ∷ []
+word_text (Some word) = decimal word
 
 -- the first word of what an accepted device read gave, else none
 abbrev pub first_word : Outcome → List ℕ → Option ℕ
-first_word (refused n) buffer = none
-first_word (accepted f ops) buffer = some (get_or buffer 0 0)
+first_word (refused n) buffer = None
+first_word (accepted f ops) buffer = Some (get_or buffer 0 0)
+
+-- the word of the machine's answer
+abbrev pub shown_word : maybe.Option ℕ → Option ℕ
+shown_word maybe.none = None
+shown_word (maybe.some word) = Some word
 
 -- the word read or fetched, for a device read its first; the word that a device takes
 abbrev pub word_given : Exchange → Answer → Option ℕ
-word_given no_words a = none
-word_given word_out a = a.word
+word_given no_words a = None
+word_given word_out a = shown_word a.word
 word_given (page_out buffer) a = first_word a.outcome a.buffer
-word_given (page_in buffer) a = none
-word_given (part_in number buffer) a = none
+word_given (page_in buffer) a = None
+word_given (part_in number buffer) a = None
 
 abbrev pub word_of : Single → Answer → Option ℕ
 word_of call = word_given (exchange_of call)
@@ -125,9 +128,3 @@ end_line flushes purges = 101 ∷ 110 ∷ 100 ∷ space ∷ (decimal flushes ++ 
 -- `refused 11`
 abbrev pub refused_line : List ℕ
 refused_line = 114 ∷ 101 ∷ 102 ∷ 117 ∷ 115 ∷ 101 ∷ 100 ∷ space ∷ 49 ∷ 49 ∷ newline ∷ []
-
--- ---- what the code holds of an answer
-
-abbrev pub shown_word : Shown → Option ℕ
-shown_word Absent = none
-shown_word (Word word) = some word

@@ -2,7 +2,7 @@
 ghost use Rattle.std.specs.Prelude.{◌≡◌, ◌+◌, ◌*◌, ◌^◌, ◌<◌, ◌≤◌};
 ghost use Rattle.bits.specs.Mask.{all};
 ghost use Rattle.machine.specs.State as call;
-ghost use Rattle.sheet_codec.specs.Format.{byte_at, two_bytes, four_bytes, mapping_count, step_count, mapping_place, mapping_call, most_mappings, count_bytes, step_bytes, head_bytes, step_place, fields_at, kind_of, all_zero, keeps, step_keeps, is_broken};
+ghost use Rattle.sheet_codec.specs.Format.{byte_at, two_bytes, four_bytes, mapping_count, step_count, mapping_place, mapping_call, most_mappings, count_bytes, step_bytes, head_bytes, step_place, fields_at, keeps, step_keeps, is_broken};
 
 use crate::{Fields, Kind};
 use mapping::Mapping;
@@ -38,20 +38,18 @@ pub fn is_broken(sheet: &[u8]) -> bool
     }
     let first = first_step(mappings);
     let length = first + STEP_BYTES * steps;
-    if sheet.len() < length {
-        return true;
-    }
-    if length < sheet.len() {
+    if sheet.len() != length {
         return true;
     }
     !steps_keep(sheet, first, steps)
 }
 
 // How many mappings the sheet says that it has.
+#[tactic(auto, unfolding(crate::specs::Format::mapping_count))]
 pub fn mapping_count(sheet: &[u8]) -> usize
     ensures { result ≡ mapping_count sheet.now }
 {
-    two_bytes(sheet, 0) as usize
+    usize::from(two_bytes(sheet, 0))
 }
 
 // How many steps the sheet says that it has.
@@ -59,10 +57,11 @@ pub fn step_count(sheet: &[u8], mappings: usize) -> usize
     requires { (mappings ≡ mapping_count sheet.now) × (mappings ≤ most_mappings) }
     ensures { result ≡ step_count sheet.now }
 {
-    two_bytes(sheet, COUNT_BYTES + MAPPING_BYTES * mappings) as usize
+    usize::from(two_bytes(sheet, COUNT_BYTES + MAPPING_BYTES * mappings))
 }
 
 // The place of the first step after that many mappings.
+#[tactic(auto, unfolding(crate::specs::Format::mapping_place))]
 pub fn first_step(mappings: usize) -> usize
     requires { mappings ≤ most_mappings }
     ensures { (result ≡ mapping_place mappings + count_bytes) × (result ≤ head_bytes) }
@@ -75,15 +74,16 @@ fn steps_keep(sheet: &[u8], first: usize, count: usize) -> bool
     requires { (first ≡ step_place sheet.now 0) × (first + step_bytes * count < 2 ^ 64) }
     ensures { result ≡ all count (step_keeps sheet.now) }
 {
-    let mut i = 0;
-    while i < count {
-        let f = fields_at(sheet, first + STEP_BYTES * i);
-        if !keeps(kind_of(f.kind), f) {
-            return false;
-        }
-        i += 1;
-    }
-    true
+    (0..count).all(|k| step_keeps(sheet, first, k))
+}
+
+// Whether step k keeps to the format, where the steps start at a place.
+fn step_keeps(sheet: &[u8], first: usize, k: usize) -> bool
+    requires { (first ≡ step_place sheet.now 0) × (first + step_bytes * (k + 1) < 2 ^ 64) }
+    ensures { result ≡ step_keeps sheet.now k }
+{
+    let f = fields_at(sheet, first + STEP_BYTES * k);
+    Kind::try_from(f.kind).is_ok_and(|kind| keeps(kind, f))
 }
 
 // Whether a step of a kind has 0 in the fields that it does not use.
@@ -91,58 +91,19 @@ fn keeps(kind: Kind, f: Fields) -> bool
     ensures { result ≡ keeps kind f }
 {
     match kind {
-        Kind::Read => all_zero(0, 0, f.w),
-        Kind::Write => true,
-        Kind::DeviceRead => all_zero(f.p, f.o, f.w),
-        Kind::DeviceWrite => all_zero(f.p, f.o, 0),
-        Kind::DeviceWritePart => true,
-        Kind::BeginRead => all_zero(f.p, f.o, f.w),
-        Kind::BeginWrite => all_zero(f.p, f.o, f.w),
-        Kind::BringWord => all_zero(f.p, 0, 0),
-        Kind::TakeWord => all_zero(f.p, 0, f.w),
-        Kind::EndTransfer => all_zero(f.p, f.o, f.w),
-        Kind::Fetch => all_zero(0, 0, f.w),
-        Kind::Evict => all_zero(f.p, f.o, f.w),
-        Kind::Unmap => all_zero(0, f.o, f.w),
-        Kind::Other => false,
-    }
-}
-
-fn all_zero(p: u16, o: u8, w: u32) -> bool
-    ensures { result ≡ all_zero p o w }
-{
-    if p != 0 {
-        return false;
-    }
-    if o != 0 {
-        return false;
-    }
-    w == 0
-}
-
-// The kind that a number stands for.
-pub fn kind_of(n: u8) -> Kind
-    ensures { result ≡ kind_of n }
-{
-    match n {
-        1 => Kind::Read,
-        2 => Kind::Write,
-        3 => Kind::DeviceRead,
-        4 => Kind::DeviceWrite,
-        5 => Kind::Evict,
-        6 => Kind::Unmap,
-        7 => Kind::DeviceWritePart,
-        8 => Kind::BeginRead,
-        9 => Kind::BeginWrite,
-        10 => Kind::BringWord,
-        11 => Kind::TakeWord,
-        12 => Kind::EndTransfer,
-        13 => Kind::Fetch,
-        _ => Kind::Other,
+        Kind::Write | Kind::DeviceWritePart => true,
+        Kind::Read | Kind::Fetch => f.w == 0,
+        Kind::BringWord => f.p == 0,
+        Kind::DeviceWrite => f.p == 0 && f.o == 0,
+        Kind::TakeWord => f.p == 0 && f.w == 0,
+        Kind::Unmap => f.o == 0 && f.w == 0,
+        Kind::DeviceRead | Kind::BeginRead | Kind::BeginWrite | Kind::EndTransfer | Kind::Evict =>
+            f.p == 0 && f.o == 0 && f.w == 0,
     }
 }
 
 // The fields of the step at a place.
+#[tactic(auto, unfolding(crate::specs::Format::fields_at))]
 pub fn fields_at(sheet: &[u8], at: usize) -> Fields
     requires { at + step_bytes < 2 ^ 64 }
     ensures { result ≡ fields_at sheet.now at }
@@ -157,6 +118,7 @@ pub fn fields_at(sheet: &[u8], at: usize) -> Fields
 }
 
 // Mapping k.
+#[tactic(auto, unfolding(crate::specs::Format::mapping_call))]
 pub fn mapping_at(sheet: &[u8], k: usize) -> Mapping
     requires { k < most_mappings }
     ensures { call.map result.space result.page result.frame result.rights ≡ mapping_call sheet.now k }
@@ -171,31 +133,32 @@ pub fn mapping_at(sheet: &[u8], k: usize) -> Mapping
 }
 
 // The number of four bytes at a place, low byte first.
+#[tactic(auto, unfolding(crate::specs::Format::two_bytes, crate::specs::Format::four_bytes))]
 fn four_bytes(sheet: &[u8], at: usize) -> u32
     requires { at + 4 < 2 ^ 64 }
     ensures { result ≡ four_bytes sheet.now at }
 {
-    let low = two_bytes(sheet, at) as u32;
-    let high = two_bytes(sheet, at + 2) as u32;
-    low + 65536 * high
+    u32::from_le_bytes([
+        byte_at(sheet, at),
+        byte_at(sheet, at + 1),
+        byte_at(sheet, at + 2),
+        byte_at(sheet, at + 3),
+    ])
 }
 
 // The number of two bytes at a place, low byte first.
+#[tactic(auto, unfolding(crate::specs::Format::two_bytes))]
 fn two_bytes(sheet: &[u8], at: usize) -> u16
     requires { at + 2 < 2 ^ 64 }
     ensures { result ≡ two_bytes sheet.now at }
 {
-    let low = byte_at(sheet, at) as u16;
-    let high = byte_at(sheet, at + 1) as u16;
-    low + 256 * high
+    u16::from_le_bytes([byte_at(sheet, at), byte_at(sheet, at + 1)])
 }
 
 // The byte at a place, 0 past the end.
+#[tactic(auto, unfolding(crate::specs::Format::byte_at))]
 fn byte_at(sheet: &[u8], at: usize) -> u8
     ensures { result ≡ byte_at sheet.now at }
 {
-    if at < sheet.len() {
-        return sheet[at];
-    }
-    0
+    sheet.get(at).copied().unwrap_or(0)
 }

@@ -1,11 +1,11 @@
 // The lines of text, written into a lent buffer from a place on. Each function answers the place after what it wrote.
-ghost use Rattle.std.specs.Prelude.{[], ◌∷◌, ◌++◌, ◌+◌, ◌<◌, ◌≤◌, length};
+ghost use Rattle.std.specs.Prelude.{[], ◌∷◌, ◌++◌, ◌+◌, ◌≤◌, length};
 ghost use Rattle.manager.specs.Answers.{operation_on, outcome};
 ghost use Rattle.sheet_codec.specs.Put.{Put};
-ghost use Rattle.sheet_codec.specs.Text.{number_bytes, operation_bytes, answer_bytes, line_bytes, dot, decimal, operation_text, word_text, shown_word, mapping_line, answer_text, step_line, end_line, refused_line};
+ghost use Rattle.sheet_codec.specs.Text.{number_bytes, operation_bytes, answer_bytes, line_bytes, dot, decimal, operation_text, word_text, mapping_line, answer_text, step_line, end_line, refused_line};
 
-use crate::{Shown, answers};
-use manager::Answer;
+use crate::answers;
+use manager::{Answer, FrameOps};
 use page_model::Op;
 
 // The room of a line, and of a number in it.
@@ -18,24 +18,28 @@ pub fn mapping_line(text: &mut [u8], at: usize, k: usize, number: u8) -> usize
     requires { at + line_bytes ≤ length text.old }
     ensures { Put text.old at (mapping_line k number) line_bytes text.new result }
 {
-    let a = put_byte(text, at, b'm');
-    let b = put_number(text, a, k as u64);
-    let c = put_byte(text, b, b' ');
-    let d = put_number(text, c, number as u64);
-    put_byte(text, d, b'\n')
+    let mut line = Line { text, at };
+    line.byte(b'm');
+    line.number(k as u64);
+    line.byte(b' ');
+    line.number(u64::from(number));
+    line.byte(b'\n');
+    line.at
 }
 
 // The line of a step.
-pub fn step_line(text: &mut [u8], at: usize, k: usize, answer: Answer, shown: Shown) -> usize
+pub fn step_line(text: &mut [u8], at: usize, k: usize, answer: Answer, shown: Option<u32>) -> usize
     requires { at + line_bytes ≤ length text.old }
-    ensures { Put text.old at (step_line k (outcome answer) (shown_word shown)) line_bytes text.new result }
+    ensures { Put text.old at (step_line k (outcome answer) shown) line_bytes text.new result }
 {
-    let a = put_number(text, at, k as u64);
-    let b = put_byte(text, a, b' ');
-    let c = put_answer(text, b, answer);
-    let d = put_byte(text, c, b' ');
-    let e = put_word(text, d, shown);
-    put_byte(text, e, b'\n')
+    let mut line = Line { text, at };
+    line.number(k as u64);
+    line.byte(b' ');
+    line.answer(answer);
+    line.byte(b' ');
+    line.word(shown);
+    line.byte(b'\n');
+    line.at
 }
 
 // The last line.
@@ -43,11 +47,13 @@ pub fn end_line(text: &mut [u8], at: usize, flushes: u64, purges: u64) -> usize
     requires { at + line_bytes ≤ length text.old }
     ensures { Put text.old at (end_line flushes purges) line_bytes text.new result }
 {
-    let a = put_bytes(text, at, b"end ");
-    let b = put_number(text, a, flushes);
-    let c = put_byte(text, b, b' ');
-    let d = put_number(text, c, purges);
-    put_byte(text, d, b'\n')
+    let mut line = Line { text, at };
+    line.bytes(b"end ");
+    line.number(flushes);
+    line.byte(b' ');
+    line.number(purges);
+    line.byte(b'\n');
+    line.at
 }
 
 // The line of a broken sheet.
@@ -55,90 +61,95 @@ pub fn refused_line(text: &mut [u8], at: usize) -> usize
     requires { at + line_bytes ≤ length text.old }
     ensures { Put text.old at refused_line line_bytes text.new result }
 {
-    put_bytes(text, at, b"refused 11\n")
+    let mut line = Line { text, at };
+    line.bytes(b"refused 11\n");
+    line.at
 }
 
-// The refusal's number, or 0, and the two operations.
-fn put_answer(text: &mut [u8], at: usize, answer: Answer) -> usize
-    requires { at + answer_bytes ≤ length text.old }
-    ensures { Put text.old at (answer_text (outcome answer)) answer_bytes text.new result }
-{
-    let number = answers::number_of(answer);
-    let operations = answers::operations_of(answer);
-    let frame = operations.frame;
-    let ops = operations.ops;
-    let first = ops.first;
-    let second = ops.second;
-    let a = put_number(text, at, number as u64);
-    let b = put_byte(text, a, b' ');
-    let c = put_operation(text, b, frame, first);
-    let d = put_byte(text, c, b' ');
-    put_operation(text, d, frame, second)
+// A lent buffer, and the place where it is written next.
+#[derive(Drop)]
+struct Line<'a> {
+    text: &'a mut [u8],
+    at: usize,
 }
 
-// A word, or a dash.
-fn put_word(text: &mut [u8], at: usize, shown: Shown) -> usize
-    requires { at + number_bytes ≤ length text.old }
-    ensures { Put text.old at (word_text (shown_word shown)) number_bytes text.new result }
-{
-    match shown {
-        Shown::Absent => put_byte(text, at, b'-'),
-        Shown::Word(word) => put_number(text, at, word as u64),
+impl Line<'_> {
+    ghost use Rattle.sheet_codec.specs.Wrote.{Wrote, HasRoom};
+
+    // The refusal's number, or 0, and the two operations.
+    fn answer(&mut self, answer: Answer)
+        requires { HasRoom self.old answer_bytes }
+        ensures { Wrote self.old (answer_text (outcome answer)) answer_bytes self.new }
+    {
+        let FrameOps { frame, ops } = answers::operations_of(answer);
+        self.number(u64::from(answers::number_of(answer)));
+        self.byte(b' ');
+        self.operation(frame, ops.first);
+        self.byte(b' ');
+        self.operation(frame, ops.second);
     }
-}
 
-// An operation on a frame: F, P or I, the frame, a dot, the colour; or a dash.
-fn put_operation(text: &mut [u8], at: usize, frame: u8, op: Op) -> usize
-    requires { at + operation_bytes ≤ length text.old }
-    ensures { Put text.old at (operation_text (operation_on frame op)) operation_bytes text.new result }
-{
-    match op {
-        Op::None => put_byte(text, at, b'-'),
-        Op::Flush(colour) => put_operation_on(text, at, b'F', frame, colour),
-        Op::Purge(colour) => put_operation_on(text, at, b'P', frame, colour),
-        Op::PurgeInstructions(colour) => put_operation_on(text, at, b'I', frame, colour),
+    // A word, or a dash.
+    fn word(&mut self, shown: Option<u32>)
+        requires { HasRoom self.old number_bytes }
+        ensures { Wrote self.old (word_text shown) number_bytes self.new }
+    {
+        match shown {
+            Some(word) => self.number(u64::from(word)),
+            None => self.byte(b'-'),
+        }
     }
-}
 
-// A letter, the frame, a dot, the colour.
-fn put_operation_on(text: &mut [u8], at: usize, letter: u8, frame: u8, colour: usize) -> usize
-    requires { at + operation_bytes ≤ length text.old }
-    ensures { Put text.old at (letter ∷ (decimal frame ++ (dot ∷ decimal colour))) operation_bytes text.new result }
-{
-    let a = put_byte(text, at, letter);
-    let b = put_number(text, a, frame as u64);
-    let c = put_byte(text, b, b'.');
-    put_number(text, c, colour as u64)
-}
-
-// A number in decimal digits.
-fn put_number(text: &mut [u8], at: usize, n: u64) -> usize
-    requires { at + number_bytes ≤ length text.old }
-    ensures { Put text.old at (decimal n) number_bytes text.new result }
-{
-    let mut digits = [0u8; NUMBER_BYTES];
-    let k = io::decimal(n, &mut digits);
-    put_bytes(text, at, &digits[..k])
-}
-
-// The bytes of a slice.
-fn put_bytes(text: &mut [u8], at: usize, from: &[u8]) -> usize
-    requires { at + length from.now ≤ length text.old }
-    ensures { Put text.old at from.now (length from.now) text.new result }
-{
-    let mut i = 0;
-    while i < from.len() {
-        text[at + i] = from[i];
-        i += 1;
+    // An operation on a frame: F, P or I, the frame, a dot, the colour; or a dash.
+    fn operation(&mut self, frame: u8, op: Op)
+        requires { HasRoom self.old operation_bytes }
+        ensures { Wrote self.old (operation_text (operation_on frame op)) operation_bytes self.new }
+    {
+        match op {
+            Op::None => self.byte(b'-'),
+            Op::Flush(colour) => self.operation_on(b'F', frame, colour),
+            Op::Purge(colour) => self.operation_on(b'P', frame, colour),
+            Op::PurgeInstructions(colour) => self.operation_on(b'I', frame, colour),
+        }
     }
-    at + i
-}
 
-// One byte.
-fn put_byte(text: &mut [u8], at: usize, byte: u8) -> usize
-    requires { at < length text.old }
-    ensures { Put text.old at (byte ∷ []) 1 text.new result }
-{
-    text[at] = byte;
-    at + 1
+    // A letter, the frame, a dot, the colour.
+    fn operation_on(&mut self, letter: u8, frame: u8, colour: usize)
+        requires { HasRoom self.old operation_bytes }
+        ensures { Wrote self.old (letter ∷ (decimal frame ++ (dot ∷ decimal colour))) operation_bytes self.new }
+    {
+        self.byte(letter);
+        self.number(u64::from(frame));
+        self.byte(b'.');
+        self.number(colour as u64);
+    }
+
+    // A number in decimal digits.
+    fn number(&mut self, n: u64)
+        requires { HasRoom self.old number_bytes }
+        ensures { Wrote self.old (decimal n) number_bytes self.new }
+    {
+        let mut digits = [0u8; NUMBER_BYTES];
+        let k = io::decimal(n, &mut digits);
+        self.bytes(&digits[..k]);
+    }
+
+    // The bytes of a slice.
+    fn bytes(&mut self, from: &[u8])
+        requires { HasRoom self.old (length from.now) }
+        ensures { Wrote self.old from.now (length from.now) self.new }
+    {
+        let end = self.at + from.len();
+        self.text[self.at..end].copy_from_slice(from);
+        self.at = end;
+    }
+
+    // One byte.
+    fn byte(&mut self, byte: u8)
+        requires { HasRoom self.old 1 }
+        ensures { Wrote self.old (byte ∷ []) 1 self.new }
+    {
+        self.text[self.at] = byte;
+        self.at += 1;
+    }
 }

@@ -3,7 +3,7 @@ use mathlib.Core.Path.{◌≡◌, refl, sym, ap, ◌∙◌}
 use mathlib.Core.Bool.{Bool, true, false, ◌&&◌}
 use mathlib.Core.List.{List, [], ◌∷◌}
 use mathlib.Core.Logic.{◌≢◌}
-use Prim.Native.Nat.{ℕ, ◌+◌, ◌≤◌, ◌<◌}
+use Prim.Native.Nat.{ℕ, zero, suc, ◌+◌, ◌≤◌, ◌<◌}
 use native.Mathlib.Omega.{arith}
 use borrow.Author.Tests.{lt-ltb, le-ltb, ltb-false}
 use lib.Dec.{ltb}
@@ -15,19 +15,6 @@ use Rattle.tariff.specs.Accounts.{limit, balance, overdrawn, charged}
 use Rattle.tariff.specs.Tariff.{OrderSet, none, flush, purge, both, tariff, kind_number, set_number}
 
 -- ---- the table
-
-pub kind_below : (kind : ChargeKind) → kind_number kind < 5
-kind_below Read = omega arith
-kind_below Write = omega arith
-kind_below Fetch = omega arith
-kind_below DeviceRead = omega arith
-kind_below DeviceWrite = omega arith
-
-pub set_below : (s : OrderSet) → set_number s < 4
-set_below none = omega arith
-set_below flush = omega arith
-set_below purge = omega arith
-set_below both = omega arith
 
 -- a row of the code's table is that of the tariff
 abbrev row : ChargeKind → List ℕ
@@ -94,6 +81,11 @@ within held cycles h = go (ltb 0 cycles)
 pub not_overdrawn : (held cycles : ℕ) → overdrawn held cycles ≡ false → 0 < cycles → held + cycles ≤ limit
 unfolding overdrawn
 not_overdrawn held cycles e some = ltb-false limit (held + cycles) (sym (ap (λ (t : Bool). t && ltb limit (held + cycles)) (lt-ltb 0 cycles some)) ∙ e)
+
+-- so its sum with what the account holds fits a word
+pub fits : (held cycles : ℕ) → held < 4294967296 → overdrawn held cycles ≡ false → held + cycles < 4294967296
+fits held zero h e = omega arith
+fits held (suc n) h e = let l = not_overdrawn held (suc n) e (omega arith) in omega arith
 
 -- ---- what a charge leaves
 

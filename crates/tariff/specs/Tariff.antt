@@ -61,7 +61,7 @@ order_set ops = set_of (is_flush ops.first || is_flush ops.second) (is_purge ops
 unfoldable pub charge : ChargeKind → Ops → ℕ
 charge kind ops = tariff kind (order_set ops)
 
--- ---- rows and columns as the code counts them, from 0 in the table's order
+-- ---- rows and columns of the code's table, counted from 0
 
 abbrev pub kind_number : ChargeKind → ℕ
 kind_number Read = 0

@@ -3,12 +3,12 @@
 
 ghost use Rattle.std.specs.Prelude.{◌≡◌, false, ◌||◌, ◌<◌, length};
 ghost use Rattle.tariff.specs.Accounts.{balance, overdrawn, charged};
-ghost use Rattle.tariff.specs.Tariff.{is_flush, is_purge, charge, set_of, order_set, kind_number, set_number};
+ghost use Rattle.tariff.specs.Tariff.{is_flush, is_purge, charge, kind_number};
 
 use page_model::{Op, Ops};
 
 // For what a step is charged: the rows of the tariff. A begin of a transfer is charged as the transfer is, and a part as a device's write.
-#[derive(Clone, Copy)]
+#[derive(Clone, Copy, Debug, PartialEq, Eq)]
 pub enum ChargeKind {
     Read,
     Write,
@@ -42,6 +42,7 @@ pub fn lacks_room(accounts: &[u32], account: usize, kind: ChargeKind, ops: Ops) 
 }
 
 // Charges an account for a step with these orders.
+#[tactic(auto, using(crate::proofs::Laws::fits), unfolding(crate::specs::Accounts::charged))]
 pub fn pay(accounts: &mut [u32], account: usize, kind: ChargeKind, ops: Ops)
     requires { (account < length accounts.old) × (overdrawn (balance accounts.old account) (charge kind ops) ≡ false) }
     ensures { accounts.new ≡ charged accounts.old account (charge kind ops) }
@@ -51,99 +52,55 @@ pub fn pay(accounts: &mut [u32], account: usize, kind: ChargeKind, ops: Ops)
 }
 
 // What a step with these orders costs.
+#[tactic(auto, using(crate::proofs::Laws::cell), unfolding(crate::specs::Tariff::charge))]
 fn charge(kind: ChargeKind, ops: Ops) -> u32
     ensures { result ≡ charge kind ops }
 {
-    let row = row_of(kind);
-    let column = column_of(ops);
-    TARIFF[row][column]
-}
-
-// What an account holds.
-fn balance(accounts: &[u32], account: usize) -> u32
-    ensures { result ≡ balance accounts.now account }
-{
-    if account < accounts.len() {
-        accounts[account]
-    } else {
-        0
+    let [none, flush, purge, both] = TARIFF[row_of(kind)];
+    match (has_flush(ops), has_purge(ops)) {
+        (false, false) => none,
+        (true, false) => flush,
+        (false, true) => purge,
+        (true, true) => both,
     }
-}
-
-// Whether a charge above 0 would take an account that holds so much past the limit.
-fn overdrawn(held: u32, cycles: u32) -> bool
-    ensures { result ≡ overdrawn held cycles }
-{
-    let sum = wide(held) + wide(cycles);
-    (cycles > 0) & (sum > LIMIT)
-}
-
-fn wide(cycles: u32) -> u64
-    ensures { result ≡ cycles }
-{
-    cycles as u64
 }
 
 // The row of a kind of charge.
 fn row_of(kind: ChargeKind) -> usize
     ensures { result ≡ kind_number kind }
 {
-    match kind {
-        ChargeKind::Read => 0,
-        ChargeKind::Write => 1,
-        ChargeKind::Fetch => 2,
-        ChargeKind::DeviceRead => 3,
-        ChargeKind::DeviceWrite => 4,
-    }
+    kind as usize
 }
 
-// The column of some orders.
-fn column_of(ops: Ops) -> usize
-    ensures { result ≡ set_number (order_set ops) }
+// Whether there is a flush among some orders.
+fn has_flush(ops: Ops) -> bool
+    ensures { result ≡ (is_flush ops.first || is_flush ops.second) }
 {
-    let first = ops.first;
-    let second = ops.second;
-    column(
-        is_flush(first) | is_flush(second),
-        is_purge(first) | is_purge(second),
-    )
+    [ops.first, ops.second]
+        .iter()
+        .any(|op| matches!(op, Op::Flush(_)))
 }
 
-// The column of orders with a flush among them or none, and a purge or none.
-fn column(flush: bool, purge: bool) -> usize
-    ensures { result ≡ set_number (set_of flush purge) }
+// Whether there is a purge among them, in either cache.
+fn has_purge(ops: Ops) -> bool
+    ensures { result ≡ (is_purge ops.first || is_purge ops.second) }
 {
-    if flush {
-        if purge {
-            return 3;
-        }
-        return 1;
-    }
-    if purge {
-        return 2;
-    }
-    0
+    [ops.first, ops.second]
+        .iter()
+        .any(|op| matches!(op, Op::Purge(_) | Op::PurgeInstructions(_)))
 }
 
-fn is_flush(op: Op) -> bool
-    ensures { result ≡ is_flush op }
+// What an account holds; one that is not there holds 0.
+fn balance(accounts: &[u32], account: usize) -> u32
+    ensures { result ≡ balance accounts.now account }
 {
-    match op {
-        Op::None => false,
-        Op::Flush(_) => true,
-        Op::Purge(_) => false,
-        Op::PurgeInstructions(_) => false,
-    }
+    accounts.get(account).copied().unwrap_or(0)
 }
 
-// A purge in either cache.
-fn is_purge(op: Op) -> bool
-    ensures { result ≡ is_purge op }
+// Whether a charge above 0 would take an account that holds so much past the limit.
+#[tactic(auto, unfolding(crate::specs::Accounts::overdrawn))]
+fn overdrawn(held: u32, cycles: u32) -> bool
+    ensures { result ≡ overdrawn held cycles }
 {
-    match op {
-        Op::None => false,
-        Op::Flush(_) => false,
-        Op::Purge(_) => true,
-        Op::PurgeInstructions(_) => true,
-    }
+    cycles > 0 && u64::from(held) + u64::from(cycles) > LIMIT
 }

@@ -9,10 +9,14 @@ use native.Mathlib.Decide.{dec_lt}
 use lib.Dec.{eqb, ltb}
 use lib.ListN.{length, get_or, set}
 use borrow.Author.Tests.{le-leb, lt-leb, leb-true, eq-eqb, ne_eqb, eqb-true, lt-ltb, le-ltb, ltb-true}
+use Rattle.std.specs.List.{list_all, enumerate_from}
+use Rattle.std.proofs.Common.{add-one}
 use Rattle.board.specs.declared.Board.{Board}
 use Rattle.board.specs.Board.{Regular, data_lines}
 use Rattle.cache.specs.Cache.{FlushKind, leaving, emptying, flushed_tag}
-use Rattle.cache.specs.Tag.{empty_tag, clean_tag, dirty_tag, is_dirty_tag, names, frame_of, tag_keeps_rules, line_keeps_rules, tags_from, tags_keep_rules}
+use Rattle.cache.specs.declared.tag.Tag.{Tag}
+use Rattle.cache.specs.declared.tag.Tag.TheVariants.{Empty, Clean, Dirty}
+use Rattle.cache.specs.Tag.{Says, empty_tag, clean_tag, dirty_tag, is_dirty_tag, names, frame_of, tag_keeps_rules, line_keeps_rules, tags_from, tags_keep_rules}
 
 and_left : (a b : Bool) → (a && b) ≡ true → a ≡ true
 and_left true b e = refl
@@ -46,6 +50,13 @@ frame_of_dirty f = rw (is_dirty_tag_dirty f) (omega arith)
 pub dirty_frame : (tag : ℕ) → is_dirty_tag tag ≡ true → tag ≡ dirty_tag (frame_of tag)
 unfolding is_dirty_tag frame_of
 dirty_frame tag e = let h = leb-true 129 tag e in rw e (omega arith)
+
+-- a byte that says no dirty tag
+pub says_not_dirty : (byte : ℕ) (tag : Tag) → Says byte tag → ((f : ℕ) → tag ≡ Dirty f → ⊥) → is_dirty_tag byte ≡ false
+unfolding is_dirty_tag
+says_not_dirty byte Empty e h = lt-leb 129 byte (omega arith)
+says_not_dirty byte (Clean f) e h = lt-leb 129 byte e.1
+says_not_dirty byte (Dirty f) e h = absurd (h f refl)
 
 pub names_clean : (f : ℕ) → names (clean_tag f) f ≡ true
 unfolding names
@@ -198,6 +209,15 @@ module _ (b : Board) (reg : Regular b) where
   unfolding tags_keep_rules
   rules_line tags n e = renamed (get_or tags n 0) (omega arith) (from_at 0 tags n e)
 
+  in_turn : (m : ℕ) (tags : List ℕ) → list_all (λ p. line_keeps_rules b p.0 p.1) (enumerate_from m tags) ≡ tags_from b m tags
+  unfolding tags_from
+  in_turn m [] = refl
+  in_turn m (tag ∷ tags) = rw add-one (ap (λ (t : Bool). line_keeps_rules b m tag && t) (in_turn (suc m) tags))
+
+  pub rules_in_turn : (tags : List ℕ) → list_all (λ p. line_keeps_rules b p.0 p.1) (enumerate_from 0 tags) ≡ tags_keep_rules b tags
+  unfolding tags_keep_rules
+  rules_in_turn tags = in_turn 0 tags
+
   pub rules_at : (tags : List ℕ) (n : ℕ) → tags_keep_rules b tags ≡ true → tag_keeps_rules b (get_or tags n 0) ≡ true
   rules_at tags n e = line_tag n (get_or tags n 0) (rules_line tags n e)
 
@@ -211,14 +231,6 @@ module _ (b : Board) (reg : Regular b) where
   pub rules_set : (tags : List ℕ) (n tag : ℕ) → tags_keep_rules b tags ≡ true → line_keeps_rules b n tag ≡ true → tags_keep_rules b (set tags n tag) ≡ true
   unfolding tags_keep_rules
   rules_set tags n tag e k = from_set 0 tags n tag e (renamed tag (omega arith) k)
-
-  -- one line's tag that breaks the rules breaks those of all
-  pub rules_break : (tags : List ℕ) (n : ℕ) → line_keeps_rules b n (get_or tags n 0) ≡ false → tags_keep_rules b tags ≡ false
-  rules_break tags n e = go (tags_keep_rules b tags) refl
-    where
-      go : (t : Bool) → tags_keep_rules b tags ≡ t → tags_keep_rules b tags ≡ false
-      go false h = h
-      go true h = absurd (true≢false (sym (rules_line tags n h) ∙ e))
 
   -- the rule of a tag as one comparison
   pub rules_below : (tag : ℕ) → is_dirty_tag tag ≡ false → tag_keeps_rules b tag ≡ ltb tag (clean_tag b.frames)

@@ -4,8 +4,9 @@ use Rattle.board.specs.Board.{board01}
 use Rattle.board.proofs.Geometry.{board01_regular}
 use Rattle.manager.specs.Calls.{commit_map}
 use Rattle.manager.specs.Tables.{tables}
+use Rattle.machine.specs.State.{machine_of, map}
 use Rattle.machine.proofs.PlanLaws.{map_planned}
-use Rattle.machine.proofs.StepLaws.{placed_refused, placed_made}
+use Rattle.machine.proofs.StepLaws.{plan_refused, listed_refused, placed_made}
 use Rattle.machine.proofs.map.Goals as goal
 
 pub store_refusal-own-requires : goal.store_refusal-own-requires
@@ -14,15 +15,18 @@ store_refusal-own-requires c = board01_regular
 pub plan_map-managers-requires : goal.plan_map-managers-requires
 plan_map-managers-requires c = board01_regular
 
-pub returns-in_default : goal.returns-in_default
-returns-in_default c =
+pub returns-in_err-place : goal.returns-in_err-place
+returns-in_err-place c =
     let a = c.args in
-    placed_refused _ _ _ _ (map_planned board01 _ a.m.space a.m.page a.m.frame a.m.rights c.with_place-plan.ensures c.store_refusal-own.ensures c.plan_map-managers.ensures) c.in_default.is c.place_refusal.ensures
-    c.refused_as.ensures.0 c.refused_as.ensures.1
+    let call = map a.m.space a.m.page a.m.frame a.m.rights in
+    let st = (machine_of a.list a.records.now a.protections.now a.memory.now a.words.now a.tags.now) in
+    listed_refused board01 st call _ _ refl
+    (plan_refused board01 st call _ _ (map_planned board01 st a.m.space a.m.page a.m.frame a.m.rights c.in_err-place.ensures.plan c.store_refusal-own.ensures c.plan_map-managers.ensures)) c.from_residual.ensures.1
 
 pub returns : goal.returns
 returns c =
     let a = c.args in
-    placed_made _ _ _ _ (sym (map_planned board01 _ a.m.space a.m.page a.m.frame a.m.rights c.with_place-plan.ensures c.store_refusal-own.ensures c.plan_map-managers.ensures) ∙ c.in-Place.is)
-    (λ at. commit_map board01 (tables a.list a.records.now a.protections.now) at a.m) refl refl refl
-    c.listed_as.ensures.0 c.listed_as.ensures.1 (c.commit_map.ensures board01 refl)
+    let call = map a.m.space a.m.page a.m.frame a.m.rights in
+    let st = (machine_of a.list a.records.now a.protections.now a.memory.now a.words.now a.tags.now) in
+    placed_made board01 st call _ (sym (map_planned board01 st a.m.space a.m.page a.m.frame a.m.rights c.in_ok-place.ensures.plan c.store_refusal-own.ensures c.plan_map-managers.ensures))
+    (λ at. commit_map board01 (tables a.list a.records.now a.protections.now) at a.m) refl refl refl (c.commit_map.ensures board01 refl)

@@ -7,6 +7,7 @@ use Rattle.board.proofs.Geometry.{board01_regular}
 use Rattle.mapping.specs.Batch.{items_of}
 use Rattle.mapping.specs.Entry.{zero_mapping}
 use Rattle.mapping.proofs.Laws.{items_length}
+use Rattle.manager.specs.Answers.{refusal_in}
 use Rattle.manager.specs.Scaffold.Inserted.{batch_made}
 use Rattle.manager.specs.Refusals.{first_refusal, table_causes}
 use Rattle.manager.specs.Tables.{tables}
@@ -20,9 +21,9 @@ use Rattle.machine.proofs.PlanLaws.{lent_refused}
 use Rattle.machine.proofs.map_all.Goals as goal
 
 -- the refusal in all that is lent
-told : (c : goal.After-map_batch-arg-2-1) → let st = (let a = c.args in machine_of a.list a.records.now a.protections.now a.memory.now a.words.now a.tags.now) in c.earlier-lent.result ≡ earlier (first_refusal (store_causes board01 st.store true)) (first_refusal (table_causes board01 st.tables))
+told : (c : goal.After-map_batch-arg-2-1) → let st = (let a = c.args in machine_of a.list a.records.now a.protections.now a.memory.now a.words.now a.tags.now) in refusal_in c.earlier-lent.result ≡ earlier (first_refusal (store_causes board01 st.store true)) (first_refusal (table_causes board01 st.tables))
 told c =
-    lent_refused board01 ((let a = c.args in machine_of a.list a.records.now a.protections.now a.memory.now a.words.now a.tags.now)) (items_length c.args.list _ c.well_formed.0) c.keeps_rules-kept.ensures c.earlier-lent.ensures c.store_refusal-own.ensures c.tables_refusal-managers.ensures
+    lent_refused board01 ((let a = c.args in machine_of a.list a.records.now a.protections.now a.memory.now a.words.now a.tags.now)) (items_length c.args.list _ c.well_formed.0) c.keeps_rules-kept.ensures c.earlier-lent.ensures.refusal c.store_refusal-own.ensures c.tables_refusal-managers.ensures
 
 pub store_refusal-own-requires : goal.store_refusal-own-requires
 store_refusal-own-requires c = board01_regular
@@ -42,5 +43,5 @@ returns c =
     let st = (let a = c.args in machine_of a.list a.records.now a.protections.now a.memory.now a.words.now a.tags.now) in
     let items = items_of a.batch in
     ap (beside st.store) (c.map_batch.ensures
-    ∙ ap (λ (lent : ℕ). batch_made board01 lent st.tables items a.answers.now) (lent_refused board01 (let a = c.args in machine_of a.list a.records.now a.protections.now a.memory.now a.words.now a.tags.now) (items_length c.args.list _ c.well_formed.0) c.keeps_rules-kept.ensures c.earlier-lent.ensures c.store_refusal-own.ensures c.tables_refusal-managers.ensures ∙ sym (lent_merged board01 st (map_of zero_mapping))))
+    ∙ ap (λ (lent : ℕ). batch_made board01 lent st.tables items a.answers.now) (lent_refused board01 (let a = c.args in machine_of a.list a.records.now a.protections.now a.memory.now a.words.now a.tags.now) (items_length c.args.list _ c.well_formed.0) c.keeps_rules-kept.ensures c.earlier-lent.ensures.refusal c.store_refusal-own.ensures c.tables_refusal-managers.ensures ∙ sym (lent_merged board01 st (map_of zero_mapping))))
     ∙ map_all_performed board01 st items a.answers.now

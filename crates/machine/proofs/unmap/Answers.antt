@@ -3,8 +3,10 @@ use mathlib.Core.Path.{refl, sym, ◌∙◌}
 use Rattle.board.specs.Board.{board01}
 use Rattle.board.proofs.Geometry.{board01_regular}
 use Rattle.manager.specs.Calls.{commit_unmap}
+use Rattle.manager.specs.Tables.{tables}
+use Rattle.machine.specs.State.{machine_of, unmap}
 use Rattle.machine.proofs.PlanLaws.{unmap_planned}
-use Rattle.machine.proofs.StepLaws.{placed_refused, placed_made}
+use Rattle.machine.proofs.StepLaws.{plan_refused, listed_refused, placed_made}
 use Rattle.machine.proofs.unmap.Goals as goal
 
 pub store_refusal-own-requires : goal.store_refusal-own-requires
@@ -13,14 +15,18 @@ store_refusal-own-requires c = board01_regular
 pub plan_unmap-managers-requires : goal.plan_unmap-managers-requires
 plan_unmap-managers-requires c = board01_regular
 
-pub returns-in_default : goal.returns-in_default
-returns-in_default c =
+pub returns-in_err-place : goal.returns-in_err-place
+returns-in_err-place c =
     let a = c.args in
-    placed_refused _ _ _ _ (unmap_planned board01 _ a.space a.page c.with_place-plan.ensures c.store_refusal-own.ensures c.plan_unmap-managers.ensures) c.in_default.is c.place_refusal.ensures
-    c.refused_as.ensures.0 c.refused_as.ensures.1
+    let call = unmap a.space a.page in
+    let st = (machine_of a.list a.records.now a.protections.now a.memory.now a.words.now a.tags.now) in
+    listed_refused board01 st call _ _ refl
+    (plan_refused board01 st call _ _ (unmap_planned board01 st a.space a.page c.in_err-place.ensures.plan c.store_refusal-own.ensures c.plan_unmap-managers.ensures)) c.from_residual.ensures.1
 
 pub returns : goal.returns
 returns c =
     let a = c.args in
-    placed_made _ _ _ _ (sym (unmap_planned board01 _ a.space a.page c.with_place-plan.ensures c.store_refusal-own.ensures c.plan_unmap-managers.ensures) ∙ c.in-Place.is) (commit_unmap board01 _) refl refl refl
-    c.listed_as.ensures.0 c.listed_as.ensures.1 (c.commit_unmap.ensures board01 refl)
+    let call = unmap a.space a.page in
+    let st = (machine_of a.list a.records.now a.protections.now a.memory.now a.words.now a.tags.now) in
+    placed_made board01 st call _ (sym (unmap_planned board01 st a.space a.page c.in_ok-place.ensures.plan c.store_refusal-own.ensures c.plan_unmap-managers.ensures))
+    (commit_unmap board01 (tables a.list a.records.now a.protections.now)) refl refl refl (c.commit_unmap.ensures board01 refl)

@@ -1,12 +1,9 @@
 -- How the code plans a single call: it finds the machine's own refusal and the manager's plan, and gives the refusal that stands earlier in the order.
-use Rattle.std.specs.Prelude.{Bool, true, false, not, cond, ◌&&◌, List, [], ◌∷◌, ◌++◌, ℕ, zero, suc, leb}
+use Rattle.std.specs.Prelude.{Bool, true, false, not, cond, ◌&&◌, List, [], ◌∷◌, ◌++◌, ℕ, zero, suc, leb, Result, Ok, Err}
 use Rattle.board.specs.declared.Board.{Board}
-use Rattle.manager.specs.declared.Plan.{Plan}
-use Rattle.manager.specs.declared.Plan.TheVariants as step_plan
-use Rattle.manager.specs.declared.ListPlan.{ListPlan}
-use Rattle.manager.specs.declared.ListPlan.TheVariants as list_plan
-use Rattle.manager.specs.declared.Change.{Change}
-use Rattle.manager.specs.Calls.{planned, placed}
+use Rattle.page_model.specs.Table as table
+use Rattle.page_model.specs.Table.{Step}
+use Rattle.manager.specs.Calls.{planned}
 use Rattle.manager.specs.Refusals.{Cause, ◌if◌, first_refusal, offset_cause, refusal_place}
 use Rattle.cache.specs.Store.{Store}
 use Rattle.cache.specs.Tag.{tags_keep_rules}
@@ -28,36 +25,22 @@ earlier zero n = n
 earlier (suc m) zero = suc m
 earlier (suc m) (suc n) = cond (leb (refusal_place (suc m)) (refusal_place (suc n))) (suc m) (suc n)
 
--- the manager's plan, with the machine's own refusal (0 for none): the earlier of two refusals, and a step or a place only where there is none
-unfoldable pub with_step : ℕ → Plan → Plan
+-- the manager's plan, with the machine's own refusal (0 for none): the earlier of two refusals, and what is planned only where there is none
+unfoldable pub with_own : {A : Type 0} → ℕ → Result A ℕ → Result A ℕ
 unfolding earlier
-with_step own (step_plan.Refused n) = step_plan.Refused (earlier own n)
-with_step zero (step_plan.Step change) = step_plan.Step change
-with_step (suc own) (step_plan.Step change) = step_plan.Refused (suc own)
+with_own own (Err n) = Err (earlier own n)
+with_own zero (Ok made) = Ok made
+with_own (suc own) (Ok made) = Err (suc own)
 
-unfoldable pub with_place : ℕ → ListPlan → ListPlan
-unfolding earlier
-with_place own (list_plan.Refused n) = list_plan.Refused (earlier own n)
-with_place zero (list_plan.Place place) = list_plan.Place place
-with_place (suc own) (list_plan.Place place) = list_plan.Refused (suc own)
-
--- a call's plan: the refusal of the first cause that applies, else the change, or the place
-abbrev pub plan_step : Board → State → Single → Change → Plan
-plan_step b st call change = planned (first_refusal (causes b st call)) change
-
-abbrev pub plan_place : Board → State → Single → ℕ → ListPlan
-plan_place b st call place = placed (first_refusal (causes b st call)) place
+-- a call's plan: the refusal of the first cause that applies, else what is made
+abbrev pub plan_call : {A : Type 0} → Board → State → Single → A → Result A ℕ
+plan_call b st call made = planned (first_refusal (causes b st call)) made
 
 -- the call that begins a device's transfer, a write or a read
 abbrev pub begins : Bool → ℕ → Single
 begins true frame = begin_write frame
 begins false frame = begin_read frame
 
--- the number of a plan that is a refusal, else 0
-abbrev pub refusal_of : Plan → ℕ
-refusal_of (step_plan.Refused n) = n
-refusal_of (step_plan.Step change) = 0
-
-abbrev pub place_refusal : ListPlan → ℕ
-place_refusal (list_plan.Refused n) = n
-place_refusal (list_plan.Place place) = 0
+abbrev pub begin_step : Bool → Step
+begin_step true = table.begin_write
+begin_step false = table.begin_read

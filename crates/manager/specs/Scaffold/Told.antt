@@ -1,6 +1,6 @@
 -- The causes of refusal as the code tests them, by what one look at the list told: where that was a look at this list, they are those of `Refusals`
--- (`told-rest`).
-use Rattle.std.specs.Prelude.{Bool, not, ◌&&◌, List, [], ◌∷◌, ◌++◌, ℕ, ◌*◌, eqb, length}
+-- (`told_tables_lem`, `told_found`).
+use Rattle.std.specs.Prelude.{Bool, not, ◌&&◌, List, [], ◌∷◌, ℕ, ◌*◌, eqb, length, is_some}
 use Rattle.board.specs.declared.Board.{Board}
 use Rattle.mapping.specs.declared.Seen.{Seen}
 use Rattle.mapping.specs.Entry.{capacity}
@@ -22,18 +22,15 @@ told_mapping b space page frame rights seen =
     space_cause space page
     ∷ frame_cause b frame
     ∷ rights_cause rights
-    ∷ (7 if seen.mapped)
+    ∷ (7 if is_some seen.mapping)
     ∷ (9 if eqb seen.count capacity)
     ∷ []
 
 abbrev pub told_page : ℕ → ℕ → Seen → List Cause
-told_page space page seen = space_cause space page ∷ (8 if not seen.mapped) ∷ []
+told_page space page seen = space_cause space page ∷ (8 if not (is_some seen.mapping)) ∷ []
 
 -- the cause of an access in the rights of its mapping
 abbrev pub told_rights : AccessKind → ℕ → List Cause
 told_rights Read rights = []
 told_rights Write rights = write_rights_cause rights ∷ []
 told_rights Fetch rights = fetch_rights_cause rights ∷ []
-
-abbrev pub told_access : AccessKind → ℕ → ℕ → Seen → List Cause
-told_access kind space page seen = told_page space page seen ++ told_rights kind seen.mapping.rights

@@ -1,7 +1,5 @@
 -- `position_hold::read_fix` meets its contract. The loop's invariant: the words and the state are those of the first `offset` reads.
-use mathlib.Core.Path.{◌≡◌}
-use Prim.Native.Nat.{◌≤◌, ◌-◌}
-use lib.ListN.{length, take}
+use Rattle.std.proofs.Common.{◌≡◌, length, take}
 use Rattle.board.specs.Board.{board01}
 use Rattle.machine.specs.State.{machine_of}
 use Rattle.position_hold.specs.Look.{words as found_words, reads, first_reads, fix_words}
@@ -9,15 +7,9 @@ use Rattle.position_hold.proofs.read_fix.Given as goal
 
 abbrev pub invariant-loop-offset : goal.invariant-loop-offset
 invariant-loop-offset l =
-    (l.offset ≤ fix_words)
-    × (length l.records ≡ length l.initial.records)
-    × (length l.protections ≡ length l.initial.protections)
-    × (length l.memory ≡ length l.initial.memory)
-    × (length l.words ≡ length l.initial.words)
-    × (length l.tags ≡ length l.initial.tags)
-    × (length l.read ≡ fix_words)
-    × (reads (found_words (take l.offset l.read)) (machine_of l.list l.records l.protections l.memory l.words l.tags)
-    ≡ first_reads board01 (machine_of l.list l.initial.records l.initial.protections l.initial.memory l.initial.words l.initial.tags) l.space l.page l.offset)
-
-abbrev pub decreases-loop-offset : goal.decreases-loop-offset
-decreases-loop-offset l = fix_words - l.offset
+    record {
+      room : length l.read ≡ fix_words;
+      so_far :
+          reads (found_words (take l.offset l.read)) (machine_of l.list l.records l.protections l.memory l.words l.tags)
+          ≡ first_reads board01 (machine_of l.list l.initial.records l.initial.protections l.initial.memory l.initial.words l.initial.tags) l.space l.page l.offset;
+    }

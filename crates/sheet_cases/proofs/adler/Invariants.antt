@@ -1,10 +1,6 @@
--- `sheet_cases::adler` meets its contract.
-use Prim.Native.Nat.{◌<◌, ◌-◌}
-use lib.ListN.{length}
+-- `adler` meets its contract.
+use Rattle.std.proofs.Common.{◌<◌}
 use Rattle.sheet_cases.proofs.adler.Given as goal
 
-abbrev pub invariant-loop-i : goal.invariant-loop-i
-invariant-loop-i l = (l.low < 65521) × (l.high < 65521)
-
-abbrev pub decreases-loop-i : goal.decreases-loop-i
-decreases-loop-i l = length l.text - l.i
+abbrev pub invariant-loop-byte : goal.invariant-loop-byte
+invariant-loop-byte l = (l.low < 65521) × (l.high < 65521)

@@ -1,15 +1,9 @@
 -- `cache::operation::flush` meets its contract: after i turns the buffers are as the sweep of i lines leaves them.
 use mathlib.Core.Path.{◌≡◌}
-use Prim.Native.Nat.{◌≤◌, ◌-◌}
-use lib.ListN.{length}
 use Rattle.cache.specs.Store.{store}
 use Rattle.cache.specs.Cache.{sweep, leaving, flush_line}
 use Rattle.cache.proofs.operation.flush.Given as goal
 
 abbrev pub invariant-loop-i : goal.invariant-loop-i
 invariant-loop-i l =
-    (l.i ≤ l.lines) × (length l.memory ≡ length l.initial.memory) × (length l.tags ≡ length l.initial.tags)
-    × (store l.memory l.words l.tags ≡ sweep l.board (flush_line l.board leaving l.frame) l.colour l.i (store l.initial.memory l.words l.initial.tags))
-
-abbrev pub decreases-loop-i : goal.decreases-loop-i
-decreases-loop-i l = l.lines - l.i
+    store l.memory l.words l.tags ≡ sweep l.board (flush_line l.board leaving l.frame) l.colour l.i (store l.initial.memory l.words l.initial.tags)

@@ -1,21 +1,15 @@
--- `tag.tags_keep_rules` meets its contract.
-use mathlib.Core.Path.{sym, ◌∙◌}
-use native.Mathlib.Omega.{arith}
-use borrow.Author.Count.{below_none, below_more}
+-- `cache::tag::tags_keep_rules` meets its contract.
+use mathlib.Core.Path.{◌∙◌}
 use borrow.Author.Rules.{rules}
-use borrow.Author.Tests.{not-true, not-false}
-use Rattle.cache.proofs.Laws.Tag.{rules_all, rules_break}
+use Rattle.std.proofs.lemmas.Iterator.{YieldsList-from_slice}
+use Rattle.std.proofs.lemmas.Iterator.Consumers.{YieldsList-from_enumerate}
+use Rattle.std.proofs.lemmas.Iterator.Search.{all_from_yields_List}
+use Rattle.cache.specs.Tag.{line_keeps_rules}
+use Rattle.cache.proofs.Laws.Tag.{rules_in_turn}
 use Rattle.cache.proofs.tag.tags_keep_rules.Goals as goal
 
-pub loop-i-init : goal.loop-i-init
-loop-i-init c = (search rules, below_none _)
-
-pub returns-then-not-line_keeps_rules : goal.returns-then-not-line_keeps_rules
-returns-then-not-line_keeps_rules c =
-    sym (rules_break _ c.requires _ c.loop-i.i (sym c.line_keeps_rules.ensures ∙ not-true _ c.if-not-line_keeps_rules.true-raw))
-
-pub loop-i-preserved : goal.loop-i-preserved
-loop-i-preserved c = (search rules, below_more _ _ c.loop-i.invariant.1 (sym c.line_keeps_rules.ensures ∙ not-false _ c.if-not-line_keeps_rules.false-raw))
-
 pub returns : goal.returns
-returns c = sym (rules_all _ c.requires _ (λ k h. c.loop-i.invariant.1 k (omega arith)))
+returns c =
+    all_from_yields_List (λ p. line_keeps_rules c.args.board p.0 p.1) _ _ _ c.all.ensures.ran
+    (YieldsList-from_enumerate (YieldsList-from_slice c.args.tags.now cc) cc) (λ x b q k. search rules)
+    ∙ rules_in_turn _ c.requires _

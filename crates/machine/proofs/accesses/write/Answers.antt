@@ -1,37 +1,16 @@
 -- `machine::write` meets its contract.
-use mathlib.Core.Path.{◌≡◌, refl, sym, ◌∙◌}
+use mathlib.Core.Path.{refl, sym, ap, ◌∙◌}
 use mathlib.Core.Option.{none}
 use Rattle.board.specs.Board.{board01, colour_of}
 use Rattle.board.proofs.Geometry.{board01_regular, data_page}
 use Rattle.mapping.proofs.Laws.{items_length}
-use Rattle.manager.specs.Calls.{plan_write}
-use Rattle.manager.specs.Tables.{tables}
 use Rattle.cache.specs.Cache as hardware
 use Rattle.machine.specs.Refusals.{causes}
 use Rattle.machine.specs.State.{write}
 use Rattle.machine.specs.Step.{accept}
 use Rattle.machine.proofs.PlanLaws.{write_planned}
-use Rattle.machine.proofs.StepLaws.{access_requires, planned_refused, access_made}
+use Rattle.machine.proofs.StepLaws.{access_requires, plan_refused, call_refused, access_made}
 use Rattle.machine.proofs.accesses.write.Goals as goal
-
--- the manager's plan
-managers : (c : goal.After-refusal_of)
-    → let a = c.args in
-    c.plan_access-managers.result ≡ plan_write board01 (tables a.list a.records.now a.protections.now) a.space a.page
-managers c =
-    c.plan_access-managers.ensures c.args.list (items_length c.args.list _ c.well_formed.0) c.look-seen.ensures
-
-managers-2 : (c : goal.After-put-arg-3-1)
-    → let a = c.args in
-    c.plan_access-managers.result ≡ plan_write board01 (tables a.list a.records.now a.protections.now) a.space a.page
-managers-2 c =
-    c.plan_access-managers.ensures c.args.list (items_length c.args.list _ c.well_formed.0) c.look-seen.ensures
-
-managers-3 : (c : goal.After-slice_known-10-1)
-    → let a = c.args in
-    c.plan_access-managers.result ≡ plan_write board01 (tables a.list a.records.now a.protections.now) a.space a.page
-managers-3 c =
-    c.plan_access-managers.ensures c.args.list (items_length c.args.list _ c.well_formed.0) c.look-seen.ensures
 
 pub access_refusal-own-requires : goal.access_refusal-own-requires
 access_refusal-own-requires c = board01_regular
@@ -39,10 +18,14 @@ access_refusal-own-requires c = board01_regular
 pub plan_access-managers-requires : goal.plan_access-managers-requires
 plan_access-managers-requires c = board01_regular
 
-pub returns-in_default : goal.returns-in_default
-returns-in_default c =
+pub returns-in_err-change : goal.returns-in_err-change
+returns-in_err-change c =
     let a = c.args in
-    planned_refused _ _ _ _ (write_planned board01 _ a.space a.page a.offset a.word c.with_step-plan.ensures c.access_refusal-own.ensures (managers c)) c.in_default.is c.refusal_of.ensures
+    let call = write a.space a.page a.offset a.word in
+    call_refused board01 _ call _ _ refl
+    (plan_refused board01 _ call _ _ (write_planned board01 _ a.space a.page a.offset a.word c.in_err-change.ensures.plan c.access_refusal-own.ensures
+    (c.plan_access-managers.ensures a.list (items_length a.list _ c.well_formed.0) c.look-looked.ensures)))
+    c.from_residual.ensures.1
 
 pub colour_of-colour-requires : goal.colour_of-colour-requires
 colour_of-colour-requires c = board01_regular
@@ -51,8 +34,8 @@ pub put-requires : goal.put-requires
 unfolding causes
 put-requires c =
     let a = c.args in (
-      access_requires board01 _ (write a.space a.page a.offset a.word) _ _ refl a.offset board01_regular
-          (sym (write_planned board01 _ a.space a.page a.offset a.word c.with_step-plan.ensures c.access_refusal-own.ensures (managers-2 c)) ∙ c.in-Step.is) refl (data_page board01 board01_regular _ c.colour_of-colour.ensures.within),
+      access_requires board01 _ (write a.space a.page a.offset a.word) _ _ refl a.offset board01_regular c.carry_out-operations.ensures.operations
+          (sym (write_planned board01 _ a.space a.page a.offset a.word c.in_ok-change.ensures.plan c.access_refusal-own.ensures (c.plan_access-managers.ensures a.list (items_length a.list _ c.well_formed.0) c.look-looked.ensures))) refl (data_page board01 board01_regular _ c.colour_of-colour.ensures.within),
       c.colour_of-colour.ensures.within,
     )
 
@@ -60,6 +43,7 @@ pub returns : goal.returns
 unfolding accept
 returns c =
     let a = c.args in
-    access_made board01 _ (write a.space a.page a.offset a.word) _ (sym (write_planned board01 _ a.space a.page a.offset a.word c.with_step-plan.ensures c.access_refusal-own.ensures (managers-3 c)) ∙ c.in-Step.is)
+    access_made board01 _ (write a.space a.page a.offset a.word) _ (sym (write_planned board01 _ a.space a.page a.offset a.word c.in_ok-change.ensures.plan c.access_refusal-own.ensures (c.plan_access-managers.ensures a.list (items_length a.list _ c.well_formed.0) c.look-looked.ensures)))
+    c.carry_out-operations.ensures.operations
     (colour_of board01 a.page) (λ f k x. none) (λ f k. hardware.write_word board01 f k a.offset a.word) refl
-    c.colour_of-colour.ensures.value refl (c.commit_change.ensures board01 refl) c.put.ensures
+    (c.colour_of-colour.ensures.value ∙ ap (colour_of board01) c.from.ensures) refl (c.carry_out-operations.ensures.tables board01 refl) c.put.ensures

@@ -1,19 +1,26 @@
--- `machine::earlier` meets its contract.
-use native.Mathlib.Omega.{arith}
-use borrow.Author.Rules.{rules}
-use Rattle.machine.specs.Scaffold.Plans.{earlier}
-use Rattle.machine.proofs.MergeLaws.{earlier_first, earlier_second}
+-- `machine::plans::earlier` meets its contract.
+use mathlib.Core.Path.{refl, sym, ap, ap₂, ◌∙◌}
+use Prim.Native.Nat.{ℕ}
+use Rattle.std.proofs.Common.{Ok, Err}
+use Rattle.manager.specs.Answers.{refusal_number, refusal_in, by_number}
+use Rattle.manager.proofs.CauseLaws.{some_number}
+use Rattle.machine.specs.Scaffold.Plans.{earlier, with_own}
+use Rattle.machine.proofs.MergeLaws.{earlier_none, with_own_refused, with_none}
 use Rattle.machine.proofs.plans.earlier.Goals as goal
 
-pub returns-then-own-eq0 : goal.returns-then-own-eq0
+pub returns-in-Err-Err-clause-plan : goal.returns-in-Err-Err-clause-plan
+unfolding with_own
+returns-in-Err-Err-clause-plan g c = rw (c.in-Err-Err.is-0, c.in-Err-Err.is-1) (ap Err c.first.ensures)
+
+pub returns-in-Err-Ok-clause-plan : goal.returns-in-Err-Ok-clause-plan
+returns-in-Err-Ok-clause-plan g c = rw (c.in-Err-Ok.is-0, c.in-Err-Ok.is-1) (with_own_refused _ _ (some_number c.in-Err-Ok.own))
+
+pub returns-in-Err-Ok-clause-refusal : goal.returns-in-Err-Ok-clause-refusal
+returns-in-Err-Ok-clause-refusal g c = rw (c.in-Err-Ok.is-0, c.in-Err-Ok.is-1) (earlier_none _)
+
+pub returns-in-Ok-default-clause-plan : goal.returns-in-Ok-default-clause-plan
+returns-in-Ok-default-clause-plan g c = rw c.in-Ok-default.is-0 (with_none _)
+
+pub returns-in-Ok-default-clause-refusal : goal.returns-in-Ok-default-clause-refusal
 unfolding earlier
-returns-then-own-eq0 c = search rules
-
-pub returns-then-managers-eq0 : goal.returns-then-managers-eq0
-returns-then-managers-eq0 c = earlier_first _ _ c.if-own-eq0.false (λ z. absurd (z c.if-managers-eq0.true))
-
-pub returns-then-place : goal.returns-then-place
-returns-then-place c = earlier_first _ _ c.if-own-eq0.false (λ z. omega arith)
-
-pub returns-else-place : goal.returns-else-place
-returns-else-place c = earlier_second _ _ c.if-managers-eq0.false (λ z. omega arith)
+returns-in-Ok-default-clause-refusal g c = rw c.in-Ok-default.is-0

@@ -1,22 +1,27 @@
 -- `machine::begin` meets its contract.
-use mathlib.Core.Path.{◌≡◌, refl, sym, ◌∙◌}
+use mathlib.Core.Path.{◌≡◌, refl, sym, ap, subst⁻¹, ◌∙◌}
 use mathlib.Core.Bool.{Bool, true, false}
-use mathlib.Core.List.{[]}
+use mathlib.Core.List.{List, []}
 use mathlib.Core.Option.{none}
-use Prim.Native.Nat.{ℕ}
+use native.Mathlib.Omega.{arith}
+use Prim.Native.Nat.{ℕ, ◌≤◌}
 use Rattle.board.specs.declared.Board.{Board}
 use Rattle.board.specs.Board.{board01}
 use Rattle.board.proofs.Geometry.{board01_regular}
+use Rattle.page_model.specs.declared.table.Step as code
+use Rattle.page_model.specs.Cases.{step_of}
+use Rattle.page_model.specs.Table.{Step, reach}
 use Rattle.mapping.specs.declared.MappingList.{MappingList}
-use Rattle.manager.specs.Answers.{refused}
-use Rattle.manager.specs.Calls.{change_of, begin_step}
+use Rattle.manager.specs.Calls.{change_of, plan_transfer}
+use Rattle.manager.specs.Tables.{tables}
 use Rattle.machine.specs.Parts.{steps, effect_in}
-use Rattle.machine.specs.Scaffold.Plans.{begins}
-use Rattle.machine.specs.State.{State, Result, lent_buffer}
-use Rattle.machine.specs.Step.{answer, result_of, accept}
+use Rattle.machine.specs.Scaffold.Plans.{begins, begin_step}
+use Rattle.machine.specs.State.{State, lent_buffer}
+use Rattle.machine.specs.Step.{accept}
 use Rattle.machine.proofs.PlanLaws.{begin_planned}
-use Rattle.machine.proofs.StepLaws.{step_requires, planned_refused, stepped_call, stepped_made}
+use Rattle.machine.proofs.StepLaws.{step_requires, plan_refused, call_refused, stepped_call, stepped_made}
 use Rattle.machine.proofs.transfers.begin.Goals as goal
+use Rattle.machine.proofs.transfers.begin.Goals.{then-writes, else-writes}
 
 -- the call that begins a write or a read: its step, what it is where it is accepted, and that it is lent no buffer
 steps_of : (b : Board) (l : MappingList) (frame : ℕ) (writes : Bool) → effect_in b l (begins writes frame) ≡ steps frame (begin_step writes)
@@ -28,29 +33,49 @@ unfolding accept
 begun b st frame true = refl
 begun b st frame false = refl
 
-unlent : (st : State) (frame k : ℕ) (writes : Bool) {r : Result} → result_of (answer (refused k) none (lent_buffer (begins writes frame))) st ≡ r
-    → result_of (answer (refused k) none []) st ≡ r
-unlent st frame k true e = e
-unlent st frame k false e = e
+unlent : (frame : ℕ) (writes : Bool) → lent_buffer (begins writes frame) ≡ []
+unlent frame true = refl
+unlent frame false = refl
 
 pub store_refusal-own-requires : goal.store_refusal-own-requires
 store_refusal-own-requires c = board01_regular
 
-pub plan_begin-managers-requires : goal.plan_begin-managers-requires
-plan_begin-managers-requires c = board01_regular
+pub plan_transfer-managers-requires : goal.plan_transfer-managers-requires
+plan_transfer-managers-requires c =
+    (board01_regular, elim c.if-writes.branch [ then-writes w ↦ subst⁻¹ (λ (s : code.Step). reach (step_of s) ≤ 8) w.step-is (omega arith) | else-writes w ↦ subst⁻¹ (λ (s : code.Step). reach (step_of s) ≤ 8) w.step-is (omega arith) ])
 
-pub returns-in_default : goal.returns-in_default
-returns-in_default c =
+pub returns-in_err-change : goal.returns-in_err-change
+returns-in_err-change c =
     let a = c.args in
-    unlent _ a.frame _ a.writes (planned_refused _ _ _ _ (begin_planned board01 _ a.frame a.writes c.with_step-plan.ensures c.store_refusal-own.ensures c.plan_begin-managers.ensures) c.in_default.is c.refusal_of.ensures)
+    let call = begins a.writes a.frame in
+    let step : step_of c.if-writes.step ≡ begin_step a.writes = elim c.if-writes.branch [
+      | then-writes w ↦ ap step_of w.step-is ∙ ap begin_step (sym w.if-writes.true)
+      | else-writes w ↦ ap step_of w.step-is ∙ ap begin_step (sym w.if-writes.false)
+    ] in
+    call_refused board01 _ call _ _ (unlent a.frame a.writes)
+    (plan_refused board01 _ call _ _ (begin_planned board01 _ a.frame a.writes c.in_err-change.ensures.plan c.store_refusal-own.ensures
+    (c.plan_transfer-managers.ensures ∙ ap (plan_transfer board01 (tables a.list a.records.now a.protections.now) a.frame) step)))
+    c.from_residual.ensures.1
 
 pub carry_out-requires : goal.carry_out-requires
 carry_out-requires c =
     let a = c.args in
-    step_requires board01 _ _ a.frame _ (steps_of board01 _ a.frame a.writes) board01_regular (sym (begin_planned board01 _ a.frame a.writes c.with_step-plan.ensures c.store_refusal-own.ensures c.plan_begin-managers.ensures) ∙ c.in-Step.is)
+    let step : step_of c.if-writes.step ≡ begin_step a.writes = elim c.if-writes.branch [
+      | then-writes w ↦ ap step_of w.step-is ∙ ap begin_step (sym w.if-writes.true)
+      | else-writes w ↦ ap step_of w.step-is ∙ ap begin_step (sym w.if-writes.false)
+    ] in
+    step_requires board01 _ _ a.frame _ (steps_of board01 _ a.frame a.writes) board01_regular c.carry_out-operations.ensures.operations
+    (sym (begin_planned board01 _ a.frame a.writes c.in_ok-change.ensures.plan c.store_refusal-own.ensures
+    (c.plan_transfer-managers.ensures ∙ ap (plan_transfer board01 (tables a.list a.records.now a.protections.now) a.frame) step)))
 
 pub returns : goal.returns
 returns c =
     let a = c.args in
-    stepped_made board01 _ _ _ (sym (begin_planned board01 _ a.frame a.writes c.with_step-plan.ensures c.store_refusal-own.ensures c.plan_begin-managers.ensures) ∙ c.in-Step.is) (λ f x. none) (λ f x. []) (λ f x. x) (begun board01 _ a.frame a.writes)
-    refl refl (c.commit_change.ensures board01 refl) c.carry_out.ensures
+    let step : step_of c.if-writes.step ≡ begin_step a.writes = elim c.if-writes.branch [
+      | then-writes w ↦ ap step_of w.step-is ∙ ap begin_step (sym w.if-writes.true)
+      | else-writes w ↦ ap step_of w.step-is ∙ ap begin_step (sym w.if-writes.false)
+    ] in
+    stepped_made board01 _ _ _ (sym (begin_planned board01 _ a.frame a.writes c.in_ok-change.ensures.plan c.store_refusal-own.ensures
+    (c.plan_transfer-managers.ensures ∙ ap (plan_transfer board01 (tables a.list a.records.now a.protections.now) a.frame) step)))
+    c.carry_out-operations.ensures.operations (λ f x. none) (λ f x. []) (λ f x. x) (begun board01 _ a.frame a.writes)
+    refl refl (c.carry_out-operations.ensures.tables board01 refl) c.carry_out.ensures

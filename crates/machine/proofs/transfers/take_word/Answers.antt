@@ -1,36 +1,22 @@
 -- `machine::take_word` meets its contract.
-use mathlib.Core.Path.{◌≡◌, refl, sym, ap, ◌∙◌}
+use mathlib.Core.Path.{refl, sym, ap, ◌∙◌}
 use mathlib.Core.Option.{Option, some}
 use Prim.Native.Nat.{ℕ}
 use borrow.Author.Tests.{leb-false}
 use Rattle.board.specs.Board.{board01}
 use Rattle.board.proofs.Geometry.{board01_regular}
+use Rattle.page_model.specs.Record.{freed}
+use Rattle.mapping.proofs.Laws.{items_length}
 use Rattle.manager.specs.declared.FrameOps.{FrameOps}
 use Rattle.manager.specs.Answers.{accepted}
-use Rattle.mapping.proofs.Laws.{items_length}
-use Rattle.manager.specs.Refusals.{first_refusal}
+use Rattle.manager.specs.Calls.{commit_change}
 use Rattle.manager.specs.Tables.{tables, refill}
+use Rattle.cache.specs.Store.{memory_word}
 use Rattle.machine.specs.Refusals.{causes}
 use Rattle.machine.specs.State.{machine_of, take_word}
 use Rattle.machine.proofs.PlanLaws.{take_refused}
-use Rattle.machine.proofs.StepLaws.{step_refused, cleared, store_clear, plain_made}
+use Rattle.machine.proofs.StepLaws.{loaded_refused, cleared, store_clear, plain_made}
 use Rattle.machine.proofs.transfers.take_word.Goals as goal
-
--- the refusal is the call's
-told : (c : goal.Then-refusal-ne0) → let a = c.args in c.earlier-refusal.result ≡ first_refusal (causes board01 ((let a = c.args in machine_of a.list a.records.now a.protections.now a.memory.now a.words.now a.tags.now)) (take_word a.frame a.offset))
-told c =
-    let a = c.args in
-    take_refused board01 ((let a = c.args in machine_of a.list a.records.now a.protections.now a.memory.now a.words.now a.tags.now)) (items_length a.list _ c.well_formed.0) c.keeps_rules-kept.ensures a.frame a.offset c.earlier-refusal.ensures c.store_refusal-own.ensures c.word_refusal-managers.ensures
-
-told-2 : (c : goal.After-slice_known-2-1) → let a = c.args in c.earlier-refusal.result ≡ first_refusal (causes board01 ((let a = c.args in machine_of a.list a.records.now a.protections.now a.memory.now a.words.now a.tags.now)) (take_word a.frame a.offset))
-told-2 c =
-    let a = c.args in
-    take_refused board01 ((let a = c.args in machine_of a.list a.records.now a.protections.now a.memory.now a.words.now a.tags.now)) (items_length a.list _ c.well_formed.0) c.keeps_rules-kept.ensures a.frame a.offset c.earlier-refusal.ensures c.store_refusal-own.ensures c.word_refusal-managers.ensures
-
-told-3 : (c : goal.After-nothing) → let a = c.args in c.earlier-refusal.result ≡ first_refusal (causes board01 ((let a = c.args in machine_of a.list a.records.now a.protections.now a.memory.now a.words.now a.tags.now)) (take_word a.frame a.offset))
-told-3 c =
-    let a = c.args in
-    take_refused board01 ((let a = c.args in machine_of a.list a.records.now a.protections.now a.memory.now a.words.now a.tags.now)) (items_length a.list _ c.well_formed.0) c.keeps_rules-kept.ensures a.frame a.offset c.earlier-refusal.ensures c.store_refusal-own.ensures c.word_refusal-managers.ensures
 
 pub store_refusal-own-requires : goal.store_refusal-own-requires
 store_refusal-own-requires c = board01_regular
@@ -38,26 +24,29 @@ store_refusal-own-requires c = board01_regular
 pub word_refusal-managers-requires : goal.word_refusal-managers-requires
 word_refusal-managers-requires c = board01_regular
 
-pub returns-then-refusal-ne0 : goal.returns-then-refusal-ne0
-returns-then-refusal-ne0 c =
-    let e = told c in
-    step_refused _ _ _ _ (sym e, λ z. c.if-refusal-ne0.true (e ∙ z))
+pub returns-in_err-earlier : goal.returns-in_err-earlier
+returns-in_err-earlier c =
+    let a = c.args in
+    let st = (machine_of a.list a.records.now a.protections.now a.memory.now a.words.now a.tags.now) in
+    loaded_refused board01 st (take_word a.frame a.offset) _ _ refl
+    (take_refused board01 st (items_length a.list _ c.well_formed.0) c.keeps_rules-kept.ensures a.frame a.offset c.in_err-earlier.ensures.refusal c.store_refusal-own.ensures c.word_refusal-managers.ensures)
+    c.from_residual.ensures.1
 
 pub take_word-word-requires : goal.take_word-word-requires
 unfolding causes
 take_word-word-requires c =
-    let call = take_word c.args.frame c.args.offset in
-    let e = sym (told-2 c) ∙ c.if-refusal-ne0.false in (
-      (store_clear board01 ((let a = c.args in machine_of a.list a.records.now a.protections.now a.memory.now a.words.now a.tags.now)) call e).memory_length,
-      leb-false _ c.args.frame (cleared board01 ((let a = c.args in machine_of a.list a.records.now a.protections.now a.memory.now a.words.now a.tags.now)) call 4 e),
-      leb-false _ c.args.offset (cleared board01 ((let a = c.args in machine_of a.list a.records.now a.protections.now a.memory.now a.words.now a.tags.now)) call 6 e),
-      board01_regular,
-    )
+    let a = c.args in
+    let st = (machine_of a.list a.records.now a.protections.now a.memory.now a.words.now a.tags.now) in
+    let call = take_word a.frame a.offset in
+    let e = sym (take_refused board01 st (items_length a.list _ c.well_formed.0) c.keeps_rules-kept.ensures a.frame a.offset c.in_ok-earlier.ensures.refusal c.store_refusal-own.ensures c.word_refusal-managers.ensures) in
+    rw c.from.ensures ((store_clear board01 st call e).memory_length, leb-false _ a.frame (cleared board01 st call 4 e), leb-false _ a.offset (cleared board01 st call 6 e), board01_regular)
 
 pub returns : goal.returns
 unfolding refill
 returns c =
     let a = c.args in
-    plain_made _ _ _ (sym (told-3 c) ∙ c.if-refusal-ne0.false) refl (ap (λ (o : FrameOps). accepted o.frame o.ops) c.nothing.ensures)
-    (ap {B = Option ℕ} some (c.take_word-word.ensures a.words.now a.tags.now)) refl
+    let st = (machine_of a.list a.records.now a.protections.now a.memory.now a.words.now a.tags.now) in
+    plain_made board01 st (take_word a.frame a.offset) (sym (take_refused board01 st (items_length a.list _ c.well_formed.0) c.keeps_rules-kept.ensures a.frame a.offset c.in_ok-earlier.ensures.refusal c.store_refusal-own.ensures c.word_refusal-managers.ensures))
+    refl (ap (λ (o : FrameOps). accepted o.frame o.ops) c.nothing-operations.ensures)
+    (ap {B = Option ℕ} some (c.take_word-word.ensures a.words.now a.tags.now ∙ ap (λ (f : ℕ). memory_word board01 st.store f a.offset) c.from.ensures)) refl
     (ap (tables a.list a.records.now) (c.refill.ensures board01 refl)) refl

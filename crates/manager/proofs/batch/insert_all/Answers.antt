@@ -13,9 +13,8 @@ use Rattle.mapping.proofs.Laws.{items_length, items_of_at, keeps_rules_true, rul
 use Rattle.manager.specs.Answers.{refusal_in}
 use Rattle.manager.specs.Scaffold.Inserted.{mapping_refusal, list_after_items}
 use Rattle.manager.specs.Refusals.{first_refusal}
-use Rattle.manager.specs.Scaffold.Told.{told_mapping}
 use Rattle.manager.proofs.AcceptedLaws.{mapping_accepted}
-use Rattle.manager.proofs.CauseLaws.{some_number}
+use Rattle.manager.proofs.CauseLaws.{some_number, mapping_told}
 use Rattle.manager.proofs.BatchLaws.{listed_accepted, listed_refused, refusal_more, list_more}
 use Rattle.manager.proofs.Laws.{set_more, is_tabulate}
 use Rattle.manager.proofs.batch.insert_all.Invariants.{Kept}
@@ -45,7 +44,7 @@ loop-i-preserved c =
     let item = sym (items_of_at c.args.batch l.i (omega arith)) in
     let m = get_or c.args.batch.items l.i zero_mapping in
     let told = c.find-seen.ensures.told c.args.board inv.2.0 in
-    let refusal = c.mapping_refusal.ensures ∙ ap (λ (x : Seen). first_refusal (told_mapping c.args.board m.space m.page m.frame m.rights x)) told in
+    let refusal = c.mapping_refusal.ensures ∙ ap first_refusal (mapping_told c.args.board l.next m.space m.page m.frame m.rights told) in
     let place = ap (λ (x : Seen). insert_at l.next x.place m) told in (
       list_more _ _ _ l.i inv.0 item refusal (elim w.branch [ in-Ok k ↦ k.next-is ∙ k.insert_at-next.ensures ∙ place ∙ listed_accepted _ _ _ (ap refusal_in k.in-Ok.is) | in-Err k ↦ k.next-is ∙ listed_refused _ _ _ (λ z. some_number _ (sym (ap refusal_in k.in-Err.is) ∙ z)) ]),
       set_more l.answers l.i _ _ (omega arith) inv.1 (elim w.branch [ in-Ok k ↦ k.answer-is ∙ sym (ap refusal_in k.in-Ok.is) | in-Err k ↦ k.answer-is ∙ k.number.ensures ∙ sym (ap refusal_in k.in-Err.is) ] ∙ refusal_more _ _ _ l.i inv.0 item refusal),

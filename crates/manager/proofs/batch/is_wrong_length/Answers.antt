@@ -10,7 +10,6 @@ use Rattle.manager.specs.Answers.{refusal_number, refusal_in}
 use Rattle.manager.proofs.batch.is_wrong_length.Goals as goal
 
 one : (r : Refusal) → sameb the_type r refusal.WrongLength ≡ eqb (refusal_number r) 1
-one refusal.WrongHold = refl
 one refusal.WrongLength = refl
 one refusal.WrongBatch = refl
 one refusal.BrokenRules = refl

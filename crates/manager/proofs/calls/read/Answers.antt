@@ -11,8 +11,8 @@ plan_access-requires c = board01_regular
 
 pub returns-in_err-change : goal.returns-in_err-change
 returns-in_err-change c =
-    step_refused board01 _ _ _ (c.in_err-change.ensures c.args.list (items_length c.args.list _ c.well_formed.0) c.look-seen.ensures) c.from_residual.ensures.1
+    step_refused board01 _ _ _ (c.in_err-change.ensures c.args.list (items_length c.args.list _ c.well_formed.0) c.look-looked.ensures) c.from_residual.ensures.1
 
 pub returns : goal.returns
 returns c =
-    step_made board01 _ (c.in_ok-change.ensures c.args.list (items_length c.args.list _ c.well_formed.0) c.look-seen.ensures) c.carry_out.ensures.operations (c.carry_out.ensures.tables board01 refl)
+    step_made board01 _ (c.in_ok-change.ensures c.args.list (items_length c.args.list _ c.well_formed.0) c.look-looked.ensures) c.carry_out.ensures.operations (c.carry_out.ensures.tables board01 refl)

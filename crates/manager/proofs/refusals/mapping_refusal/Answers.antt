@@ -15,9 +15,9 @@ pub returns-then-not-is_rights : goal.returns-then-not-is_rights
 unfolding first_refusal
 returns-then-not-is_rights c = search rules
 
-pub returns-then-seen : goal.returns-then-seen
+pub returns-then-is_some : goal.returns-then-is_some
 unfolding first_refusal
-returns-then-seen c = search rules
+returns-then-is_some c = search rules
 
 pub returns-then-seen-eq-CAPACITY : goal.returns-then-seen-eq-CAPACITY
 unfolding first_refusal

@@ -1,24 +1,19 @@
 -- `position_hold::fix::magnitude` meets its contract.
-use mathlib.Core.Path.{◌≡◌, ◌∙◌}
-use mathlib.Core.Bool.{Bool, cond}
-use Prim.Native.Nat.{ℕ, ◌+◌, ◌-◌, ◌^◌, ◌≤◌}
-use native.Mathlib.Omega.{arith}
-use borrow.Author.Tests.{lt-ltb, le-ltb}
-use lib.Dec.{ltb}
+use Rattle.std.proofs.Common.{◌≡◌, ℕ, ◌-◌, ◌^◌, ◌<◌, Bool, true, false, cond, ℤ, pos, negsuc, suc, refl, arith, w32, of_z, to_z, ◌∙◌}
+use Rattle.std.proofs.lemmas.Int.{of_z-to_z}
+use Rattle.std.specs.Prelude.{unsigned_abs, ltb}
+use mir.Val.{sel}
 use Rattle.position_hold.specs.Fix.{magnitude}
 use Rattle.position_hold.proofs.fix.magnitude.Goals as goal
 
-magnitude_is : (w : ℕ) {t : Bool} → ltb w (2 ^ 31) ≡ t → cond t w (2 ^ 32 - w) ≡ magnitude w
+-- how far from 0 the signed number of a word's bits lies
+distance : (w : ℕ) {z : ℤ} → w < 2 ^ 32 → z ≡ to_z w32 w → unsigned_abs (to_z w32 (of_z w32 z)) ≡ magnitude w
 unfolding magnitude
-magnitude_is w e = rw e
-
-sum : {w : ℕ} → w ≤ 4294967295 → 4294967295 - w + 1 ≡ 2 ^ 32 - w
-sum h = omega arith
-
-pub returns-then-word-lt-NEGATIVE : goal.returns-then-word-lt-NEGATIVE
-returns-then-word-lt-NEGATIVE c = magnitude_is _ (lt-ltb _ _ c.if-word-lt-NEGATIVE.true)
+distance w h e = rw (e, of_z-to_z w32 w h) (go (ltb w (2 ^ 31)))
+  where
+    go : (t : Bool) → unsigned_abs (sel t (pos w) (negsuc (2 ^ 32 - suc w))) ≡ cond t w (2 ^ 32 - w)
+    go true = refl
+    go false = omega arith
 
 pub returns : goal.returns
-returns c =
-    let fits = c.ranges.word.fits in
-    sum (omega arith) ∙ magnitude_is _ (le-ltb _ _ c.if-word-lt-NEGATIVE.false)
+returns c = let fits : c.args.word < 2 ^ 32 = omega arith in c.unsigned_abs.ensures.value ∙ distance c.args.word fits c.cast_signed.ensures

@@ -1,5 +1,5 @@
--- `run_step::device_write_part` meets its contract.
-use Rattle.std.proofs.Common.{◌≡◌, ℕ, ◌-◌, length, take, drop, replicate, refl, ap, ◌∙◌, length-drop, length-take, rules}
+-- `steps.device_write_part` meets its contract.
+use Rattle.std.proofs.Common.{◌≡◌, ℕ, length, take, replicate, ap, ◌∙◌, length-take, rules}
 use lib.ListN.{length-replicate}
 use Rattle.sheet_codec.specs.Format.{sent_word}
 use Rattle.manager.specs.Tables.{tabulate}
@@ -10,6 +10,10 @@ use Rattle.run_step.proofs.steps.device_write_part.Goals as goal
 pub returns : goal.returns
 returns c =
     let f = c.args.f in
-    let long : length {A = ℕ} (take (f.o - 0) (drop 0 (replicate 255 0))) ≡ f.o = simp (length-take, length-drop, length-replicate) (search rules) in
+    let told = c.from-2.ensures in
+    let first : c.from.result ≡ f.p = c.from.ensures in
+    let number : c.from-number.result ≡ f.o = c.from-number.ensures in
+    let long : length {A = ℕ} (take c.from-number.result (replicate 255 0)) ≡ f.o = simp (length-take, length-replicate) (search rules) in
     let sent = c.count_up.ensures ∙ ap (λ (n : ℕ). tabulate n (sent_word f.w)) long in
-    did_as (ap (device_write_part f.s f.p f.o) sent) (did c.device_write_part-answer.ensures refl refl)
+    let call : device_write_part f.s c.from.result c.from-number.result c.count_up.new.buffer ≡ device_write_part f.s f.p f.o (tabulate f.o (sent_word f.w)) = cc in
+    did_as call (did c.device_write_part.ensures told.0 told.1)

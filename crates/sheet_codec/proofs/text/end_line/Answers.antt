@@ -1,14 +1,16 @@
--- `sheet_codec::end_line` meets its contract.
-use Rattle.sheet_codec.proofs.Written.{put_both, put_within}
-use Rattle.sheet_codec.specs.Text.{end_line}
+-- `text.end_line` meets its contract.
 use native.Mathlib.Omega.{arith}
+use Rattle.std.proofs.Common.{refl, rules}
+use Rattle.sheet_codec.specs.Text.{end_line}
+use Rattle.sheet_codec.proofs.Written.{wrote_both, put_back}
 use Rattle.sheet_codec.proofs.text.end_line.Goals as goal
 
 pub returns : goal.returns
 unfolding end_line
 returns c =
-    put_within (omega arith)
-    (put_both c.put_bytes-a.ensures
-    (put_both c.put_number-b.ensures
-    (put_both c.put_byte-c.ensures
-    (put_both c.put_number-d.ensures c.put_byte.ensures))))
+    let wrote =
+    wrote_both c.bytes.ensures
+    (wrote_both c.number.ensures
+    (wrote_both c.byte.ensures
+    (wrote_both c.number-2.ensures c.byte-2.ensures))) in
+    put_back (search rules) refl (omega arith) wrote.put

@@ -1,15 +1,17 @@
--- `sheet_codec::step_line` meets its contract.
-use Rattle.sheet_codec.proofs.Written.{put_both, put_within}
-use Rattle.sheet_codec.specs.Text.{step_line}
+-- `text.step_line` meets its contract.
 use native.Mathlib.Omega.{arith}
+use Rattle.std.proofs.Common.{refl, rules}
+use Rattle.sheet_codec.specs.Text.{step_line}
+use Rattle.sheet_codec.proofs.Written.{wrote_both, put_back}
 use Rattle.sheet_codec.proofs.text.step_line.Goals as goal
 
 pub returns : goal.returns
 unfolding step_line
 returns c =
-    put_within (omega arith)
-    (put_both c.put_number-a.ensures
-    (put_both c.put_byte-b.ensures
-    (put_both c.put_answer-c.ensures
-    (put_both c.put_byte-d.ensures
-    (put_both c.put_word-e.ensures c.put_byte.ensures)))))
+    let wrote =
+    wrote_both c.number.ensures
+    (wrote_both c.byte.ensures
+    (wrote_both c.answer.ensures
+    (wrote_both c.byte-2.ensures
+    (wrote_both c.word.ensures c.byte-3.ensures)))) in
+    put_back (search rules) refl (omega arith) wrote.put

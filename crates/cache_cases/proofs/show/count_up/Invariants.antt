@@ -1,9 +1,0 @@
--- `cache_cases::show::count_up` meets its contract.
-use Rattle.std.proofs.Common.{◌≡◌, ◌-◌, length}
-use Rattle.cache_cases.proofs.show.count_up.Given as goal
-
-abbrev pub invariant-loop-i : goal.invariant-loop-i
-invariant-loop-i l = length l.to ≡ length l.initial.to
-
-abbrev pub decreases-loop-i : goal.decreases-loop-i
-decreases-loop-i l = length l.initial.to - l.i

@@ -1,9 +1,0 @@
--- `calls::lent::fill_bytes` meets its contract.
-use Rattle.std.proofs.Common.{◌≡◌, ◌-◌, length}
-use Rattle.calls.proofs.lent.fill_bytes.Given as goal
-
-abbrev pub invariant-loop-i : goal.invariant-loop-i
-invariant-loop-i l = length l.s ≡ length l.initial.s
-
-abbrev pub decreases-loop-i : goal.decreases-loop-i
-decreases-loop-i l = length l.initial.s - l.i

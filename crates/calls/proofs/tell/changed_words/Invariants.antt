@@ -1,6 +1,0 @@
--- `calls::tell::changed_words` meets its contract.
-use Rattle.std.proofs.Common.{◌-◌, length}
-use Rattle.calls.proofs.tell.changed_words.Given as goal
-
-abbrev pub decreases-loop-i : goal.decreases-loop-i
-decreases-loop-i l = length l.after - l.i

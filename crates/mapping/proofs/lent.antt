@@ -1,3 +1,0 @@
--- What the proofs on lent records share.
-pub mod Fill
-pub mod Search
