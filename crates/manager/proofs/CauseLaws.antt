@@ -28,7 +28,7 @@ use Rattle.mapping.proofs.Laws.{keeps_rules_true, lookup_at, found_place, look_k
 use Rattle.manager.specs.declared.refusal.Refusal.{Refusal}
 use Rattle.manager.specs.declared.refusal.Refusal.TheVariants as refusal
 use Rattle.manager.specs.Answers.{refusal_number, refusal_in}
-use Rattle.manager.specs.Refusals.{Cause, ◌if◌, first_refusal, or_else, table_causes, page_causes, mapping_causes, space_cause, frame_cause, rights_cause, full_cause, unmapped_cause}
+use Rattle.manager.specs.Refusals.{Cause, ◌if◌, first_refusal, table_causes, page_causes, mapping_causes, space_cause, frame_cause, rights_cause, full_cause, unmapped_cause}
 use Rattle.manager.specs.Scaffold.Told.{told_tables, told_mapping, told_page}
 use Rattle.manager.specs.Tables.{Tables, tables, record_words, record_at, records_keep_rules, lengths_right, rules_kept}
 
@@ -153,14 +153,6 @@ pub tables_numbered : (b : Board) (kept : Bool) (rs ps : List ℕ) → numbered 
 unfolding told_tables
 tables_numbered b kept rs ps = refl
 
--- so the refusal of both is that of the one, else of the other
-pub or_else_is : (cs ds : List Cause) → numbered cs ≡ true → or_else (first_refusal cs) (first_refusal ds) ≡ first_refusal (cs ++ ds)
-or_else_is cs ds n = go (ℕ_discrete (first_refusal cs) 0)
-  where
-    go : Dec (first_refusal cs ≡ 0) → or_else (first_refusal cs) (first_refusal ds) ≡ first_refusal (cs ++ ds)
-    go (yes h) = rw (eq-eqb _ _ h) (refusal_rest cs ds n h)
-    go (no h) = rw (ne_eqb _ _ h) (refusal_prefix cs ds h)
-
 -- ---- what the tables' rules tell of a frame
 
 module _ (b : Board) (t : Tables) (kept : rules_kept b t ≡ true) where
@@ -257,12 +249,6 @@ unfolding table_causes
 transfer_rules b t f rest z e =
     let cs = table_causes b t ++ frame_cause b f ∷ rest in
     record_rules b t (not-false _ (cleared_in cs 2 z e)) f (leb-false b.frames f (cleared_in cs 4 z e))
-
--- ---- a call that is not refused: the list keeps its rules
-
-pub call_list_keeps : (b : Board) (t : Tables) (own : List Cause) → numbered own ≡ true → first_refusal (table_causes b t ++ own) ≡ 0 → list_of.keeps_rules b t.list ≡ true
-unfolding table_causes
-call_list_keeps b t own n e = list_keeps b t (not-false _ (cleared_in (table_causes b t ++ own) 2 n e))
 
 -- the place of a page that is mapped is where a mapping of it would go
 pub page_place : (b : Board) (t : Tables) (space page : ℕ) → first_refusal (page_causes b t space page) ≡ 0

@@ -13,20 +13,6 @@ use Rattle.manager.specs.Refusals.{Cause, first_refusal, refusal_order, place_in
 use Rattle.manager.specs.Theorems.{First, FirstRefusal}
 use Rattle.manager.proofs.CauseLaws.{numbered}
 
--- ---- the place of a number in a list
-
-pub place_in_at : (l : List ℕ) (n i : ℕ) → i < length l → ((k : ℕ) → k < i → get_or l k 0 ≡ n → ⊥) → get_or l i 0 ≡ n → i ≡ place_in l n
-unfolding place_in
-place_in_at [] n i h before e = absurd (omega arith)
-place_in_at (m ∷ l) n zero h before e = rw (eq-eqb m n e)
-place_in_at (m ∷ l) n (suc i) h before e =
-    rw (ne_eqb m n (before 0 (omega arith))) (ap suc (place_in_at l n i (omega arith) (λ k lk. before (suc k) (omega arith)) e))
-
-pub place_in_none : (l : List ℕ) (n : ℕ) → ((k : ℕ) → k < length l → get_or l k 0 ≡ n → ⊥) → length l ≡ place_in l n
-unfolding place_in
-place_in_none [] n h = refl
-place_in_none (m ∷ l) n h = rw (ne_eqb m n (h 0 (omega arith))) (ap suc (place_in_none l n (λ k lk. h (suc k) (omega arith))))
-
 -- ---- causes in the order
 
 module _ (n : ℕ) (d : Cause) (ds : List Cause) (o : in_order n (d ∷ ds) ≡ true) where

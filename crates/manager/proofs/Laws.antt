@@ -1,7 +1,7 @@
 -- Laws of the lent tables: a table of f's values, and what a protection is by three tests.
 use mathlib.Core.Path.{◌≡◌, refl, sym, ap, ap₂, subst, ◌∙◌}
 use mathlib.Core.Bool.{Bool, true, false, cond, ◌&&◌}
-use mathlib.Core.List.{List}
+use mathlib.Core.List.{List, ◌∷◌}
 use Prim.Native.Nat.{ℕ, zero, suc, ◌+◌, ◌-◌, ◌*◌, ◌≤◌, ◌<◌}
 use native.Mathlib.Decide.{ℕ_discrete}
 use native.Mathlib.Omega.{arith}
@@ -9,7 +9,7 @@ use borrow.Author.Count.{below_more}
 use native.Mathlib.Nat.{lt_irrefl}
 use mir.Val.{bool_byte}
 use lib.Dec.{eqb}
-use lib.ListN.{length, get_or, set}
+use lib.ListN.{length, get_or, set, replicate}
 use lib.Seq.{ext_get_or, get_or-set_same, get_or-set_other}
 use Rattle.bits.specs.Mask.{digit}
 use Rattle.board.specs.declared.Board.{Board}
@@ -40,14 +40,11 @@ pub is_tabulate : (l : List ℕ) (n : ℕ) (f : ℕ → ℕ) → length l ≡ n 
 is_tabulate l n f e h =
     ext_get_or 0 l (tabulate n f) (e ∙ sym (length_tabulate n f)) (λ i li. let j : i < n = omega arith in h i j ∙ sym (get_d_tabulate n f i j))
 
--- a list that was filled with a value
-pub filled : (l : List ℕ) (n v : ℕ) → length l ≡ n → ((k d : ℕ) → 0 ≤ k → k < n - 1 → get_or l k d ≡ v) → (0 < n → (d : ℕ) → get_or l (n - 1) d ≡ v)
-    → l ≡ tabulate n (λ k. v)
-filled l n v e before last = is_tabulate l n (λ k. v) e (λ k lk. at k lk (ℕ_discrete k (n - 1)))
-  where
-    at : (k : ℕ) → k < n → Dec (k ≡ n - 1) → get_or l k 0 ≡ v
-    at k lk (yes z) = ap (λ (j : ℕ). get_or l j 0) z ∙ last (omega arith) 0
-    at k lk (no h) = before k 0 (omega arith) (omega arith)
+-- a list of one value
+pub tabulate_same : (n v : ℕ) → replicate n v ≡ tabulate n (λ k. v)
+unfolding tabulate
+tabulate_same zero v = refl
+tabulate_same (suc n) v = ap (λ (l : List ℕ). v ∷ l) (tabulate_same n v)
 
 -- one more value of f stored
 pub set_more : (l : List ℕ) (i v : ℕ) (f : ℕ → ℕ) → i < length l → ((k : ℕ) → k < i → get_or l k 0 ≡ f k) → v ≡ f i

@@ -24,10 +24,6 @@ unfoldable pub first_refusal : List Cause → ℕ
 first_refusal [] = 0
 first_refusal (c ∷ rest) = cond c.applies c.number (first_refusal rest)
 
--- the first of two refusals, each a number or 0 for none
-abbrev pub or_else : ℕ → ℕ → ℕ
-or_else n later = cond (not (eqb n 0)) n later
-
 -- ---- the order of the refusals
 
 -- the numbers in the order in which document 01, with the requests, has them tested

@@ -105,7 +105,12 @@ pub fn records_keep_rules(board: Board, records: &[u32]) -> bool
     ensures { result ≡ records_keep_rules board records.now }
 {
     let frames = u8::try_from(board.frames).unwrap();
-    (0..frames).all(|frame| record_at(records, frame).keeps_rules(board.colours))
+    for frame in 0..frames {
+        if !record_at(records, frame).keeps_rules(board.colours) {
+            return false;
+        }
+    }
+    true
 }
 
 // What a mapping lets its program do without a stop: 0 nothing, 1 read, 2 read and write, and 4 more to fetch. The sum of three tests, not a branch on
@@ -128,10 +133,11 @@ pub fn refill(colours: usize, list: MappingList, records: &[u32], protections: &
     ensures { (b : any.Board) → b.colours ≡ colours
         → protections.new ≡ tabulate (length protections.old) (protection_at b list records.now) }
 {
+    let unlisted = Mapping::zero();
     let listed = list.count.min(protections.len());
     for (i, protection) in protections[..listed].iter_mut().enumerate() {
-        let m = list.items.get(i).copied().unwrap_or(Mapping::zero());
-        *protection = protection_of(colours, records, m);
+        let m = list.items.get(i).unwrap_or(&unlisted);
+        *protection = protection_of(colours, records, *m);
     }
     protections[listed..].fill(0);
 }

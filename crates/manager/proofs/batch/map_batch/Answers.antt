@@ -9,7 +9,7 @@ use Rattle.manager.specs.Scaffold.Inserted.{list_after_items, refusal_at, relist
 use Rattle.manager.specs.Tables.{tables, tabulate}
 use Rattle.manager.proofs.BatchLaws.{whole_clear, relisted_same, relisted_more, made_refused, made_lent, made_listed}
 use Rattle.manager.proofs.CauseLaws.{some_number}
-use Rattle.manager.proofs.Laws.{filled}
+use Rattle.manager.proofs.Laws.{tabulate_same}
 use Rattle.manager.proofs.batch.map_batch.Goals as goal
 
 pub returns-in_err-whole_refusal : goal.returns-in_err-whole_refusal
@@ -24,7 +24,7 @@ returns-in-Err c =
     let lent = ap refusal_in c.in-Err.is in
     let fits = whole_clear _ _ _ whole in
     made_lent _ _ _ _ _ whole (λ z. some_number c.in-Err.refusal (sym lent ∙ z))
-    (filled _ _ _ c.fill.ensures.len c.fill.ensures.clones_before_last c.fill.ensures.last ∙ ap₂ (λ (n v : ℕ). tabulate n (λ k. v)) fits.2 (c.number.ensures ∙ sym lent))
+    (c.fill.ensures.after (λ y z. z) ∙ tabulate_same _ _ ∙ ap₂ (λ (n v : ℕ). tabulate n (λ k. v)) fits.2 (c.number.ensures ∙ sym lent))
 
 pub insert_all-next-requires : goal.insert_all-next-requires
 insert_all-next-requires c =

@@ -33,7 +33,7 @@ loop-i-init c = λ b e k l. absurd (omega arith)
 
 pub loop-i-preserved : goal.loop-i-preserved
 loop-i-preserved c =
-    let at : c.unwrap_or-m.result ≡ mapping_at c.args.list c.loop-i.i = search rules in
+    let at : c.unwrap_or-m.result.now ≡ mapping_at c.args.list c.loop-i.i = search rules in
     λ b e. set_more c.loop-i.protection-items c.loop-i.i _ _ (omega arith) (c.loop-i.invariant b e)
     (listed b c.args.list _ _ _ _ (omega (arith, length-take c.min-listed.result c.args.protections.now)) at (c.protection_of.ensures b e))
 
