@@ -12,7 +12,7 @@ use Rattle.page_model.specs.Busy.{reading, writing}
 use Rattle.page_model.specs.Table as table
 use Rattle.mapping.specs.Lookup.{lookup, place_of, place_for}
 use Rattle.manager.specs.Answers.{refused}
-use Rattle.manager.specs.Calls.{Result, call_result, change_of, write_step, planned, placed, step_result, list_result, commit_map, commit_unmap, plain_result, ended_tables}
+use Rattle.manager.specs.Calls.{Result, call_result, change_of, write_step, planned, step_result, list_result, commit_map, commit_unmap, plain_result, ended_tables}
 use Rattle.manager.specs.Refusals.{Cause, first_refusal, place_in, refusal_place, in_order, offset_cause, table_causes, map_causes, page_causes, read_causes, write_causes, fetch_causes, transfer_causes, part_causes, word_causes, end_causes}
 use Rattle.manager.specs.Tables.{refill}
 use Rattle.cache.specs.Store.{WellFormedStore}
@@ -57,10 +57,10 @@ pub single_agrees : (b : Board) (st : State) (call : Single) → WellFormedStore
 unfolding accept own_causes in_order refusal_place place_in first_refusal map_causes page_causes read_causes write_causes fetch_causes transfer_causes part_causes word_causes end_causes
 single_agrees b st (map space page frame rights) wf =
     agrees b st (map space page frame rights)
-    (λ n. list_result st.tables (λ place. commit_map b st.tables place (record { space = space; page = page; frame = frame; rights = rights })) (placed n (place_for st.tables.list space page)))
+    (λ n. list_result st.tables (λ place. commit_map b st.tables place (record { space = space; page = page; frame = frame; rights = rights })) (planned n (place_for st.tables.list space page)))
     refl (λ n. refl) _ (managers_first b st (map space page frame rights) wf refl [] (map_causes b st.tables space page frame rights) refl refl refl refl refl)
 single_agrees b st (unmap space page) wf =
-    agrees b st (unmap space page) (λ n. list_result st.tables (commit_unmap b st.tables) (placed n (place_of (lookup st.tables.list space page))))
+    agrees b st (unmap space page) (λ n. list_result st.tables (commit_unmap b st.tables) (planned n (place_of (lookup st.tables.list space page))))
     refl (λ n. refl) _ (managers_first b st (unmap space page) wf refl [] (page_causes b st.tables space page) refl refl refl refl refl)
 single_agrees b st (read space page offset) wf = λ h.
     agrees b st (read space page offset) (stepping b st (page_frame st space page) (table.read (colour_of b page))) refl (λ n. refl) _
