@@ -51,7 +51,7 @@ pub fn read(
     let next = change.next;
     let ops = change.ops;
     manager::commits::commit_change(COLOURS, list, records, protections, frame, next);
-    let colour = board::colour_of(BOARD01, page as usize);
+    let colour = BOARD01.colour_of(page as usize);
     let word = operations::load(
         BOARD01,
         memory,
@@ -103,7 +103,7 @@ pub fn write(
     let next = change.next;
     let ops = change.ops;
     manager::commits::commit_change(COLOURS, list, records, protections, frame, next);
-    let colour = board::colour_of(BOARD01, page as usize);
+    let colour = BOARD01.colour_of(page as usize);
     operations::put(
         BOARD01,
         memory,
@@ -155,8 +155,8 @@ pub fn fetch(
     let next = change.next;
     let ops = change.ops;
     manager::commits::commit_change(COLOURS, list, records, protections, frame, next);
-    let colour = board::colour_of(BOARD01, page as usize);
-    let instructions = board::instruction_page(BOARD01, colour);
+    let colour = BOARD01.colour_of(page as usize);
+    let instructions = BOARD01.instruction_page(colour);
     let instruction = operations::load(
         BOARD01,
         memory,
@@ -186,7 +186,7 @@ pub fn evict(
         (machine_of list records.now protections.old memory.old words.now tags.old)
         (call.evict line) }
 {
-    let own = plans::access_refusal(BOARD01, memory, words, tags, board::lines(BOARD01), line);
+    let own = plans::access_refusal(BOARD01, memory, words, tags, BOARD01.lines(), line);
     let kept = mapping::keeps_rules(BOARD01, list);
     let managers = manager::refusals::tables_refusal(BOARD01, kept, records, protections);
     let refusal = plans::earlier(own, managers);

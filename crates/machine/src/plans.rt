@@ -14,13 +14,13 @@ pub fn store_refusal(board: Board, memory: &[u32], words: &[u32], tags: &[u8]) -
     requires { Regular board }
     ensures { result ≡ first_refusal (store_causes board (store memory.now words.now tags.now) true) }
 {
-    if memory.len() != board::memory_words(board) {
+    if memory.len() != board.memory_words() {
         return 1;
     }
-    if words.len() != board::cache_words(board) {
+    if words.len() != board.cache_words() {
         return 1;
     }
-    if tags.len() != board::lines(board) {
+    if tags.len() != board.lines() {
         return 1;
     }
     if !cache::tag::tags_keep_rules(board, tags) {

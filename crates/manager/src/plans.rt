@@ -74,7 +74,7 @@ pub fn plan_access(
         return Plan::Refused(refusal);
     }
     let frame = seen.mapping.frame;
-    let colour = board::colour_of(board, page as usize);
+    let colour = board.colour_of(page as usize);
     let record = record_at(records, frame);
     match kind {
         AccessKind::Read => step_of(
