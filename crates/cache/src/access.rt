@@ -24,7 +24,7 @@ pub fn read_word(
     ensures state { store memory.new words.new tags.new ≡ access board frame colour offset (store memory.old words.old tags.old) }
 {
     access(board, memory, words, tags, frame, colour, offset);
-    let from = board::cache_at(board, colour, offset);
+    let from = board.cache_at(colour, offset);
     words[from]
 }
 
@@ -44,9 +44,9 @@ pub fn write_word(
     ensures { store memory.new words.new tags.new ≡ write_word board frame colour offset word (store memory.old words.old tags.old) }
 {
     access(board, memory, words, tags, frame, colour, offset);
-    let at = board::cache_at(board, colour, offset);
+    let at = board.cache_at(colour, offset);
     words[at] = word;
-    let line = board::line_of(board, colour, offset);
+    let line = board.line_of(colour, offset);
     tags[line] = Tag::Dirty(frame).byte();
 }
 
@@ -64,7 +64,7 @@ pub fn access(
     requires { WellFormedStore board (store memory.old words.old tags.old) × (frame < board.frames) × (colour < cache_pages board) × (offset < board.page) × Regular board }
     ensures { store memory.new words.new tags.new ≡ access board frame colour offset (store memory.old words.old tags.old) }
 {
-    let line = board::line_of(board, colour, offset);
+    let line = board.line_of(colour, offset);
     if !names(tags[line], frame) {
         replace(board, memory, words, tags, frame, line);
     }

@@ -11,7 +11,7 @@ pub fn device_read(board: Board, memory: &[u32], buffer: &mut [u32], frame: usiz
     requires { (length memory.now ≡ memory_words board) × (length buffer.old ≡ board.page) × (frame < board.frames) × Regular board }
     ensures { (words tags : List ℕ) → buffer.new ≡ device_read board frame (store memory.now words tags) }
 {
-    let from = board::memory_at(board, frame, 0);
+    let from = board.memory_at(frame, 0);
     buffer.copy_from_slice(&memory[from..from + board.page]);
 }
 
@@ -21,7 +21,7 @@ pub fn device_write(board: Board, memory: &mut [u32], buffer: &[u32], frame: usi
     requires { (length memory.old ≡ memory_words board) × (0 < length buffer.now) × (first + length buffer.now ≤ board.page) × (frame < board.frames) × Regular board }
     ensures { (words tags : List ℕ) → store memory.new words tags ≡ device_write board frame first buffer.now (store memory.old words tags) }
 {
-    let at = board::memory_at(board, frame, first);
+    let at = board.memory_at(frame, first);
     memory[at..at + buffer.len()].copy_from_slice(buffer);
 }
 
@@ -31,7 +31,7 @@ pub fn bring_word(board: Board, memory: &mut [u32], frame: usize, offset: usize,
     requires { (length memory.old ≡ memory_words board) × (frame < board.frames) × (offset < board.page) × Regular board }
     ensures { (words tags : List ℕ) → store memory.new words tags ≡ bring_word board frame offset word (store memory.old words tags) }
 {
-    memory[board::memory_at(board, frame, offset)] = word;
+    memory[board.memory_at(frame, offset)] = word;
 }
 
 // The word at an offset of a frame, for a device to take.
@@ -39,5 +39,5 @@ pub fn take_word(board: Board, memory: &[u32], frame: usize, offset: usize) -> u
     requires { (length memory.now ≡ memory_words board) × (frame < board.frames) × (offset < board.page) × Regular board }
     ensures { (words tags : List ℕ) → result ≡ memory_word board (store memory.now words tags) frame offset }
 {
-    memory[board::memory_at(board, frame, offset)]
+    memory[board.memory_at(frame, offset)]
 }

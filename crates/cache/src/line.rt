@@ -41,8 +41,8 @@ pub fn fill(
     requires { WellFormedStore board (store memory.now words.old tags.old) × (frame < board.frames) × (line < lines board) × Regular board }
     ensures { store memory.now words.new tags.new ≡ fill board frame line (store memory.now words.old tags.old) }
 {
-    let from = board::memory_at(board, frame, board::line_offset(board, line));
-    let at = board::line_at(board, line);
+    let from = board.memory_at(frame, board.line_offset(line));
+    let at = board.line_at(line);
     words[at..at + board.line].copy_from_slice(&memory[from..from + board.line]);
     tags[line] = Tag::Clean(frame).byte();
 }
@@ -53,7 +53,7 @@ fn copy_out(board: Board, memory: &mut [u32], words: &[u32], frame: usize, line:
     requires { (length memory.old ≡ memory_words board) × (length words.now ≡ cache_words board) × (frame < board.frames) × (line < lines board) × Regular board }
     ensures { (tags : List ℕ) → store memory.new words.now tags ≡ copy_out board frame line (store memory.old words.now tags) }
 {
-    let at = board::memory_at(board, frame, board::line_offset(board, line));
-    let from = board::line_at(board, line);
+    let at = board.memory_at(frame, board.line_offset(line));
+    let from = board.line_at(line);
     memory[at..at + board.line].copy_from_slice(&words[from..from + board.line]);
 }

@@ -21,14 +21,14 @@ pub fn flush(
     requires { WellFormedStore board (store memory.old words.now tags.old) × (frame < board.frames) × (colour < cache_pages board) × Regular board }
     ensures { store memory.new words.now tags.new ≡ flush board frame colour (store memory.old words.now tags.old) }
 {
-    for i in 0..board::page_lines(board) {
+    for i in 0..board.page_lines() {
         flush_line(
             board,
             memory,
             words,
             tags,
             frame,
-            board::colour_line(board, colour, i),
+            board.colour_line(colour, i),
         );
     }
 }
@@ -39,8 +39,8 @@ pub fn purge(board: Board, tags: &mut [u8], frame: usize, colour: usize)
     requires { (length tags.old ≡ lines board) × (frame < board.frames) × (colour < cache_pages board) × Regular board }
     ensures { (memory words : List ℕ) → store memory words tags.new ≡ purge board frame colour (store memory words tags.old) }
 {
-    for i in 0..board::page_lines(board) {
-        purge_line(board, tags, frame, board::colour_line(board, colour, i));
+    for i in 0..board.page_lines() {
+        purge_line(board, tags, frame, board.colour_line(colour, i));
     }
 }
 

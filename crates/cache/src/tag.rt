@@ -65,7 +65,7 @@ pub fn line_keeps_rules(board: Board, line: usize, tag: u8) -> bool
     match Tag::from(tag) {
         Tag::Empty => true,
         Tag::Clean(frame) => frame < board.frames,
-        Tag::Dirty(frame) => frame < board.frames && line < board::data_lines(board),
+        Tag::Dirty(frame) => frame < board.frames && line < board.data_lines(),
     }
 }
 

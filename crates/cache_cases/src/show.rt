@@ -20,7 +20,7 @@ pub fn read(
 {
     if cache::tag::tags_keep_rules(BOARD01, tags) {
         let word = cache::access::read_word(BOARD01, memory, words, tags, frame, colour, offset);
-        let at = board::line_of(BOARD01, colour, offset);
+        let at = BOARD01.line_of(colour, offset);
         io::write_all(STDOUT, b"read ");
         two(u64::from(word), u64::from(tags[at]));
     }
@@ -40,8 +40,8 @@ pub fn write(
 {
     if cache::tag::tags_keep_rules(BOARD01, tags) {
         cache::access::write_word(BOARD01, memory, words, tags, frame, colour, offset, word);
-        let at = board::line_of(BOARD01, colour, offset);
-        let home = board::memory_at(BOARD01, frame, offset);
+        let at = BOARD01.line_of(colour, offset);
+        let home = BOARD01.memory_at(frame, offset);
         io::write_all(STDOUT, b"write ");
         two(u64::from(tags[at]), u64::from(memory[home]));
     }
@@ -124,7 +124,7 @@ pub fn take_word(memory: &[u32; 4096], frame: usize, offset: usize)
 pub fn line(words: &[u32; 1024], tags: &[u8; 128], line: usize, place: usize)
     requires { (line < 128) × (place < board01.line) }
 {
-    let at = board::line_at(BOARD01, line) + place;
+    let at = BOARD01.line_at(line) + place;
     io::write_all(STDOUT, b"line ");
     two(u64::from(tags[line]), u64::from(words[at]));
 }
@@ -133,7 +133,7 @@ pub fn line(words: &[u32; 1024], tags: &[u8; 128], line: usize, place: usize)
 pub fn memory_word(memory: &[u32; 4096], frame: usize, offset: usize)
     requires { (frame < board01.frames) × (offset < board01.page) }
 {
-    let at = board::memory_at(BOARD01, frame, offset);
+    let at = BOARD01.memory_at(frame, offset);
     io::write_all(STDOUT, b"memory ");
     one(u64::from(memory[at]));
 }

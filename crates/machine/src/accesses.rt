@@ -79,7 +79,7 @@ pub fn write(
     );
     let change = plans::earlier(own, managers)?;
     let operations = manager::commits::carry_out(COLOURS, list, records, protections, change);
-    let colour = board::colour_of(BOARD01, usize::from(page));
+    let colour = BOARD01.colour_of(usize::from(page));
     operations::put(
         BOARD01, memory, words, tags, operations, colour, offset, word,
     );
@@ -134,7 +134,7 @@ pub fn evict(
         (machine_of list records.now protections.old memory.old words.now tags.old)
         (call.evict line) }
 {
-    let own = plans::access_refusal(BOARD01, memory, words, tags, board::lines(BOARD01), line);
+    let own = plans::access_refusal(BOARD01, memory, words, tags, BOARD01.lines(), line);
     let kept = mapping::keeps_rules(BOARD01, list);
     let managers = manager::refusals::tables_refusal(BOARD01, kept, records, protections);
     plans::earlier(own, managers)?;
@@ -168,7 +168,7 @@ fn load(
     let managers = plan_access(BOARD01, looked, records, protections, space, page, kind);
     let change = plans::earlier(own, managers)?;
     let operations = manager::commits::carry_out(COLOURS, list, records, protections, change);
-    let through = cache.page(board::colour_of(BOARD01, usize::from(page)));
+    let through = cache.page(BOARD01.colour_of(usize::from(page)));
     let word = operations::load(BOARD01, memory, words, tags, operations, through, offset);
     Ok(Loaded { operations, word })
 }
@@ -199,7 +199,7 @@ impl Cache {
     {
         match self {
             Cache::Data => colour,
-            Cache::Instructions => board::instruction_page(BOARD01, colour),
+            Cache::Instructions => BOARD01.instruction_page(colour),
         }
     }
 }

@@ -23,7 +23,7 @@ fn operate(board: Board, memory: &mut [u32], words: &[u32], tags: &mut [u8], fra
         Op::Flush(colour) => cache::operation::flush(board, memory, words, tags, frame, colour),
         Op::Purge(colour) => cache::operation::purge(board, tags, frame, colour),
         Op::PurgeInstructions(colour) => {
-            let page = board::instruction_page(board, colour);
+            let page = board.instruction_page(colour);
             cache::operation::purge(board, tags, frame, page)
         }
     }

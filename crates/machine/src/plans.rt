@@ -19,13 +19,13 @@ pub fn store_refusal(
     requires { Regular board }
     ensures { refusal_in result ≡ first_refusal (store_causes board (store memory.now words.now tags.now) true) }
 {
-    if memory.len() != board::memory_words(board) {
+    if memory.len() != board.memory_words() {
         return Err(Refusal::WrongLength);
     }
-    if words.len() != board::cache_words(board) {
+    if words.len() != board.cache_words() {
         return Err(Refusal::WrongLength);
     }
-    if tags.len() != board::lines(board) {
+    if tags.len() != board.lines() {
         return Err(Refusal::WrongLength);
     }
     if !cache::tag::tags_keep_rules(board, tags) {

@@ -74,7 +74,7 @@ pub fn plan_access(
     let seen = tested(board, looked, records, protections)?;
     let mapping = mapping_at(seen, space, page)?;
     rights_refusal(kind, mapping.rights)?;
-    let colour = board::colour_of(board, usize::from(page));
+    let colour = board.colour_of(usize::from(page));
     let step = match kind {
         AccessKind::Read => Step::Read(colour),
         AccessKind::Write => Step::Write(colour),

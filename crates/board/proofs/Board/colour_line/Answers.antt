@@ -1,7 +1,7 @@
--- `board::colour_line` meets its contract.
+-- `board::Board::colour_line` meets its contract.
 use Rattle.board.specs.Board.{colour_line}
 use Rattle.board.proofs.Geometry.{colour_line_lt}
-use Rattle.board.proofs.colour_line.Goals as goal
+use Rattle.board.proofs.Board.colour_line.Goals as goal
 
 pub returns-clause-within : goal.returns-clause-within
 unfolding colour_line

@@ -1,7 +1,7 @@
--- `board::cache_at` meets its contract.
+-- `board::Board::cache_at` meets its contract.
 use borrow.Author.Rules.{rules}
 use Rattle.board.proofs.Geometry.{cache_at_flat, cache_at_lt, cache_words_small}
-use Rattle.board.proofs.cache_at.Goals as goal
+use Rattle.board.proofs.Board.cache_at.Goals as goal
 
 pub returns-clause-within : goal.returns-clause-within
 returns-clause-within c =
