@@ -1,6 +1,5 @@
 -- `manager::plans::plan_access` meets its contract.
 use mathlib.Core.Path.{◌∙◌}
-use Rattle.board.specs.Board.{colour_of}
 use Rattle.manager.proofs.PlanLaws.{access_refused, access_rules, access_planned}
 use Rattle.manager.proofs.plans.plan_access.Goals as goal
 
