@@ -42,6 +42,7 @@ pub fn map_batch(
 }
 
 // The refusal of the whole.
+#[tactic(auto, unfolding(crate::specs::Refusals::first_refusal, crate::specs::Scaffold::Inserted::whole_refusal))]
 fn whole_refusal(lent: Result<(), Refusal>, items: usize, answers: usize) -> Result<(), Refusal>
     ensures { refusal_in result ≡ whole_refusal (refusal_in lent) items answers }
 {

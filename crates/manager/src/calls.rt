@@ -1,4 +1,6 @@
 // The calls that a kernel makes. Each makes a plan, which changes nothing, and commits it unless it is a refusal. A word and the end of a transfer need no operations: they only test for a refusal before they commit. A list of mappings is its items in order.
+#![tactic(auto, using(board::proofs::Geometry::board01_regular))]
+
 ghost use Rattle.std.specs.Prelude.{◌≡◌, length};
 ghost use Rattle.board.specs.Board.{board01};
 ghost use Rattle.mapping.specs.Batch.{items_of};

@@ -28,9 +28,6 @@ unlisted : (b : Board) (l : MappingList) (rs : List ℕ) (i : ℕ) → l.count �
 unfolding protection_at
 unlisted b l rs i le = rw (le-ltb _ _ le)
 
-pub loop-i-init : goal.loop-i-init
-loop-i-init c = λ b e k l. absurd (omega arith)
-
 pub loop-i-preserved : goal.loop-i-preserved
 loop-i-preserved c =
     let at : c.unwrap_or-m.result.now ≡ mapping_at c.args.list c.loop-i.i = search rules in
