@@ -15,7 +15,7 @@ use super::refusals::mapping_refusal;
 use board::Board;
 use mapping::{Batch, MappingList};
 
-// Maps the items in turn, where `lent` is the refusal in what is lent. Each item's answer is 0, or the number of its refusal.
+// Maps the items in turn, where `lent` says whether what is lent is refused. Each item's answer is 0, or the number of its refusal.
 pub fn map_batch(
     board: Board,
     list: MappingList,

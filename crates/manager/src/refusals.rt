@@ -1,4 +1,5 @@
-// The refusal of each call, by the first cause that applies. `seen` is what a look at the list told of the call's page, and `kept` whether the list keeps its rules.
+// The tests that calls make before they do anything: an error is the refusal of the first cause that applies. `seen` is what a look at the list told of
+// the call's page, and `kept` whether the list keeps its rules.
 ghost use Rattle.std.specs.Prelude.{[], ◌∷◌, ◌++◌, ◌≡◌, IfOk, Some, is_some};
 ghost use Rattle.board.specs.Board.{Regular};
 ghost use Rattle.manager.specs.Answers.{refusal_in};
