@@ -5,10 +5,9 @@ use mathlib.Core.List.{List, [], ◌∷◌, ◌++◌}
 use Rattle.std.proofs.Common.{Result}
 use Rattle.std.proofs.lemmas.Result.{err_from_is_err_and}
 use Rattle.std.specs.Result.{IsErrAnd}
-use Prim.Native.Nat.{ℕ, zero, suc, ◌*◌, ◌<◌}
-use native.Mathlib.Decide.{ℕ_discrete}
+use Prim.Native.Nat.{ℕ, ◌*◌, ◌<◌}
 use native.Mathlib.Omega.{arith}
-use borrow.Author.Tests.{eq-eqb, ne_eqb, ltb-true, leb-false, not-false}
+use borrow.Author.Tests.{eq-eqb, ltb-true, leb-false, not-false}
 use lib.Dec.{eqb, ltb}
 use lib.ListN.{length}
 use Rattle.bits.proofs.Mask.{all_at}
@@ -148,6 +147,18 @@ refused_first cs ds r e told is =
 -- or it passes, and leaves it to the rest
 pub refused_then : (cs ds : List Cause) {n : ℕ} → numbered cs ≡ true → 0 ≡ first_refusal cs → n ≡ first_refusal ds → n ≡ first_refusal (cs ++ ds)
 refused_then cs ds n passed own = own ∙ refusal_rest cs ds n (sym passed)
+
+-- the same of what every call of a device tests first: what is lent, and the frame
+module _ (b : Board) (kept : Bool) (rs ps : List ℕ) (frame : ℕ) (ds : List Cause) where
+  pub frame_first : {A : Type 0} (r : Result A Refusal) (e : Refusal) → refusal_number e ≡ first_refusal (told_tables b kept rs ps ++ frame_cause b frame ∷ []) → IsErrAnd r (λ y. y ≡ e)
+      → refusal_in r ≡ first_refusal (told_tables b kept rs ps ++ frame_cause b frame ∷ ds)
+  unfolding told_tables
+  frame_first = refused_first (told_tables b kept rs ps ++ frame_cause b frame ∷ []) ds
+
+  pub frame_then : {n : ℕ} → 0 ≡ first_refusal (told_tables b kept rs ps ++ frame_cause b frame ∷ []) → n ≡ first_refusal ds
+      → n ≡ first_refusal (told_tables b kept rs ps ++ frame_cause b frame ∷ ds)
+  unfolding told_tables
+  frame_then = refused_then (told_tables b kept rs ps ++ frame_cause b frame ∷ []) ds refl
 
 pub tables_numbered : (b : Board) (kept : Bool) (rs ps : List ℕ) → numbered (told_tables b kept rs ps) ≡ true
 unfolding told_tables

@@ -4,12 +4,12 @@ use mathlib.Core.Bool.{Bool, true, false, cond, ◌&&◌, false≢true}
 use mathlib.Core.List.Memᴰ
 use mathlib.Core.List.{List, [], ◌∷◌, Memᴰ}
 use mathlib.Core.Logic.{⊎_elim}
-use Prim.Native.Nat.{ℕ, zero, suc, ◌≤◌, ◌<◌}
+use Prim.Native.Nat.{ℕ, suc, ◌≤◌, ◌<◌}
 use native.Mathlib.Omega.{arith}
-use borrow.Author.Tests.{leb-true, ltb-true, lt-ltb, eq-eqb, ne_eqb}
-use lib.ListN.{length, get_or}
+use borrow.Author.Tests.{leb-true, ltb-true, lt-ltb}
+use lib.ListN.{length}
 use Rattle.bits.proofs.Tautology.{and_left, and_right}
-use Rattle.manager.specs.Refusals.{Cause, first_refusal, refusal_order, place_in, refusal_place, in_order}
+use Rattle.manager.specs.Refusals.{Cause, first_refusal, refusal_order, refusal_place, in_order}
 use Rattle.manager.specs.Theorems.{First, FirstRefusal}
 use Rattle.manager.proofs.CauseLaws.{numbered}
 

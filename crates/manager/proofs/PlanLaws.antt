@@ -4,7 +4,6 @@ use mathlib.Core.Path.{◌≡◌, refl, sym, ap, ap₂, ◌∙◌}
 use mathlib.Core.Bool.{true, cond}
 use mathlib.Core.List.{List, [], ◌∷◌, ◌++◌}
 use Prim.Native.Nat.{ℕ, zero, suc}
-use lib.ListN.{length}
 use Rattle.std.proofs.Common.{Result, Ok, Err}
 use Rattle.std.proofs.lemmas.Result.{err_from_is_err_and}
 use Rattle.std.specs.Result.{IsErrAnd}
@@ -13,21 +12,17 @@ use Rattle.board.specs.Board.{colour_of}
 use Rattle.page_model.specs.Busy.{bars}
 use Rattle.page_model.specs.Record.{keeps_rules}
 use Rattle.page_model.specs.Table.{Step, read, write, fetch}
-use Rattle.mapping.specs.declared.MappingList.{MappingList}
-use Rattle.mapping.specs.declared.Seen.{Seen}
-use Rattle.mapping.specs.Entry.{capacity}
-use Rattle.mapping.specs.Look.{find, look}
 use Rattle.mapping.specs.Lookup.{listed_mapping}
 use Rattle.manager.specs.declared.AccessKind.{AccessKind}
 use Rattle.manager.specs.declared.AccessKind.TheVariants.{Read, Write, Fetch}
 use Rattle.manager.specs.declared.Change.{Change}
 use Rattle.manager.specs.declared.FrameOps.{FrameOps}
 use Rattle.manager.specs.declared.refusal.Refusal.{Refusal}
-use Rattle.manager.specs.Calls.{ListPlan, Plan, planned, change_of, plan_access, call_result, list_outcome, list_left, no_ops, plain_result, commit_change, step_result, list_result}
+use Rattle.manager.specs.Calls.{Plan, planned, change_of, plan_access, call_result, no_ops, plain_result}
 use Rattle.manager.specs.Answers.{refused, refusal_number, by_number, outcome}
 use Rattle.manager.specs.Refusals.{Cause, first_refusal, busy_cause, table_causes, page_causes, read_causes, write_causes, fetch_causes}
 use Rattle.manager.specs.Scaffold.Told.{told_rights}
-use Rattle.manager.specs.Tables.{Tables, tables, record_at}
+use Rattle.manager.specs.Tables.{Tables, record_at}
 use Rattle.manager.proofs.CauseLaws.{numbered, some_number, refusal_prefix, refusal_rest, page_rules}
 
 -- a refusal plans nothing
@@ -106,26 +101,8 @@ module _ (b : Board) (t : Tables) (space page : ℕ) (kind : AccessKind) where
         (e ∙ (λ i. planned (cond (bars (record_at t.records (frame i)).busy (es i)) 15 0) (change_of b t (frame i) (es i))))
         ∙ access_plan b t space page kind
 
--- ---- calls, at the exit of a `?` and past it
+-- ---- a call without orders, at the exit of a `?` and past it
 
--- of a step
-pub step_refused : (b : Board) (t : Tables) {plan : Plan} (r : Result FrameOps Refusal) (e : Refusal) → Err (refusal_number e) ≡ plan → IsErrAnd r (λ y. y ≡ e)
-    → call_result (outcome r) t ≡ step_result b t plan
-step_refused b t r e told is = let p = err_from_is_err_and r is in rw (p.1, p.2) (ap (step_result b t) told)
-
-pub step_made : (b : Board) (t : Tables) {plan : Plan} {change : Change} {o : FrameOps} {u : Tables} → Ok change ≡ plan → o ≡ record { frame = change.frame; ops = change.ops }
-    → u ≡ commit_change b t change.frame change.next
-    → call_result (outcome (Ok o)) u ≡ step_result b t plan
-step_made b t told eo eu = ap₂ call_result (ap (λ (o : FrameOps). outcome (Ok o)) eo) eu ∙ ap (step_result b t) told
-
--- of a change of the list
-pub list_refused : (l : MappingList) (rs ps : List ℕ) (next : ℕ → Tables) {plan : ListPlan} (r : Result MappingList Refusal) (e : Refusal) → Err (refusal_number e) ≡ plan
-    → IsErrAnd r (λ y. y ≡ e)
-    → call_result (list_outcome r) (tables (list_left l r) rs ps) ≡ list_result (tables l rs ps) next plan
-list_refused l rs ps next r e told is =
-    let p = err_from_is_err_and r is in rw (p.1, p.2) (ap (list_result (tables l rs ps) next) told)
-
--- of a call without orders
 pub plain_refused : (n : ℕ) (t next : Tables) (r : Result FrameOps Refusal) (e : Refusal) → refusal_number e ≡ n → IsErrAnd r (λ y. y ≡ e)
     → call_result (outcome r) t ≡ plain_result n t next
 plain_refused n t next r e told is =

@@ -15,7 +15,7 @@ use super::refusals::mapping_refusal;
 use board::Board;
 use mapping::{Batch, MappingList};
 
-// Maps the items in turn, where `lent` is the refusal in what is lent. Each item's answer is 0, or the number of its refusal.
+// Maps the items in turn, where `lent` says whether what is lent is refused. Each item's answer is 0, or the number of its refusal.
 pub fn map_batch(
     board: Board,
     list: MappingList,
@@ -42,6 +42,7 @@ pub fn map_batch(
 }
 
 // The refusal of the whole.
+#[tactic(auto, unfolding(crate::specs::Refusals::first_refusal, crate::specs::Scaffold::Inserted::whole_refusal))]
 fn whole_refusal(lent: Result<(), Refusal>, items: usize, answers: usize) -> Result<(), Refusal>
     ensures { refusal_in result ≡ whole_refusal (refusal_in lent) items answers }
 {

@@ -1,4 +1,8 @@
-// The calls that a kernel makes. Each makes a plan, which changes nothing, and commits it unless it is a refusal. A word and the end of a transfer need no operations: they only test for a refusal before they commit. A list of mappings is its items in order.
+// The calls that a kernel makes. Each answers a Result: the refusal of the first cause that applies, which leaves all as it was, or the list or the
+// operations. It makes a plan, which changes nothing, and commits it unless that is refused. A word and the end of a transfer need no operations: they
+// only test for a refusal before they commit. A list of mappings is its items in order.
+#![tactic(auto, using(board::proofs::Geometry::board01_regular))]
+
 ghost use Rattle.std.specs.Prelude.{◌≡◌, length};
 ghost use Rattle.board.specs.Board.{board01};
 ghost use Rattle.mapping.specs.Batch.{items_of};
@@ -38,7 +42,7 @@ pub fn map(
     Ok(commit_map(COLOURS, list, records, protections, place, m))
 }
 
-// Gives each item's page its frame, in order, and answers each: 0, or the number of its refusal. Only 1 and 12 refuse the whole.
+// Gives each item's page its frame, in order, and answers each: 0, or the number of its refusal. Only WrongLength and WrongBatch refuse the whole.
 pub fn map_all(
     list: MappingList,
     records: &[u32],

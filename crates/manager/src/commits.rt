@@ -1,4 +1,6 @@
 // What carries a plan out. Of the board a commit asks only how many colours it has.
+#![tactic(auto, unfolding(crate::specs::Tables::refill))]
+
 ghost use Rattle.std.specs.Prelude.{◌≡◌};
 ghost use Rattle.board.specs.declared.Board as any;
 ghost use Rattle.manager.specs.Calls.{commit_map, commit_unmap, commit_change};

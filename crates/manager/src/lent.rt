@@ -8,7 +8,7 @@ ghost use Rattle.manager.specs.Tables.{tables};
 use super::Refusal;
 use mapping::{Mapping, MappingList};
 
-// `map_all` of items that are lent where they lie, with an answer for each. More than a batch has are refused with 12.
+// `map_all` of items that are lent where they lie, with an answer for each. More than a batch has are refused as a WrongBatch.
 pub fn map_all(
     list: MappingList,
     records: &[u32],

@@ -1,4 +1,5 @@
-// The manager: keeps the page states of all frames and says which operations are due (document 01: orders). This file has the types of its answers and plans, and the names by which a kernel calls it.
+// The manager: keeps the page states of all frames and says which operations are due (document 01: orders). This file has what a plan and an answer say
+// where a call is not refused, and the names by which a kernel calls it.
 #![tactic(auto)]
 
 pub mod batch;

@@ -1,4 +1,5 @@
-// What each call with operations, and each change of the list, would do: a refusal, or the step of one frame's record, or a place in the list. A plan changes nothing.
+// What each call with operations, and each change of the list, would do. A plan is a Result and changes nothing: it is the refusal of the first cause
+// that applies, or the change of one frame's record, or a place in the list.
 ghost use Rattle.std.specs.Prelude.{◌≡◌, true, cond, ℕ, ◌≤◌, List, length};
 ghost use Rattle.board.specs.Board.{Regular};
 ghost use Rattle.page_model.specs.Busy.{bars};

@@ -1,4 +1,4 @@
-// Why a call is refused.
+// Why a call is refused: the error of every call, plan and test.
 ghost use Rattle.std.specs.Prelude.{◌≡◌};
 ghost use Rattle.manager.specs.Answers.{refusal_number};
 

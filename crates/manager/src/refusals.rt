@@ -1,4 +1,5 @@
-// The refusal of each call, by the first cause that applies. `seen` is what a look at the list told of the call's page, and `kept` whether the list keeps its rules.
+// The tests that calls make before they do anything: an error is the refusal of the first cause that applies. `seen` is what a look at the list told of
+// the call's page, and `kept` whether the list keeps its rules.
 ghost use Rattle.std.specs.Prelude.{[], ◌∷◌, ◌++◌, ◌≡◌, IfOk, Some, is_some};
 ghost use Rattle.board.specs.Board.{Regular};
 ghost use Rattle.manager.specs.Answers.{refusal_in};
@@ -12,6 +13,7 @@ use mapping::{Mapping, Seen};
 use page_model::busy;
 
 // The refusal in what every call is lent.
+#[tactic(auto, unfolding(crate::specs::Refusals::first_refusal, crate::specs::Scaffold::Told::told_tables))]
 pub fn tables_refusal(
     board: Board,
     kept: bool,
@@ -52,6 +54,7 @@ pub fn tested(
 }
 
 // The refusal of a mapping in its numbers and the list, where all that is lent is as it should be.
+#[tactic(auto, unfolding(crate::specs::Refusals::first_refusal))]
 pub fn mapping_refusal(board: Board, seen: Seen, m: Mapping) -> Result<(), Refusal>
     ensures { refusal_in result ≡ first_refusal (told_mapping board m.space m.page m.frame m.rights seen) }
 {
@@ -74,6 +77,7 @@ pub fn mapping_refusal(board: Board, seen: Seen, m: Mapping) -> Result<(), Refus
 }
 
 // The mapping of a page of a space, where all that is lent is as it should be.
+#[tactic(auto, unfolding(crate::specs::Refusals::first_refusal))]
 pub fn mapping_at(seen: Seen, space: u8, page: u16) -> Result<Mapping, Refusal>
     ensures refusal { refusal_in result ≡ first_refusal (told_page space page seen) }
     ensures mapping { IfOk result (λ m. seen.mapping ≡ Some m) }
@@ -85,6 +89,7 @@ pub fn mapping_at(seen: Seen, space: u8, page: u16) -> Result<Mapping, Refusal>
 }
 
 // The refusal of an access in the rights of its mapping.
+#[tactic(auto, unfolding(crate::specs::Refusals::first_refusal))]
 pub fn rights_refusal(kind: AccessKind, rights: u8) -> Result<(), Refusal>
     ensures { refusal_in result ≡ first_refusal (told_rights kind rights) }
 {

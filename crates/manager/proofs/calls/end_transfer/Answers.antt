@@ -1,7 +1,6 @@
 -- `manager::end_transfer` meets its contract.
 use mathlib.Core.Path.{refl, ap, ◌∙◌}
 use Rattle.board.specs.Board.{board01}
-use Rattle.board.proofs.Geometry.{board01_regular}
 use Rattle.page_model.specs.Record.{freed}
 use Rattle.mapping.proofs.Laws.{items_length}
 use Rattle.manager.specs.Calls.{commit_change}
@@ -10,9 +9,6 @@ use Rattle.manager.specs.Tables.{tables}
 use Rattle.manager.proofs.CauseLaws.{told_own}
 use Rattle.manager.proofs.PlanLaws.{plain_refused, plain_made}
 use Rattle.manager.proofs.calls.end_transfer.Goals as goal
-
-pub end_refusal-requires : goal.end_refusal-requires
-end_refusal-requires c = board01_regular
 
 pub returns-in_err-end_refusal : goal.returns-in_err-end_refusal
 unfolding end_causes

@@ -13,9 +13,6 @@ use Rattle.manager.proofs.CauseLaws.{list_keeps, told_tables_lem, tables_clear}
 use Rattle.manager.proofs.Singly.{map_all_made}
 use Rattle.manager.proofs.calls.map_all.Goals as goal
 
-pub tables_refusal-lent-requires : goal.tables_refusal-lent-requires
-tables_refusal-lent-requires c = board01_regular
-
 pub map_batch-requires : goal.map_batch-requires
 map_batch-requires c =
     let t = tables c.args.list c.args.records.now c.args.protections.now in

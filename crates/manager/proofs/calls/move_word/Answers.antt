@@ -1,16 +1,12 @@
 -- `manager::move_word` meets its contract.
 use mathlib.Core.Path.{refl, ap, ◌∙◌}
 use Rattle.board.specs.Board.{board01}
-use Rattle.board.proofs.Geometry.{board01_regular}
 use Rattle.mapping.proofs.Laws.{items_length}
 use Rattle.manager.specs.Refusals.{word_causes}
 use Rattle.manager.specs.Tables.{tables, refill}
 use Rattle.manager.proofs.CauseLaws.{told_own}
 use Rattle.manager.proofs.PlanLaws.{plain_refused, plain_made}
 use Rattle.manager.proofs.calls.move_word.Goals as goal
-
-pub word_refusal-requires : goal.word_refusal-requires
-word_refusal-requires c = board01_regular
 
 pub returns-in_err-word_refusal : goal.returns-in_err-word_refusal
 unfolding word_causes

@@ -1,7 +1,6 @@
 -- `manager::records::records_keep_rules` meets its contract.
 use mathlib.Core.Path.{◌≡◌, sym, ◌∙◌, ap}
 use native.Mathlib.Omega.{arith}
-use borrow.Author.Count.{below_more}
 use Rattle.std.proofs.Common.{rules}
 use Rattle.bits.proofs.Mask.{all_of}
 use Rattle.mapping.proofs.Tests.{all_not}
@@ -14,9 +13,6 @@ unfolding records_keep_rules
 returns-then-not-keeps_rules c =
     let frames : c.unwrap-frames.result ≡ c.args.board.frames = search rules in
     sym (all_not _ _ c.loop-frame.frame (omega arith) (sym (c.keeps_rules.ensures ∙ ap (keeps_rules _) c.record_at.ensures) ∙ search rules))
-
-pub loop-frame-preserved : goal.loop-frame-preserved
-loop-frame-preserved c = below_more _ _ c.loop-frame.invariant (sym (c.keeps_rules.ensures ∙ ap (keeps_rules _) c.record_at.ensures) ∙ search rules)
 
 pub returns : goal.returns
 unfolding records_keep_rules

@@ -4,7 +4,7 @@ use mathlib.Core.Logic.{⊎_elim}
 use mathlib.Core.List.{List, ◌++◌}
 use Prim.Native.Nat.{ℕ, ◌-◌, ◌≤◌, ◌<◌}
 use native.Mathlib.Omega.{arith}
-use lib.ListN.{get_or, length, take, drop}
+use lib.ListN.{get_or, length, take, drop, replicate}
 use borrow.Author.Tests.{lt-ltb, le-ltb}
 use Rattle.board.specs.declared.Board.{Board}
 use Rattle.mapping.specs.declared.Mapping.{Mapping}
@@ -28,8 +28,8 @@ unlisted : (b : Board) (l : MappingList) (rs : List ℕ) (i : ℕ) → l.count �
 unfolding protection_at
 unlisted b l rs i le = rw (le-ltb _ _ le)
 
-pub loop-i-init : goal.loop-i-init
-loop-i-init c = λ b e k l. absurd (omega arith)
+cleared : (rest : List ℕ) (n k : ℕ) → rest ≡ replicate n 0 → k < n → get_or rest k 0 ≡ 0
+cleared rest n k e h = ap (λ (l : List ℕ). get_or l k 0) e ∙ get_or-replicate n k 0 0 h
 
 pub loop-i-preserved : goal.loop-i-preserved
 loop-i-preserved c =
@@ -61,7 +61,6 @@ returns c b e =
     (λ k h. ⊎_elim
     (λ o. get_or_append_left ps rest 0 k (omega arith) ∙ c.loop-i.invariant b e k (omega arith))
     (λ o. get_or-append_right ps rest n k 0 long o
-    ∙ ap (λ (l : List ℕ). get_or l (k - n) 0) (c.fill.ensures.after (λ y z. z))
-    ∙ get_or-replicate _ (k - n) 0 0 (omega (arith, w.0))
+    ∙ cleared rest _ (k - n) (c.fill.ensures.after (λ y z. z)) (omega (arith, w.0))
     ∙ unlisted b c.args.list _ k (omega arith))
     (lt_or_le k n))

@@ -1,7 +1,0 @@
--- `manager::put_word` meets its contract.
-use mathlib.Core.Path.{sym}
-use lib.Seq.{set_out}
-use Rattle.manager.proofs.records.put_word.Goals as goal
-
-pub returns-else-i-words : goal.returns-else-i-words
-returns-else-i-words c = sym (set_out _ _ _ c.if-i-words.false)
