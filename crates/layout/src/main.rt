@@ -3,32 +3,30 @@
 // the protections.
 #![tactic(auto)]
 
-ghost use Rattle.std.specs.Prelude.{◌≤◌};
+ghost use Rattle.std.specs.Prelude.{◌≤◌, length};
 
 use mapping::{BATCH, Batch, Mapping, MappingList};
+use std::array;
 
 // Standard input.
 const STDIN: i32 = 0;
 
-// Standard output.
-const STDOUT: i32 = 1;
-
-fn main() {
+fn main(rt: HostRuntime) -> std::io::Result<()> {
     let mut how = [0u8; 2];
     io::read_full(STDIN, &mut how);
+    let [first, way] = how;
     // Frame 0 is present in every colour, so each mapping of it, one of 64, has the protection 1.
     let mut records = [0u32; 448];
     manager::start(&mut records);
     records[0] = 255;
     let mut protections = [0u8; 256];
-    let first = how[0];
     let before = listed(first);
-    let after = match how[1] {
+    let after = match way {
         1 => singly(before, &records, &mut protections, first),
         2 => at_once(before, &records, &mut protections, first),
         _ => before,
     };
-    show(after, &protections);
+    println!(rt; "{} listed, protections {}", after.count, sum(&protections))
 }
 
 // Mapping k: page k of space 0, in frame k modulo 64, to read and write.
@@ -44,10 +42,8 @@ fn mapping_of(k: u16) -> Mapping {
 // The list of the first mappings.
 fn listed(count: u8) -> MappingList {
     let mut list = mapping::empty();
-    let mut k: u8 = 0;
-    while k < count {
-        list = mapping::insert_at(list, list.count, mapping_of(k as u16));
-        k += 1;
+    for k in 0..u16::from(count) {
+        list = mapping::insert_at(list, list.count, mapping_of(k));
     }
     list
 }
@@ -60,11 +56,8 @@ fn singly(
     first: u8,
 ) -> MappingList {
     let mut next = list;
-    let mut k: u16 = 0;
-    while k < 64 {
-        let answer = manager::map(next, records, protections, mapping_of(first as u16 + k));
-        next = answer.list;
-        k += 1;
+    for m in batch(first).items {
+        next = manager::map(next, records, protections, m).unwrap_or(next);
     }
     next
 }
@@ -77,43 +70,23 @@ fn at_once(
     first: u8,
 ) -> MappingList {
     let mut answers = [0u8; BATCH];
-    let answer = manager::map_all(list, records, protections, batch(first), &mut answers);
-    answer.list
+    manager::map_all(list, records, protections, batch(first), &mut answers).unwrap_or(list)
 }
 
 // The 64 from `first` on.
 fn batch(first: u8) -> Batch {
-    let mut items = [Mapping::zero(); BATCH];
-    let mut k: u16 = 0;
-    while k < 64 {
-        items[k as usize] = mapping_of(first as u16 + k);
-        k += 1;
-    }
     Batch {
-        items,
+        items: array::from_fn(|i| mapping_of(u16::from(first) + i as u16)),
         count: BATCH,
     }
 }
 
-fn show(list: MappingList, protections: &[u8; 256]) {
-    io::print_decimal(STDOUT, list.count as u64);
-    io::write_all(STDOUT, b" listed, protections ");
-    io::print_decimal(STDOUT, sum(protections));
-    io::write_all(STDOUT, b"\n");
-}
-
-fn sum(protections: &[u8; 256]) -> u64 {
-    let mut n = 0;
-    let mut i: usize = 0;
-    while i < 256 {
-        n += wide(protections[i]);
-        i += 1;
-    }
-    n
-}
-
-fn wide(byte: u8) -> u64
-    ensures { result ≤ 255 }
+// The sum of the protections.
+fn sum(protections: &[u8]) -> u64
+    requires { length protections.now ≤ 256 }
 {
-    byte as u64
+    protections
+        .iter()
+        .map(|protection| u64::from(*protection))
+        .sum()
 }

@@ -1,9 +1,0 @@
--- `layout::singly` meets its contract.
-use Rattle.std.proofs.Common.{◌≤◌, ◌-◌}
-use Rattle.layout.proofs.singly.Given as goal
-
-abbrev pub invariant-loop-k : goal.invariant-loop-k
-invariant-loop-k l = l.k ≤ 64
-
-abbrev pub decreases-loop-k : goal.decreases-loop-k
-decreases-loop-k l = 64 - l.k
