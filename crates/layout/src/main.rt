@@ -6,29 +6,27 @@
 ghost use Rattle.std.specs.Prelude.{◌≤◌, length};
 
 use mapping::{BATCH, Batch, Mapping, MappingList};
+use std::array;
 
 // Standard input.
 const STDIN: i32 = 0;
 
-// Standard output.
-const STDOUT: i32 = 1;
-
-fn main() {
+fn main(rt: HostRuntime) -> std::io::Result<()> {
     let mut how = [0u8; 2];
     io::read_full(STDIN, &mut how);
+    let [first, way] = how;
     // Frame 0 is present in every colour, so each mapping of it, one of 64, has the protection 1.
     let mut records = [0u32; 448];
     manager::start(&mut records);
     records[0] = 255;
     let mut protections = [0u8; 256];
-    let first = how[0];
     let before = listed(first);
-    let after = match how[1] {
+    let after = match way {
         1 => singly(before, &records, &mut protections, first),
         2 => at_once(before, &records, &mut protections, first),
         _ => before,
     };
-    show(after, &protections);
+    println!(rt; "{} listed, protections {}", after.count, sum(&protections))
 }
 
 // Mapping k: page k of space 0, in frame k modulo 64, to read and write.
@@ -58,9 +56,8 @@ fn singly(
     first: u8,
 ) -> MappingList {
     let mut next = list;
-    for k in 0..64 {
-        let m = mapping_of(u16::from(first) + k);
-        next = manager::map(next, records, protections, m).list;
+    for m in batch(first).items {
+        next = manager::map(next, records, protections, m).unwrap_or(next);
     }
     next
 }
@@ -73,30 +70,23 @@ fn at_once(
     first: u8,
 ) -> MappingList {
     let mut answers = [0u8; BATCH];
-    manager::map_all(list, records, protections, batch(first), &mut answers).list
+    manager::map_all(list, records, protections, batch(first), &mut answers).unwrap_or(list)
 }
 
 // The 64 from `first` on.
 fn batch(first: u8) -> Batch {
-    let mut items = [Mapping::zero(); BATCH];
-    for (item, k) in items.iter_mut().zip(u16::from(first)..) {
-        *item = mapping_of(k);
-    }
     Batch {
-        items,
+        items: array::from_fn(|i| mapping_of(u16::from(first) + i as u16)),
         count: BATCH,
     }
 }
 
-fn show(list: MappingList, protections: &[u8; 256]) {
-    io::print_decimal(STDOUT, list.count as u64);
-    io::write_all(STDOUT, b" listed, protections ");
-    io::print_decimal(STDOUT, sum(protections));
-    io::write_all(STDOUT, b"\n");
-}
-
-fn sum(bytes: &[u8]) -> u64
-    requires { length bytes.now ≤ 256 }
+// The sum of the protections.
+fn sum(protections: &[u8]) -> u64
+    requires { length protections.now ≤ 256 }
 {
-    bytes.iter().map(|b| u64::from(*b)).sum()
+    protections
+        .iter()
+        .map(|protection| u64::from(*protection))
+        .sum()
 }

@@ -7,15 +7,19 @@ use native.Mathlib.Decide.{ℕ_discrete}
 use native.Mathlib.Omega.{arith}
 use lib.ListN.{length, get_or, take, set, length-append}
 use lib.Seq.{take_all, take-suc-set}
+use Rattle.std.proofs.Common.{Ok}
+use Rattle.std.proofs.Common as std
+use Rattle.std.proofs.lemmas.Result.{err_from_is_err_and}
+use Rattle.std.specs.Result.{IsErrAnd}
 use Rattle.board.specs.declared.Board.{Board}
-use Rattle.manager.specs.declared.FrameOps.{FrameOps}
 use Rattle.manager.specs.Answers as outcome
-use Rattle.manager.specs.Answers.{Outcome}
+use Rattle.manager.specs.Answers.{Outcome, refusal_number}
+use Rattle.manager.specs.declared.refusal.Refusal.{Refusal}
 use Rattle.machine.specs.declared.Loaded.{Loaded}
-use Rattle.machine.specs.declared.Loaded.TheVariants.{Refused, Word}
 use Rattle.machine.specs.State.{State, read, Answer, Result}
 use Rattle.machine.specs.Step.{loaded as answered, result_of, step}
-use Rattle.position_hold.specs.Look.{Words, stopped, words, Reads, reads, with_answer, read_next, first_reads, fix_words, fix_reads}
+use Rattle.position_hold.specs.Fix.{Fix}
+use Rattle.position_hold.specs.Look.{Words, stopped, words, Reads, reads, with_answer, read_next, first_reads, fix_words, fix_reads, words_found}
 
 four : (l : List ℕ) → length l ≡ fix_words → get_or l 0 0 ∷ get_or l 1 0 ∷ get_or l 2 0 ∷ get_or l 3 0 ∷ [] ≡ take fix_words l
 four [] e = absurd (omega arith)
@@ -71,21 +75,24 @@ module _ (b : Board) (st : State) (space page : ℕ) where
       go before (no z) = ap (λ (r : Reads). read_next b space page n r.words r.after) (before (omega arith))
 
   -- read k is refused
-  pub reads_refused : (k : ℕ) → k < fix_words → {ws : List ℕ} {s after : State} {loaded : Loaded} {number : ℕ} → reads (words ws) s ≡ first_reads b st space page k
-      → result_of (answered loaded) after ≡ step b s (read space page k) → loaded ≡ Refused number
-      → reads (stopped number) after ≡ fix_reads b st space page
+  pub reads_refused : (k : ℕ) → k < fix_words → {ws : List ℕ} {s after : State} {loaded : std.Result Loaded Refusal} {refusal : Refusal} (found : std.Result Fix Refusal)
+      → reads (words ws) s ≡ first_reads b st space page k
+      → result_of (answered loaded) after ≡ step b s (read space page k) → loaded ≡ std.Err refusal → IsErrAnd found (λ y. y ≡ refusal)
+      → reads (words_found found) after ≡ fix_reads b st space page
   unfolding fix_reads
-  reads_refused k h {after = after} e made known =
-      reads_stopped (suc k) fix_words h (reads_next k e (ap (λ (r : Loaded). result_of (answered r) after) (sym known) ∙ made))
+  reads_refused k h {after = after} found e made known is =
+      let p = err_from_is_err_and found is in
+      rw (p.1, p.2) (reads_stopped (suc k) fix_words h (reads_next k e (ap (λ (r : std.Result Loaded Refusal). result_of (answered r) after) (sym known) ∙ made)))
 
   -- it finds a word, which is put behind those before it
-  pub reads_put : (k n : ℕ) → n ≡ suc k → (found : List ℕ) {s after : State} {loaded : Loaded} {ops : FrameOps} {w : ℕ} → k < length found
+  pub reads_put : (k n : ℕ) → n ≡ suc k → (found : List ℕ) {s after : State} {loaded : std.Result Loaded Refusal} {l : Loaded} → k < length found
       → reads (words (take k found)) s ≡ first_reads b st space page k
-      → result_of (answered loaded) after ≡ step b s (read space page k) → loaded ≡ Word ops w
-      → reads (words (take n (set found k w))) after ≡ first_reads b st space page n
-  reads_put k n more found {s} {after} {loaded} {ops} {w} h e made known =
-      subst⁻¹ (λ (j : ℕ). reads (words (take j (set found k w))) after ≡ first_reads b st space page j) more
-      (ap (λ (l : List ℕ). reads (words l) after) (take-suc-set found k w h) ∙ reads_next k e (ap (λ (r : Loaded). result_of (answered r) after) (sym known) ∙ made))
+      → result_of (answered loaded) after ≡ step b s (read space page k) → loaded ≡ Ok l
+      → reads (words (take n (set found k l.word))) after ≡ first_reads b st space page n
+  reads_put k n more found {s} {after} {loaded} {l} h e made known =
+      subst⁻¹ (λ (j : ℕ). reads (words (take j (set found k l.word))) after ≡ first_reads b st space page j) more
+      (ap (λ (ws : List ℕ). reads (words ws) after) (take-suc-set found k l.word h)
+      ∙ reads_next k e (ap (λ (r : std.Result Loaded Refusal). result_of (answered r) after) (sym known) ∙ made))
 
   -- the words of a fix, one by one
   pub reads_fix : (k : ℕ) → k ≡ fix_words → (found : List ℕ) {s : State} → length found ≡ fix_words → reads (words (take k found)) s ≡ first_reads b st space page k

@@ -8,6 +8,8 @@ use native.Mathlib.Omega.{arith}
 use borrow.Author.Tests.{le-ltb, ltb-false}
 use lib.Dec.{eqb, ltb}
 use Rattle.board.specs.declared.Board.{Board}
+use Rattle.manager.specs.Answers.{refusal_number}
+use Rattle.manager.specs.declared.refusal.Refusal.{Refusal}
 use Rattle.manager.proofs.AcceptedLaws.{or_neither}
 use Rattle.machine.specs.State.{State}
 use Rattle.std.specs.Prelude.{Result, Ok, Err}
@@ -37,13 +39,15 @@ module _ (b : Board) (st : State) (space page clock hold : ℕ) where
   look_accepted e reads_are = rw (e, reads_are)
 
   -- by what the code has found
-  module _ (e : hold_refused hold ≡ false) {found : Result Fix ℕ} {after : State} (reads_are : reads (words_found found) after ≡ fix_reads b st space page) where
-    pub look_handed_on : {number : ℕ} → found ≡ Err number → looked (refused number) after ≡ look b st space page clock hold
-    look_handed_on known = ap (λ (f : Result Fix ℕ). looked (drawn_from clock hold (words_found f)) after) (sym known) ∙ look_accepted e reads_are
+  module _ (e : hold_refused hold ≡ false) {found : Result Fix Refusal} {after : State} (reads_are : reads (words_found found) after ≡ fix_reads b st space page) where
+    pub look_handed_on : {refusal : Refusal} → found ≡ Err refusal → looked (refused (refusal_number refusal)) after ≡ look b st space page clock hold
+    look_handed_on known = ap (λ (f : Result Fix Refusal). looked (drawn_from clock hold (words_found f)) after) (sym known) ∙ look_accepted e reads_are
 
     pub look_judged : {fix : Fix} {display : Display} → found ≡ Ok fix → display ≡ judged clock hold fix → looked display after ≡ look b st space page clock hold
     look_judged known shown =
-        ap (λ (d : Display). looked d after) shown ∙ ap (λ (f : Result Fix ℕ). looked (drawn_from clock hold (words_found f)) after) (sym known) ∙ look_accepted e reads_are
+        ap (λ (d : Display). looked d after) shown
+        ∙ ap (λ (f : Result Fix Refusal). looked (drawn_from clock hold (words_found f)) after) (sym known)
+        ∙ look_accepted e reads_are
 
 -- what is not blank at a hold is not blank at a longer one
 not_blank_longer : (clock short long : ℕ) (fix : Fix) → short ≤ long → is_blank clock short fix ≡ false → is_blank clock long fix ≡ false

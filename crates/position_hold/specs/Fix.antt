@@ -1,5 +1,8 @@
 -- Request N5: what is drawn from a fix. Seconds are 32 bits unsigned; coordinates are ten-millionths of a degree, signed in two's complement of 32 bits.
 use Rattle.std.specs.Prelude.{Bool, cond, ◌||◌, ℕ, ◌-◌, ◌*◌, ◌^◌, eqb, ltb, Option, Some, None, Result, Ok, Err}
+use Rattle.manager.specs.Answers as manager
+use Rattle.position_hold.specs.declared.refusal.LookRefusal.{LookRefusal}
+use Rattle.position_hold.specs.declared.refusal.LookRefusal.TheVariants.{WrongHold, Read}
 -- a fix: its number, its second, latitude and longitude. It is the code's struct
 pub use Rattle.position_hold.specs.declared.fix.Fix.{Fix}
 pub use Rattle.position_hold.specs.declared.fix.Position.{Position}
@@ -17,8 +20,13 @@ abbrev pub shown : Option Position → Display
 shown None = blank
 shown (Some p) = position p.latitude p.longitude
 
-abbrev pub displayed : Result (Option Position) ℕ → Display
-displayed (Err n) = refused n
+-- a refusal's number: 14, or that of a read
+abbrev pub refusal_number : LookRefusal → ℕ
+refusal_number WrongHold = 14
+refusal_number (Read r) = manager.refusal_number r
+
+abbrev pub displayed : Result (Option Position) LookRefusal → Display
+displayed (Err r) = refused (refusal_number r)
 displayed (Ok p) = shown p
 
 -- ---- the hold

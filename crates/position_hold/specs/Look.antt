@@ -3,7 +3,8 @@ use Rattle.std.specs.Prelude.{cond, List, [], ◌∷◌, ◌++◌, ℕ, zero, su
 use Rattle.std.proofs.Math.Option.{Option, none, some}
 use Rattle.board.specs.declared.Board.{Board}
 use Rattle.manager.specs.Answers as outcome
-use Rattle.manager.specs.Answers.{Outcome}
+use Rattle.manager.specs.Answers.{Outcome, refusal_number}
+use Rattle.manager.specs.declared.refusal.Refusal.{Refusal}
 use Rattle.machine.specs.State.{State, read, Result}
 use Rattle.machine.specs.Step.{step}
 use Rattle.position_hold.specs.Fix.{Fix, Display, refused, hold_refused, judged}
@@ -76,6 +77,6 @@ look b st space page clock hold =
 
 -- ---- what the code's reads found
 
-abbrev pub words_found : Answer Fix ℕ → Words
-words_found (Err n) = stopped n
+abbrev pub words_found : Answer Fix Refusal → Words
+words_found (Err r) = stopped (refusal_number r)
 words_found (Ok fix) = words (fix.number ∷ fix.second ∷ fix.latitude ∷ fix.longitude ∷ [])

@@ -9,6 +9,7 @@ use Rattle.consistency.specs.Demand3.{start_state}
 use Rattle.consistency.specs.Rows.{small, at_start, another, over}
 use Rattle.position_hold.specs.Demand3.{Holds}
 use Rattle.position_hold.specs.Fix.{Display, refused, blank, position, displayed}
+use Rattle.position_hold.specs.declared.refusal.LookRefusal.TheVariants.{WrongHold}
 use Rattle.position_hold.specs.Rows.{one, chart}
 use Rattle.position_hold.specs.Theorems.{Act, call, look, displays, with_holds}
 
@@ -112,7 +113,7 @@ OtherHolds = with_holds (◌+ 2) (look 0 0 1003 30 ∷ chart ∷ look 0 0 1003 3
 
 abbrev pub Answers : Type 0
 Answers =
-    (displayed (Err 14) ≡ refused 14)
+    (displayed (Err WrongHold) ≡ refused 14)
     × (displayed (Ok None) ≡ blank)
     × (displayed (Ok (Some record { latitude = 5; longitude = 6 })) ≡ position 5 6)
 

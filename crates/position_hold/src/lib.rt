@@ -2,6 +2,7 @@
 #![tactic(auto)]
 
 mod fix;
+mod refusal;
 
 ghost use Rattle.std.specs.Prelude.{◌≡◌};
 ghost use Rattle.board.specs.Board.{board01};
@@ -11,8 +12,9 @@ ghost use Rattle.position_hold.specs.Look.{fix_reads, look, looked, reads, words
 
 use fix::Fix;
 pub use fix::Position;
-use machine::Loaded;
+use manager::Refusal;
 use mapping::MappingList;
+pub use refusal::LookRefusal;
 
 // The seconds that a fix may be held for.
 pub const SHORTEST_HOLD: u32 = 2;
@@ -21,9 +23,6 @@ pub const LONGEST_HOLD: u32 = 30;
 
 // The words of a fix, which stand at the front of its page.
 const FIX_WORDS: usize = 4;
-
-// The refusal of a hold outside them.
-const HOLD_REFUSED: u8 = 14;
 
 // Looks at the position through a page of a space, at a time of the clock, with a fix held for so many seconds: the position that is drawn, `None` where
 // it is blank, or the refusal. All four words are read before any is judged; a refused read ends the look.
@@ -38,7 +37,7 @@ pub fn look(
     page: u16,
     clock: u32,
     hold: u32,
-) -> Result<Option<Position>, u8>
+) -> Result<Option<Position>, LookRefusal>
     ensures { looked (displayed result)
         (machine_of list records.new protections.new memory.new words.new tags.new)
         ≡ look board01
@@ -46,7 +45,7 @@ pub fn look(
         space page clock hold }
 {
     if !(SHORTEST_HOLD..=LONGEST_HOLD).contains(&hold) {
-        return Err(HOLD_REFUSED);
+        return Err(LookRefusal::WrongHold);
     }
     let fix = read_fix(list, records, protections, memory, words, tags, space, page)?;
     Ok(fix::judge(fix, clock, hold))
@@ -62,7 +61,7 @@ fn read_fix(
     tags: &mut [u8],
     space: u8,
     page: u16,
-) -> Result<Fix, u8>
+) -> Result<Fix, Refusal>
     ensures { reads (words_found result)
         (machine_of list records.new protections.new memory.new words.new tags.new)
         ≡ fix_reads board01
@@ -70,8 +69,8 @@ fn read_fix(
         space page }
 {
     let mut read = [0u32; FIX_WORDS];
-    for offset in 0..FIX_WORDS {
-        match machine::read(
+    for (offset, word) in read.iter_mut().enumerate() {
+        let loaded = machine::read(
             list,
             records,
             protections,
@@ -81,10 +80,8 @@ fn read_fix(
             space,
             page,
             offset,
-        ) {
-            Loaded::Refused(number) => return Err(number),
-            Loaded::Word(_, word) => read[offset] = word,
-        }
+        )?;
+        *word = loaded.word;
     }
     let [number, second, latitude, longitude] = read;
     Ok(Fix {

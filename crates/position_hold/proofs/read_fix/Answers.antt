@@ -9,19 +9,20 @@ pub loop-offset-init : goal.loop-offset-init
 unfolding first_reads
 loop-offset-init c = record { room = refl; so_far = refl }
 
-pub returns-in-Refused : goal.returns-in-Refused
-returns-in-Refused c =
-    reads_refused board01 _ c.args.space c.args.page c.loop-offset.offset (omega arith) c.loop-offset.invariant.so_far c.read.ensures c.in-Refused.is
+pub returns-in_err-loaded : goal.returns-in_err-loaded
+returns-in_err-loaded c =
+    reads_refused board01 _ c.args.space c.args.page c.loop-offset.offset (omega arith) _ c.loop-offset.invariant.so_far c.read.ensures c.in_err-loaded.was
+    c.from_residual.ensures.1
 
 pub loop-offset-preserved : goal.loop-offset-preserved
 loop-offset-preserved c =
     let l = c.loop-offset in
     record {
       room = simp length-set l.invariant.room;
-      so_far = reads_put board01 _ c.args.space c.args.page l.offset _ (omega arith) l.read (omega arith) l.invariant.so_far c.read.ensures c.in-Word.is;
+      so_far = reads_put board01 _ c.args.space c.args.page l.offset _ (omega arith) l.word-items (omega arith) l.invariant.so_far c.read.ensures c.in_ok-loaded.was;
     }
 
 pub returns : goal.returns
 returns c =
     let l = c.loop-offset in
-    reads_fix board01 _ c.args.space c.args.page l.offset (omega arith) l.read l.invariant.room l.invariant.so_far
+    reads_fix board01 _ c.args.space c.args.page l.offset (omega arith) l.word-items l.invariant.room l.invariant.so_far

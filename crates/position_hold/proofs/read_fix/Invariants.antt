@@ -8,8 +8,8 @@ use Rattle.position_hold.proofs.read_fix.Given as goal
 abbrev pub invariant-loop-offset : goal.invariant-loop-offset
 invariant-loop-offset l =
     record {
-      room : length l.read ≡ fix_words;
+      room : length l.word-items ≡ fix_words;
       so_far :
-          reads (found_words (take l.offset l.read)) (machine_of l.list l.records l.protections l.memory l.words l.tags)
+          reads (found_words (take l.offset l.word-items)) (machine_of l.list l.records l.protections l.memory l.words l.tags)
           ≡ first_reads board01 (machine_of l.list l.initial.records l.initial.protections l.initial.memory l.initial.words l.initial.tags) l.space l.page l.offset;
     }
