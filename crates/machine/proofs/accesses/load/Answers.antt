@@ -1,5 +1,5 @@
 -- `machine::accesses::load` meets its contract.
-use mathlib.Core.Path.{◌≡◌, refl, sym, ap, subst⁻¹, ◌∙◌}
+use mathlib.Core.Path.{◌≡◌, refl, sym, ap, ◌∙◌}
 use mathlib.Core.List.{List, []}
 use mathlib.Core.Option.{some}
 use Prim.Native.Nat.{ℕ}
@@ -11,7 +11,6 @@ use Rattle.mapping.specs.declared.MappingList.{MappingList}
 use Rattle.mapping.proofs.Laws.{items_length}
 use Rattle.manager.specs.declared.AccessKind.{AccessKind}
 use Rattle.manager.specs.Calls.{Plan, change_of, plan_access}
-use Rattle.manager.specs.Refusals.{offset_cause}
 use Rattle.manager.specs.Tables.{tables}
 use Rattle.manager.proofs.CauseLaws.{applies_in}
 use Rattle.cache.specs.Cache as hardware
@@ -19,7 +18,7 @@ use Rattle.machine.specs.declared.accesses.Cache.{Cache}
 use Rattle.machine.specs.declared.accesses.Cache.TheVariants.{Data, Instructions}
 use Rattle.machine.specs.Parts.{steps, effect_of}
 use Rattle.machine.specs.Refusals.{causes}
-use Rattle.machine.specs.Scaffold.Loads.{access_through, load_step, page_through, loads}
+use Rattle.machine.specs.Scaffold.Loads.{load_step, page_through, loads}
 use Rattle.machine.specs.State.{State, machine_of, page_frame, lent_buffer}
 use Rattle.machine.specs.Step.{accept}
 use Rattle.machine.proofs.PlanLaws.{load_planned}

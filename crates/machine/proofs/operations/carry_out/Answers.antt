@@ -4,7 +4,7 @@ use Prim.Native.Nat.{ℕ}
 use Rattle.manager.specs.Answers.{operation_on}
 use Rattle.cache.specs.Store.{WellFormedStore, store}
 use Rattle.cache.specs.Cache.{leaving}
-use Rattle.machine.specs.Step.{operate, operate_by, carry_out_by}
+use Rattle.machine.specs.Step.{operate, carry_out_by}
 use Rattle.machine.proofs.StoreLaws.{operate_kept}
 use Rattle.machine.proofs.operations.carry_out.Goals as goal
 

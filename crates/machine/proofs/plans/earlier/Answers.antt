@@ -1,8 +1,6 @@
 -- `machine::plans::earlier` meets its contract.
-use mathlib.Core.Path.{refl, sym, ap, ap₂, ◌∙◌}
-use Prim.Native.Nat.{ℕ}
-use Rattle.std.proofs.Common.{Ok, Err}
-use Rattle.manager.specs.Answers.{refusal_number, refusal_in, by_number}
+use mathlib.Core.Path.{ap}
+use Rattle.std.proofs.Common.{Err}
 use Rattle.manager.proofs.CauseLaws.{some_number}
 use Rattle.machine.specs.Scaffold.Plans.{earlier, with_own}
 use Rattle.machine.proofs.MergeLaws.{earlier_none, with_own_refused, with_none}

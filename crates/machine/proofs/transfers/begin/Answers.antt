@@ -1,7 +1,7 @@
 -- `machine::begin` meets its contract.
 use mathlib.Core.Path.{◌≡◌, refl, sym, ap, subst⁻¹, ◌∙◌}
 use mathlib.Core.Bool.{Bool, true, false}
-use mathlib.Core.List.{List, []}
+use mathlib.Core.List.{[]}
 use mathlib.Core.Option.{none}
 use native.Mathlib.Omega.{arith}
 use Prim.Native.Nat.{ℕ, ◌≤◌}
@@ -10,7 +10,7 @@ use Rattle.board.specs.Board.{board01}
 use Rattle.board.proofs.Geometry.{board01_regular}
 use Rattle.page_model.specs.declared.table.Step as code
 use Rattle.page_model.specs.Cases.{step_of}
-use Rattle.page_model.specs.Table.{Step, reach}
+use Rattle.page_model.specs.Table.{reach}
 use Rattle.mapping.specs.declared.MappingList.{MappingList}
 use Rattle.manager.specs.Calls.{change_of, plan_transfer}
 use Rattle.manager.specs.Tables.{tables}

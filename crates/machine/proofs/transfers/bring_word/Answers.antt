@@ -1,15 +1,12 @@
 -- `machine::bring_word` meets its contract.
 use mathlib.Core.Path.{refl, sym, ap, ◌∙◌}
-use mathlib.Core.Option.{Option, some}
 use Prim.Native.Nat.{ℕ}
 use borrow.Author.Tests.{leb-false}
 use Rattle.board.specs.Board.{board01}
 use Rattle.board.proofs.Geometry.{board01_regular}
-use Rattle.page_model.specs.Record.{freed}
 use Rattle.mapping.proofs.Laws.{items_length}
 use Rattle.manager.specs.declared.FrameOps.{FrameOps}
 use Rattle.manager.specs.Answers.{accepted}
-use Rattle.manager.specs.Calls.{commit_change}
 use Rattle.manager.specs.Tables.{tables, refill}
 use Rattle.cache.specs.Cache as hardware
 use Rattle.machine.specs.Refusals.{causes}

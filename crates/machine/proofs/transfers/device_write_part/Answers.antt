@@ -1,5 +1,5 @@
 -- `machine::device_write_part` meets its contract.
-use mathlib.Core.Path.{refl, sym, ◌∙◌}
+use mathlib.Core.Path.{refl, sym}
 use mathlib.Core.List.{[]}
 use mathlib.Core.Option.{none}
 use Rattle.board.specs.Board.{board01}

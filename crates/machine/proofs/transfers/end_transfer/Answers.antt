@@ -1,8 +1,5 @@
 -- `machine::end_transfer` meets its contract.
 use mathlib.Core.Path.{refl, sym, ap, ◌∙◌}
-use mathlib.Core.Option.{Option, some}
-use Prim.Native.Nat.{ℕ}
-use borrow.Author.Tests.{leb-false}
 use Rattle.board.specs.Board.{board01}
 use Rattle.board.proofs.Geometry.{board01_regular}
 use Rattle.page_model.specs.Record.{freed}
@@ -11,10 +8,9 @@ use Rattle.manager.specs.declared.FrameOps.{FrameOps}
 use Rattle.manager.specs.Answers.{accepted}
 use Rattle.manager.specs.Calls.{commit_change}
 use Rattle.manager.specs.Tables.{tables, refill}
-use Rattle.machine.specs.Refusals.{causes}
 use Rattle.machine.specs.State.{machine_of, end_transfer}
 use Rattle.machine.proofs.PlanLaws.{end_refused}
-use Rattle.machine.proofs.StepLaws.{call_refused, cleared, store_clear, plain_made}
+use Rattle.machine.proofs.StepLaws.{call_refused, plain_made}
 use Rattle.machine.proofs.transfers.end_transfer.Goals as goal
 
 pub store_refusal-own-requires : goal.store_refusal-own-requires

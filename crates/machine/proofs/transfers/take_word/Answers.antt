@@ -5,11 +5,9 @@ use Prim.Native.Nat.{ℕ}
 use borrow.Author.Tests.{leb-false}
 use Rattle.board.specs.Board.{board01}
 use Rattle.board.proofs.Geometry.{board01_regular}
-use Rattle.page_model.specs.Record.{freed}
 use Rattle.mapping.proofs.Laws.{items_length}
 use Rattle.manager.specs.declared.FrameOps.{FrameOps}
 use Rattle.manager.specs.Answers.{accepted}
-use Rattle.manager.specs.Calls.{commit_change}
 use Rattle.manager.specs.Tables.{tables, refill}
 use Rattle.cache.specs.Store.{memory_word}
 use Rattle.machine.specs.Refusals.{causes}
