@@ -3,13 +3,15 @@
 // only test for a refusal before they commit. A list of mappings is its items in order.
 #![tactic(auto, using(board::proofs::Geometry::board01_regular))]
 
-ghost use Rattle.std.specs.Prelude.{◌≡◌, length};
+ghost use Rattle.std.specs.Prelude.{◌≡◌, ◌≤◌, length};
 ghost use Rattle.board.specs.Board.{board01};
+ghost use Rattle.page_model.specs.Cases.{step_of};
+ghost use Rattle.page_model.specs.Table.{reach};
 ghost use Rattle.mapping.specs.Batch.{items_of};
 ghost use Rattle.manager.specs.Answers.{outcome};
 ghost use Rattle.manager.specs.Batch.{batch_result, map_all_call};
 ghost use Rattle.manager.specs.Tables.{tables, tabulate, start_word};
-ghost use Rattle.manager.specs.Calls.{call_result, list_outcome, list_left, map_call, unmap_call, read_call, write_call, fetch_call, device_read_call, device_write_call, device_write_part_call, begin_read_call, begin_write_call, move_word_call, bring_word_call, take_word_call, end_transfer_call};
+ghost use Rattle.manager.specs.Calls.{call_result, step_result, plan_access, plan_transfer, list_outcome, list_left, map_call, unmap_call, read_call, write_call, fetch_call, device_read_call, device_write_call, device_write_part_call, begin_read_call, begin_write_call, move_word_call, bring_word_call, take_word_call, end_transfer_call};
 
 use super::batch::map_batch;
 use super::commits::{COLOURS, carry_out, commit_change, commit_map, commit_unmap};
@@ -84,17 +86,7 @@ pub fn read(
     ensures { call_result (outcome result) (tables list records.new protections.new)
         ≡ read_call board01 (tables list records.old protections.old) space page }
 {
-    let looked = mapping::look(BOARD01, list, space, page);
-    let change = plan_access(
-        BOARD01,
-        looked,
-        records,
-        protections,
-        space,
-        page,
-        AccessKind::Read,
-    )?;
-    Ok(carry_out(COLOURS, list, records, protections, change))
+    access(list, records, protections, space, page, AccessKind::Read)
 }
 
 // The processor writes a page of a space.
@@ -108,17 +100,7 @@ pub fn write(
     ensures { call_result (outcome result) (tables list records.new protections.new)
         ≡ write_call board01 (tables list records.old protections.old) space page }
 {
-    let looked = mapping::look(BOARD01, list, space, page);
-    let change = plan_access(
-        BOARD01,
-        looked,
-        records,
-        protections,
-        space,
-        page,
-        AccessKind::Write,
-    )?;
-    Ok(carry_out(COLOURS, list, records, protections, change))
+    access(list, records, protections, space, page, AccessKind::Write)
 }
 
 // The processor fetches an instruction of a page of a space.
@@ -132,17 +114,7 @@ pub fn fetch(
     ensures { call_result (outcome result) (tables list records.new protections.new)
         ≡ fetch_call board01 (tables list records.old protections.old) space page }
 {
-    let looked = mapping::look(BOARD01, list, space, page);
-    let change = plan_access(
-        BOARD01,
-        looked,
-        records,
-        protections,
-        space,
-        page,
-        AccessKind::Fetch,
-    )?;
-    Ok(carry_out(COLOURS, list, records, protections, change))
+    access(list, records, protections, space, page, AccessKind::Fetch)
 }
 
 // A device reads a frame from memory.
@@ -155,8 +127,7 @@ pub fn device_read(
     ensures { call_result (outcome result) (tables list records.new protections.new)
         ≡ device_read_call board01 (tables list records.old protections.old) frame }
 {
-    let change = plan_transfer(BOARD01, list, records, protections, frame, Step::DeviceRead)?;
-    Ok(carry_out(COLOURS, list, records, protections, change))
+    transfer(list, records, protections, frame, Step::DeviceRead)
 }
 
 // A device writes a frame in memory.
@@ -198,8 +169,7 @@ pub fn begin_read(
     ensures { call_result (outcome result) (tables list records.new protections.new)
         ≡ begin_read_call board01 (tables list records.old protections.old) frame }
 {
-    let change = plan_transfer(BOARD01, list, records, protections, frame, Step::BeginRead)?;
-    Ok(carry_out(COLOURS, list, records, protections, change))
+    transfer(list, records, protections, frame, Step::BeginRead)
 }
 
 // A device begins to write a frame in memory, word by word.
@@ -212,8 +182,7 @@ pub fn begin_write(
     ensures { call_result (outcome result) (tables list records.new protections.new)
         ≡ begin_write_call board01 (tables list records.old protections.old) frame }
 {
-    let change = plan_transfer(BOARD01, list, records, protections, frame, Step::BeginWrite)?;
-    Ok(carry_out(COLOURS, list, records, protections, change))
+    transfer(list, records, protections, frame, Step::BeginWrite)
 }
 
 // A device that writes a frame brings a word of it to memory.
@@ -259,6 +228,41 @@ pub fn end_transfer(
     let next = record_at(records, frame).end();
     commit_change(COLOURS, list, records, protections, frame, next);
     Ok(nothing())
+}
+
+// The processor accesses a page of a space.
+fn access(
+    list: MappingList,
+    records: &mut [u32],
+    protections: &mut [u8],
+    space: u8,
+    page: u16,
+    kind: AccessKind,
+) -> Result<FrameOps, Refusal>
+    ensures { call_result (outcome result) (tables list records.new protections.new)
+        ≡ step_result board01 (tables list records.old protections.old)
+        (plan_access board01 (tables list records.old protections.old) space page kind) }
+{
+    let looked = mapping::look(BOARD01, list, space, page);
+    let change = plan_access(BOARD01, looked, records, protections, space, page, kind)?;
+    Ok(carry_out(COLOURS, list, records, protections, change))
+}
+
+// A device's transfer of a page, or the beginning of one.
+fn transfer(
+    list: MappingList,
+    records: &mut [u32],
+    protections: &mut [u8],
+    frame: u8,
+    step: Step,
+) -> Result<FrameOps, Refusal>
+    requires { reach (step_of step) ≤ board01.colours }
+    ensures { call_result (outcome result) (tables list records.new protections.new)
+        ≡ step_result board01 (tables list records.old protections.old)
+        (plan_transfer board01 (tables list records.old protections.old) frame (step_of step)) }
+{
+    let change = plan_transfer(BOARD01, list, records, protections, frame, step)?;
+    Ok(carry_out(COLOURS, list, records, protections, change))
 }
 
 // A transfer with this mark moves a word.
