@@ -4,6 +4,7 @@ use crate::lent::{
 };
 use crate::numbers::Args;
 use crate::slips::Slip;
+use manager::AccessKind;
 use mapping::{BATCH, CAPACITY, Mapping};
 
 // What a line that is not only written asks for.
@@ -85,13 +86,6 @@ pub struct Access {
     pub page: u16,
     pub offset: usize,
     pub word: u32,
-}
-
-#[derive(Clone, Copy, Debug, PartialEq, Eq)]
-pub enum AccessKind {
-    Read,
-    Write,
-    Fetch,
 }
 
 #[derive(Clone, Copy, Debug, PartialEq, Eq)]

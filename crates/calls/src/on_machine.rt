@@ -1,9 +1,10 @@
 // A call of the machine, or a look at the position, on as much of each buffer as the script says. A function has few calls here: its proof takes time by
 // the square of the slices that it hands on.
-use crate::commands::{Access, AccessKind, Call, ListCall, LongTransfer, MachineCall, Transfer};
+use crate::commands::{Access, Call, ListCall, LongTransfer, MachineCall, Transfer};
 use crate::lent::{ANSWERS, BUFFER, MEMORY, PROTECTIONS, RECORDS, TAGS, WORDS};
 use crate::state::State;
 use crate::tell::{drawn, found, listed, told};
+use manager::AccessKind;
 use mapping::{Batch, MappingList};
 use std::io::Result;
 
@@ -74,11 +75,11 @@ fn listing(
     a: &mut [u8],
 ) -> Result<MappingList> {
     match call {
-        ListCall::Map(mapping) => listed(rt, machine::map(list, r, p, m, w, t, mapping)),
+        ListCall::Map(mapping) => listed(rt, list, machine::map(list, r, p, m, w, t, mapping)),
         ListCall::Unmap(space, page) => {
-            listed(rt, machine::unmap(list, r, p, m, w, t, space, page))
+            listed(rt, list, machine::unmap(list, r, p, m, w, t, space, page))
         }
-        ListCall::MapAll => listed(rt, machine::map_all(list, r, p, m, w, t, batch, a)),
+        ListCall::MapAll => listed(rt, list, machine::map_all(list, r, p, m, w, t, batch, a)),
     }
 }
 

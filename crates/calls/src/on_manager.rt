@@ -1,8 +1,9 @@
 // A call of the manager, on as many records, protections and answers as the script says.
-use crate::commands::{Access, AccessKind, Call, ListCall, LongTransfer, Transfer};
+use crate::commands::{Access, Call, ListCall, LongTransfer, Transfer};
 use crate::lent::{ANSWERS, PROTECTIONS, RECORDS};
 use crate::state::State;
 use crate::tell::{listed, told};
+use manager::AccessKind;
 use mapping::{Batch, MappingList};
 use std::io::Result;
 
@@ -58,9 +59,9 @@ fn listing(
     a: &mut [u8],
 ) -> Result<MappingList> {
     match call {
-        ListCall::Map(mapping) => listed(rt, manager::map(list, r, p, mapping)),
-        ListCall::Unmap(space, page) => listed(rt, manager::unmap(list, r, p, space, page)),
-        ListCall::MapAll => listed(rt, manager::map_all(list, r, p, batch, a)),
+        ListCall::Map(mapping) => listed(rt, list, manager::map(list, r, p, mapping)),
+        ListCall::Unmap(space, page) => listed(rt, list, manager::unmap(list, r, p, space, page)),
+        ListCall::MapAll => listed(rt, list, manager::map_all(list, r, p, batch, a)),
     }
 }
 

@@ -1,17 +1,17 @@
 // Text on a call: the refusal, or 0, the two operations and the word, or what is drawn; and what changed.
 use crate::lent::Lent;
 use machine::Loaded;
-use manager::{Answer, FrameOps, Listed};
-use mapping::{Mapping, MappingList};
+use manager::{FrameOps, Refusal};
+use mapping::MappingList;
 use page_model::Op;
-use position_hold::Position;
+use position_hold::{LookRefusal, Position};
 use std::fmt::Display;
-use std::io::Result;
+use std::io;
 
 // ---- a call and its answer
 
 // The word of a call with its numbers.
-pub fn call(rt: &impl Print, word: &str, numbers: &[u64]) -> Result<()> {
+pub fn call(rt: &impl Print, word: &str, numbers: &[u64]) -> io::Result<()> {
     print!(rt; "{word}")?;
     for n in numbers {
         print!(rt; " {n}")?;
@@ -20,53 +20,57 @@ pub fn call(rt: &impl Print, word: &str, numbers: &[u64]) -> Result<()> {
 }
 
 // The answer of a call that finds a word.
-pub fn found(rt: &impl Print, loaded: Loaded) -> Result<()> {
-    match loaded {
-        Loaded::Refused(n) => refused(rt, n),
-        Loaded::Word(operations, word) => {
+pub fn found(rt: &impl Print, answer: Result<Loaded, Refusal>) -> io::Result<()> {
+    match answer {
+        Ok(Loaded { operations, word }) => {
             accepted(rt, operations)?;
             print!(rt; " {word}")
         }
+        Err(refusal) => refused(rt, refusal.number()),
     }
 }
 
 // The answer of another call.
-pub fn told(rt: &impl Print, answer: Answer) -> Result<()> {
+pub fn told(rt: &impl Print, answer: Result<FrameOps, Refusal>) -> io::Result<()> {
     match answer {
-        Answer::Refused(n) => refused(rt, n),
-        Answer::Accepted(operations) => accepted(rt, operations),
+        Ok(operations) => accepted(rt, operations),
+        Err(refusal) => refused(rt, refusal.number()),
     }
 }
 
-// The answer of a call that changes the list, which is handed back.
-pub fn listed(rt: &impl Print, l: Listed) -> Result<MappingList> {
-    told(rt, l.answer)?;
-    Ok(l.list)
+// The answer of a call that changes the list, and the list after it, which a refusal leaves.
+pub fn listed(
+    rt: &impl Print,
+    list: MappingList,
+    answer: Result<MappingList, Refusal>,
+) -> io::Result<MappingList> {
+    told(rt, answer.map(|_| manager::nothing()))?;
+    Ok(answer.unwrap_or(list))
 }
 
 // What a look at the position draws, or its refusal.
-pub fn drawn(rt: &impl Print, look: std::result::Result<Option<Position>, u8>) -> Result<()> {
+pub fn drawn(rt: &impl Print, look: Result<Option<Position>, LookRefusal>) -> io::Result<()> {
     match look {
         Ok(Some(p)) => print!(rt; " position {} {}", p.latitude, p.longitude),
         Ok(None) => print!(rt; " blank"),
-        Err(n) => refused(rt, n),
+        Err(refusal) => refused(rt, refusal.number()),
     }
 }
 
 // A refusal, by its number.
-fn refused(rt: &impl Print, number: u8) -> Result<()> {
+fn refused(rt: &impl Print, number: u8) -> io::Result<()> {
     print!(rt; " {number}")
 }
 
 // The operations of a call that was not refused.
-fn accepted(rt: &impl Print, operations: FrameOps) -> Result<()> {
+fn accepted(rt: &impl Print, operations: FrameOps) -> io::Result<()> {
     print!(rt; " 0")?;
     operation(rt, operations.frame, operations.ops.first)?;
     operation(rt, operations.frame, operations.ops.second)
 }
 
 // An operation, with its frame and colour.
-fn operation(rt: &impl Print, frame: u8, op: Op) -> Result<()> {
+fn operation(rt: &impl Print, frame: u8, op: Op) -> io::Result<()> {
     match op {
         Op::None => print!(rt; " -"),
         Op::Flush(colour) => print!(rt; " F{frame}.{colour}"),
@@ -78,13 +82,13 @@ fn operation(rt: &impl Print, frame: u8, op: Op) -> Result<()> {
 // ---- changes of the list: n, its count, and l, its places with space, page, frame and rights
 
 // The count and the places that are others than before.
-pub fn list_changes(rt: &impl Print, before: &MappingList, after: &MappingList) -> Result<()> {
+pub fn list_changes(rt: &impl Print, before: &MappingList, after: &MappingList) -> io::Result<()> {
     if before.count != after.count {
         let count = after.count;
         print!(rt; " n={count}")?;
     }
     for (place, (old, new)) in before.items.iter().zip(&after.items).enumerate() {
-        if !is_same(*old, *new) {
+        if *old != *new {
             print!(rt;
                 " l{place}={}.{}.{}.{}",
                 new.space, new.page, new.frame, new.rights
@@ -94,15 +98,10 @@ pub fn list_changes(rt: &impl Print, before: &MappingList, after: &MappingList) 
     Ok(())
 }
 
-// Whether two mappings are equal.
-fn is_same(a: Mapping, b: Mapping) -> bool {
-    (a.space, a.page, a.frame, a.rights) == (b.space, b.page, b.frame, b.rights)
-}
-
 // ---- changes of what is lent: the letter, the place or the first and the last of a run of places, and their new value
 
 // The changes of all buffers.
-pub fn changes(rt: &impl Print, before: &Lent, after: &Lent) -> Result<()> {
+pub fn changes(rt: &impl Print, before: &Lent, after: &Lent) -> io::Result<()> {
     changed(rt, 'r', &before.records, &after.records)?;
     changed(rt, 'p', &before.protections, &after.protections)?;
     changed(rt, 'm', &before.memory, &after.memory)?;
@@ -126,7 +125,7 @@ fn changed<T: Copy + PartialEq + Display>(
     letter: char,
     before: &[T],
     after: &[T],
-) -> Result<()> {
+) -> io::Result<()> {
     let mut run: Option<Run<T>> = None;
     for (place, (old, new)) in before.iter().zip(after).enumerate() {
         let is_changed = *old != *new;
@@ -148,7 +147,7 @@ fn changed<T: Copy + PartialEq + Display>(
 }
 
 // A run that is over, if there is one.
-fn ended<T: Copy + Display>(rt: &impl Print, letter: char, run: Option<Run<T>>) -> Result<()> {
+fn ended<T: Copy + Display>(rt: &impl Print, letter: char, run: Option<Run<T>>) -> io::Result<()> {
     let Some(Run { first, last, value }) = run else {
         return Ok(());
     };

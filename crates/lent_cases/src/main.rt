@@ -107,6 +107,7 @@ fn fields(rt: &impl Print, m: Mapping) -> Result<()> {
     print!(rt; " {}.{}.{}.{}", m.space, m.page, m.frame, m.rights)
 }
 
+// The mapping of a page of a space to a frame.
 fn entry(space: u8, page: u16, frame: u8, rights: u8) -> Mapping {
     Mapping {
         space,

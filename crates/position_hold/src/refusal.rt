@@ -41,7 +41,7 @@ impl fmt::Display for LookRefusal {
     fn fmt<W: fmt::Write>(&self, f: &mut fmt::Formatter<W>) -> fmt::Result {
         match self {
             LookRefusal::WrongHold => f.write_str("the hold is too short or too long"),
-            LookRefusal::Read(refusal) => refusal.fmt(f),
+            LookRefusal::Read(refusal) => write!(f, "the fix cannot be read: {refusal}"),
         }
     }
 }
