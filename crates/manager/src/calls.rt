@@ -14,7 +14,7 @@ ghost use Rattle.manager.specs.Tables.{tables, tabulate, start_word};
 ghost use Rattle.manager.specs.Calls.{call_result, step_result, plan_access, plan_transfer, list_outcome, list_left, map_call, unmap_call, read_call, write_call, fetch_call, device_read_call, device_write_call, device_write_part_call, begin_read_call, begin_write_call, move_word_call, bring_word_call, take_word_call, end_transfer_call};
 
 use super::batch::map_batch;
-use super::commits::{COLOURS, carry_out, commit_change, commit_map, commit_unmap};
+use super::commits::{COLOURS, commit_change, commit_map, commit_plan, commit_unmap};
 use super::plans::{plan_access, plan_device_write_part, plan_map, plan_transfer, plan_unmap};
 use super::records::{record_at, refill};
 use super::refusals::{end_refusal, tables_refusal, word_refusal};
@@ -155,8 +155,8 @@ pub fn device_write_part(
     ensures { call_result (outcome result) (tables list records.new protections.new)
         ≡ device_write_part_call board01 (tables list records.old protections.old) frame first number }
 {
-    let change = plan_device_write_part(BOARD01, list, records, protections, frame, first, number)?;
-    Ok(carry_out(COLOURS, list, records, protections, change))
+    let plan = plan_device_write_part(BOARD01, list, records, protections, frame, first, number);
+    commit_plan(COLOURS, list, records, protections, plan)
 }
 
 // A device begins to read a frame from memory, word by word.
@@ -244,8 +244,8 @@ fn access(
         (plan_access board01 (tables list records.old protections.old) space page kind) }
 {
     let looked = mapping::look(BOARD01, list, space, page);
-    let change = plan_access(BOARD01, looked, records, protections, space, page, kind)?;
-    Ok(carry_out(COLOURS, list, records, protections, change))
+    let plan = plan_access(BOARD01, looked, records, protections, space, page, kind);
+    commit_plan(COLOURS, list, records, protections, plan)
 }
 
 // A device's transfer of a page, or the beginning of one.
@@ -261,8 +261,8 @@ fn transfer(
         ≡ step_result board01 (tables list records.old protections.old)
         (plan_transfer board01 (tables list records.old protections.old) frame (step_of step)) }
 {
-    let change = plan_transfer(BOARD01, list, records, protections, frame, step)?;
-    Ok(carry_out(COLOURS, list, records, protections, change))
+    let plan = plan_transfer(BOARD01, list, records, protections, frame, step);
+    commit_plan(COLOURS, list, records, protections, plan)
 }
 
 // A transfer with this mark moves a word.

@@ -3,11 +3,12 @@
 
 ghost use Rattle.std.specs.Prelude.{◌≡◌};
 ghost use Rattle.board.specs.declared.Board as any;
-ghost use Rattle.manager.specs.Calls.{commit_map, commit_unmap, commit_change};
+ghost use Rattle.manager.specs.Answers.{by_number, outcome};
+ghost use Rattle.manager.specs.Calls.{commit_map, commit_unmap, commit_change, call_result, step_result};
 ghost use Rattle.manager.specs.Tables.{tables, Colours};
 
 use super::records::{put_record, refill};
-use super::{Change, FrameOps};
+use super::{Change, FrameOps, Refusal};
 use board::BOARD01;
 use mapping::{Mapping, MappingList};
 use page_model::FrameRecord;
@@ -84,4 +85,21 @@ pub fn carry_out(
     let Change { frame, next, ops } = change;
     commit_change(colours, list, records, protections, frame, next);
     FrameOps { frame, ops }
+}
+
+// Carries a plan out, or hands on its refusal and commits nothing.
+pub fn commit_plan(
+    colours: usize,
+    list: MappingList,
+    records: &mut [u32],
+    protections: &mut [u8],
+    plan: Result<Change, Refusal>,
+) -> Result<FrameOps, Refusal>
+    requires { Colours colours }
+    ensures { (b : any.Board) → b.colours ≡ colours
+        → call_result (outcome result) (tables list records.new protections.new)
+        ≡ step_result b (tables list records.old protections.old) (by_number plan) }
+{
+    let change = plan?;
+    Ok(carry_out(colours, list, records, protections, change))
 }
