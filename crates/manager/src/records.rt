@@ -38,8 +38,8 @@ pub fn record_at(records: &[u32], frame: u8) -> FrameRecord
         dirty,
         busy,
         dirty_colour,
-        fetched,
-        fetched_stale,
+        instructions_held,
+        instructions_stale,
     ] = words_at(records, frame);
     FrameRecord {
         masks: Masks { held, stale },
@@ -47,8 +47,8 @@ pub fn record_at(records: &[u32], frame: u8) -> FrameRecord
         busy,
         dirty_colour,
         instructions: Masks {
-            held: fetched,
-            stale: fetched_stale,
+            held: instructions_held,
+            stale: instructions_stale,
         },
     }
 }
@@ -94,9 +94,10 @@ fn start_word(colours: usize, i: usize) -> u32
     ensures { result ≡ start_word colours i }
 {
     if i % RECORD_WORDS == 4 {
-        return colours as u32;
+        colours as u32
+    } else {
+        0
     }
-    0
 }
 
 // Whether the record of every frame keeps the rules.

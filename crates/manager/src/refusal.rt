@@ -62,7 +62,7 @@ impl Refusal {
 
 impl fmt::Display for Refusal {
     fn fmt<W: fmt::Write>(&self, f: &mut fmt::Formatter<W>) -> fmt::Result {
-        let cause = match self {
+        f.write_str(match self {
             Refusal::WrongLength => "a lent buffer of another length",
             Refusal::WrongBatch => "too many mappings, or not as many as answers",
             Refusal::BrokenRules => "what is lent breaks its rules",
@@ -78,8 +78,7 @@ impl fmt::Display for Refusal {
             Refusal::NotFetchable => "the rights do not allow a fetch",
             Refusal::Busy => "a transfer of the frame bars the call",
             Refusal::NoTransfer => "the frame has no such transfer",
-        };
-        f.write_str(cause)
+        })
     }
 }
 
