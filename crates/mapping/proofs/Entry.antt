@@ -1,11 +1,8 @@
 -- What the tests of one mapping say.
 use mathlib.Core.Path.{◌≡◌, refl, sym, ap₂, subst, ◌∙◌}
-use mathlib.Core.Bool.{Bool, true, false, ◌&&◌, and-true, and-false, false≢true}
-use Prim.Native.Nat.{ℕ, zero, suc, ◌+◌, ◌≤◌}
-use native.Mathlib.Numerals.{unary_clauses}
-use native.Mathlib.Omega.{arith}
-use lib.Dec.{eqb}
-use borrow.Author.Tests.{ltb-true, lt-ltb, leb-true, le-leb, eqb-true, eq-eqb, ne_eqb}
+use mathlib.Core.Bool.{Bool, true, false, ◌&&◌, false≢true}
+use Prim.Native.Nat.{ℕ, ◌≤◌}
+use borrow.Author.Tests.{ltb-true, lt-ltb, leb-true, le-leb, eqb-true, eq-eqb}
 use Rattle.board.specs.declared.Board.{Board}
 use Rattle.mapping.specs.declared.Mapping.{Mapping}
 use Rattle.mapping.specs.Entry.{read_only, read_fetch, is_rights, zero_mapping, in_range, is_zero, is_at}
@@ -77,8 +74,3 @@ module _ (m : Mapping) (s p : ℕ) where
 -- mappings for others that they equal
 pub maps_cong : {m n : Mapping} {s p : ℕ} → m ≡ n → MapsTo m s p → MapsTo n s p
 maps_cong {s = s} {p = p} e = subst (λ (x : Mapping). MapsTo x s p) e
-
--- a sum is 0 if both parts are
-pub sum_zero : (a b : ℕ) → eqb (a + b) 0 ≡ (eqb a 0 && eqb b 0)
-sum_zero a zero = simp (unary_clauses, and-true)
-sum_zero a (suc b) = rw (ne_eqb (a + suc b) 0 (λ e. absurd (omega arith)), ne_eqb (suc b) 0 (λ e. absurd (omega arith)), and-false (eqb a 0))

@@ -1,10 +1,9 @@
--- Tests: a chain of them, the case that one picks, how a branch came out, the test of every place, and the order of two numbers.
-use mathlib.Core.Path.{◌≡◌, refl, sym, ap, ◌∙◌}
-use mathlib.Core.Bool.{Bool, true, false, not, cond, ◌&&◌, ◌||◌, and-true, and_assoc, false≢true}
+-- Tests: a chain of them, the case that one picks, the test of every place, and the order of two numbers.
+use mathlib.Core.Path.{◌≡◌, refl, sym, ◌∙◌}
+use mathlib.Core.Bool.{Bool, true, false, cond, ◌&&◌, ◌||◌, false≢true}
 use mathlib.Core.Logic.{◌⊎◌, inl, inr}
-use Prim.Native.Nat.{ℕ, zero, suc, ◌+◌, ◌≤◌, ◌<◌}
-use native.Mathlib.Numerals.{add-one}
-use lib.Dec.{T as Holds, ltb}
+use Prim.Native.Nat.{ℕ, ◌≤◌, ◌<◌}
+use lib.Dec.{ltb}
 use borrow.Author.Tests.{ltb-true, ltb-false}
 use Rattle.bits.specs.Mask.{all}
 use Rattle.bits.proofs.Mask.{all_at}
@@ -29,15 +28,6 @@ cond_true t x y e = simp e
 pub cond_false : {A : Type 0} (t : Bool) (x y : A) → t ≡ false → cond t x y ≡ y
 cond_false t x y e = simp e
 
--- how a branch came out
-pub branch_true : (t : Bool) → Holds t → t ≡ true
-branch_true true h = refl
-branch_true false h = absurd h
-
-pub branch_false : (t : Bool) → Holds (not t) → t ≡ false
-branch_false true h = absurd h
-branch_false false h = refl
-
 -- one place that fails makes the test of all fail
 pub all_not : (n : ℕ) (p : ℕ → Bool) (k : ℕ) → k < n → p k ≡ false → all n p ≡ false
 all_not n p k l e = go (all n p) refl
@@ -45,15 +35,6 @@ all_not n p k l e = go (all n p) refl
     go : (t : Bool) → all n p ≡ t → t ≡ false
     go true z = sym (all_at n p z k l) ∙ e
     go false z = refl
-
--- one place more
-all_suc : (n : ℕ) (p : ℕ → Bool) → all (suc n) p ≡ (all n p && p n)
-unfolding all
-all_suc zero p = and-true (p 0)
-all_suc (suc n) p = ap (λ (t : Bool). p 0 && t) (all_suc n (λ k. p (suc k))) ∙ sym (and_assoc (p 0) (all n (λ k. p (suc k))) (p (suc n)))
-
-pub all_more : (n : ℕ) (p : ℕ → Bool) → all (n + 1) p ≡ (all n p && p n)
-all_more n p = ap (λ (m : ℕ). all m p) (add-one n) ∙ all_suc n p
 
 -- two numbers, by their order
 pub lt_or_le : (i j : ℕ) → (i < j) ⊎ (j ≤ i)

@@ -161,7 +161,7 @@ pub fn empty() -> MappingList
 pub fn insert_at(list: MappingList, i: usize, m: Mapping) -> MappingList
     ensures { result ≡ insert_at list i m }
 {
-    if list.count >= CAPACITY || list.count < i {
+    if list.count >= CAPACITY || i > list.count {
         return list;
     }
     let mut next = list;
@@ -175,7 +175,7 @@ pub fn insert_at(list: MappingList, i: usize, m: Mapping) -> MappingList
 pub fn remove(list: MappingList, i: usize) -> MappingList
     ensures { result ≡ remove list i }
 {
-    if i >= list.count || CAPACITY < list.count {
+    if i >= list.count || list.count > CAPACITY {
         return list;
     }
     let mut next = list;
