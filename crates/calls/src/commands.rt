@@ -2,10 +2,13 @@
 use crate::lent::{
     ANSWERS, BUFFER, Buffer, Content, Lengths, MEMORY, PROTECTIONS, RECORDS, TAGS, WORDS,
 };
-use crate::numbers::Args;
+use crate::numbers::{Args, Numbers};
 use crate::slips::Slip;
 use manager::AccessKind;
 use mapping::{BATCH, CAPACITY, Mapping};
+
+// How many values one `put` has at most.
+const VALUES: usize = 10;
 
 // What a line that is not only written asks for.
 #[derive(Clone, Copy)]
@@ -129,7 +132,7 @@ fn parse_setting(word: &str, subject: Subject, args: &mut Args) -> Result<Option
         "machine" => Setting::Subject(Subject::Machine),
         "manager" => Setting::Subject(Subject::Manager),
         "with" => Setting::With(lengths(subject, args)?),
-        "fill" => Setting::Content(args.buffer()?, Content::Same(args.number()?)),
+        "fill" => filled(args)?,
         "count" => counted(args)?,
         "put" => put(args)?,
         "start" => Setting::Start,
@@ -250,17 +253,27 @@ fn parse_pages(most: usize, args: &mut Args) -> Result<Pages, Slip> {
 
 // R P M W T B A, or R P A: the manager is lent records, protections and answers.
 fn lengths(subject: Subject, args: &mut Args) -> Result<Lengths, Slip> {
-    let mut n = Lengths::default();
-    n.records = args.up_to(RECORDS)?;
-    n.protections = args.up_to(PROTECTIONS)?;
-    if subject == Subject::Machine {
-        n.memory = args.up_to(MEMORY)?;
-        n.words = args.up_to(WORDS)?;
-        n.tags = args.up_to(TAGS)?;
-        n.buffer = args.up_to(BUFFER)?;
-    }
-    n.answers = args.up_to(ANSWERS)?;
-    Ok(n)
+    let records = args.up_to(RECORDS)?;
+    let protections = args.up_to(PROTECTIONS)?;
+    Ok(match subject {
+        Subject::Machine => [
+            records,
+            protections,
+            args.up_to(MEMORY)?,
+            args.up_to(WORDS)?,
+            args.up_to(TAGS)?,
+            args.up_to(BUFFER)?,
+            args.up_to(ANSWERS)?,
+        ],
+        Subject::Manager => [records, protections, args.up_to(ANSWERS)?, 0, 0, 0, 0],
+    })
+}
+
+// BUFFER VALUE
+fn filled(args: &mut Args) -> Result<Setting, Slip> {
+    let buffer = args.buffer()?;
+    let value = args.up_to(buffer.most())?;
+    Ok(Setting::Content(buffer, Content::Same(value)))
 }
 
 // BUFFER FIRST, of a buffer of words
@@ -272,11 +285,20 @@ fn counted(args: &mut Args) -> Result<Setting, Slip> {
     Ok(Setting::Content(buffer, Content::Counted(args.number()?)))
 }
 
-// BUFFER PLACE VALUE.., at least one
+// BUFFER PLACE VALUE.., one value to ten, each with a place
 fn put(args: &mut Args) -> Result<Setting, Slip> {
     let buffer = args.buffer()?;
-    let at = args.number()?;
-    let values = args.others()?;
+    let at = args.up_to(buffer.last())?;
+    let mut values = Numbers::none();
+    for place in (at..).take(VALUES) {
+        let Some(value) = args.next_number()? else {
+            break;
+        };
+        if place > buffer.last() || value > buffer.most() {
+            return Err(Slip::Misfit);
+        }
+        values.push(value)?;
+    }
     if values.as_slice().is_empty() {
         return Err(Slip::Missing);
     }

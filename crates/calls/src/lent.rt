@@ -3,6 +3,10 @@
 use crate::numbers::{Numbers, fitted};
 use crate::slips::Slip;
 
+// How many buffers there are.
+pub const BUFFERS: usize = 7;
+
+// How many places each has.
 pub const RECORDS: usize = 449;
 
 pub const PROTECTIONS: usize = 257;
@@ -29,19 +33,11 @@ pub struct Lent {
     pub answers: [u8; ANSWERS],
 }
 
-// How many places of each are lent.
-#[derive(Clone, Copy, Debug, Default, PartialEq, Eq)]
-pub struct Lengths {
-    pub records: usize,
-    pub protections: usize,
-    pub memory: usize,
-    pub words: usize,
-    pub tags: usize,
-    pub buffer: usize,
-    pub answers: usize,
-}
+// How many places are lent, in the order in which `with` has them: of R P M W T B A to the machine, of R P A to the manager. A call of either takes them in
+// its own order, also where the other's `with` set them.
+pub type Lengths = [usize; BUFFERS];
 
-// One of them.
+// One of the buffers.
 #[derive(Clone, Copy, Debug, PartialEq, Eq)]
 pub enum Buffer {
     Records,
@@ -55,16 +51,38 @@ pub enum Buffer {
 
 impl Buffer {
     // The buffer that a letter names.
-    pub fn named(letter: &str) -> Option<Buffer> {
+    pub fn named(letter: u8) -> Option<Buffer> {
         match letter {
-            "r" => Some(Buffer::Records),
-            "p" => Some(Buffer::Protections),
-            "m" => Some(Buffer::Memory),
-            "w" => Some(Buffer::Words),
-            "t" => Some(Buffer::Tags),
-            "b" => Some(Buffer::Device),
-            "a" => Some(Buffer::Answers),
+            b'r' => Some(Buffer::Records),
+            b'p' => Some(Buffer::Protections),
+            b'm' => Some(Buffer::Memory),
+            b'w' => Some(Buffer::Words),
+            b't' => Some(Buffer::Tags),
+            b'b' => Some(Buffer::Device),
+            b'a' => Some(Buffer::Answers),
             _ => None,
+        }
+    }
+
+    // Its last place.
+    pub fn last(self) -> usize {
+        match self {
+            Buffer::Records => RECORDS - 1,
+            Buffer::Protections => PROTECTIONS - 1,
+            Buffer::Memory => MEMORY - 1,
+            Buffer::Words => WORDS - 1,
+            Buffer::Tags => TAGS - 1,
+            Buffer::Device => BUFFER - 1,
+            Buffer::Answers => ANSWERS - 1,
+        }
+    }
+
+    // The largest value of its places.
+    pub fn most(self) -> u64 {
+        if self.has_words() {
+            u64::from(u32::MAX)
+        } else {
+            u64::from(u8::MAX)
         }
     }
 
@@ -119,7 +137,7 @@ impl Lent {
 }
 
 impl Content {
-    // Puts it into places, where its values fit them.
+    // Puts it into places, where its values fit them. A value past the last place is left out.
     fn put<T: Copy + TryFrom<u64>>(self, places: &mut [T]) -> Result<(), Slip>
     where
         T::Error: Drop,
@@ -139,12 +157,7 @@ impl Content {
                 }
             }
             Content::Values { at, values } => {
-                let values = values.as_slice();
-                let (_, places) = places.split_at_mut_checked(at).ok_or(Slip::Misfit)?;
-                if places.len() < values.len() {
-                    return Err(Slip::Misfit);
-                }
-                for (place, value) in places.iter_mut().zip(values) {
+                for (place, value) in places.iter_mut().skip(at).zip(values.as_slice()) {
                     *place = fitted(*value)?;
                 }
             }

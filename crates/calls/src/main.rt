@@ -22,46 +22,50 @@ use std::fs::File;
 use std::os::fd::AsRawFd;
 use std::rt::Env;
 
-// Runs the scripts that the arguments name, each from the start. An argument that does not fit is taken for an empty name.
-fn main(rt: HostRuntime) -> std::io::Result<()> {
+// Runs the scripts that the arguments name, each from the start. Where text cannot be written the rest is left out, and the status is 0 all the same.
+fn main(rt: HostRuntime) {
+    let _ = scripts(&rt);
+}
+
+// Runs the scripts one after the other. An argument that does not fit is taken for an empty name.
+fn scripts(rt: &HostRuntime) -> std::io::Result<()> {
     for i in 1..usize::MAX {
         let mut name = io::buffer();
         let n = match rt.arg(i, &mut name) {
             Ok(n) => n,
             Err(FillError::TooLong) => 0,
-            Err(FillError::NotPresent) => return Ok(()),
+            Err(FillError::NotPresent) => break,
         };
-        script(&rt, str::from_utf8(&name[..n]).unwrap_or(""))?;
+        script(rt, &name[..n])?;
     }
     Ok(())
 }
 
 // Runs a script from the start, and says so where there is none. What ends it before its last line is told there.
-fn script(rt: &HostRuntime, name: &str) -> std::io::Result<()> {
-    println!(rt; "{name}")?;
+fn script(rt: &HostRuntime, name: &[u8]) -> std::io::Result<()> {
+    written(rt, name)?;
     let mut text = io::large_buffer();
     match read(rt, name, &mut text) {
         Ok(text) => match lines(rt, name, text, &mut State::start(), outer) {
             Err(Stop::Output(error)) => Err(error),
             _ => Ok(()),
         },
-        Err(slip) => println!(rt; "{name}:0: {slip}"),
+        Err(slip) => told(rt, name, 0, slip),
     }
 }
 
 // Reads a script, which has fewer bytes than the buffer takes.
-fn read<'a>(rt: &HostRuntime, name: &str, text: &'a mut [u8]) -> Result<&'a str, Slip> {
-    let n = match File::open(rt, name) {
-        Ok(file) => io::read_full(file.as_raw_fd(), text),
-        Err(_) => 0,
-    };
+fn read<'a>(rt: &HostRuntime, name: &[u8], text: &'a mut [u8]) -> Result<&'a [u8], Slip> {
+    let path = str::from_utf8(name).map_err(|_| Slip::NoScript)?;
+    let file = File::open(rt, path).map_err(|_| Slip::NoScript)?;
+    let n = io::read_full(file.as_raw_fd(), text);
     if n == text.len() {
         return Err(Slip::TooLong);
     }
-    match str::from_utf8(&text[..n]) {
-        Ok(text) if n > 0 => Ok(text),
-        _ => Err(Slip::NoScript),
+    if n == 0 {
+        return Err(Slip::NoScript);
     }
+    Ok(&text[..n])
 }
 
 // ---- lines
@@ -69,19 +73,19 @@ fn read<'a>(rt: &HostRuntime, name: &str, text: &'a mut [u8]) -> Result<&'a str,
 // Carries out the lines of a script up to its end, or to one that has a slip, which is told.
 fn lines<F>(
     rt: &HostRuntime,
-    name: &str,
-    text: &str,
+    name: &[u8],
+    text: &[u8],
     s: &mut State,
     carry_out: F,
 ) -> Result<(), Stop>
 where
-    F: Fn(&HostRuntime, &str, &mut State) -> Result<(), Stop>,
+    F: Fn(&HostRuntime, &[u8], &mut State) -> Result<(), Stop>,
     requires { F.IsAlwaysCallable carry_out }
 {
-    for (line, number) in text.lines().zip(1u64..) {
+    for (line, number) in text.split(|b| *b == b'\n').zip(1u64..) {
         match carry_out(rt, line, s) {
             Err(Stop::Slip(slip)) => {
-                println!(rt; "{name}:{number}: {slip}")?;
+                told(rt, name, number, slip)?;
                 return Err(Stop::Slip(slip));
             }
             done => done?,
@@ -90,16 +94,26 @@ where
     Ok(())
 }
 
+// Says what is wrong with a line of a script.
+fn told(rt: &impl Print, name: &[u8], number: u64, slip: Slip) -> std::io::Result<()> {
+    rt.write_all(name)?;
+    println!(rt; ":{number}: {slip}")
+}
+
+// Writes a line as it stands.
+fn written(rt: &impl Print, line: &[u8]) -> std::io::Result<()> {
+    rt.write_all(line)?;
+    println!(rt)
+}
+
 // Carries out a line that may call a script by `do NAME NUMBER..`. The line is written, and its numbers stand for `$1` and so on in that script.
-fn outer(rt: &HostRuntime, text: &str, s: &mut State) -> Result<(), Stop> {
-    let Some(call) = text.strip_prefix("do ") else {
+fn outer(rt: &HostRuntime, text: &[u8], s: &mut State) -> Result<(), Stop> {
+    let Some(call) = text.strip_prefix(b"do ") else {
         return line(rt, text, s);
     };
-    println!(rt; "{text}")?;
-    let (name, numbers) = call.split_once(' ').unwrap_or((call, ""));
-    let mut args = Args::new(numbers, &[]);
-    s.called = args.others()?;
-    args.end()?;
+    written(rt, text)?;
+    let (name, numbers) = numbers::first_word(call);
+    s.called = Args::new(numbers, &[]).all()?;
     let mut text = io::large_buffer();
     lines(rt, name, read(rt, name, &mut text)?, s, line)?;
     s.called = Numbers::none();
@@ -107,15 +121,14 @@ fn outer(rt: &HostRuntime, text: &str, s: &mut State) -> Result<(), Stop> {
 }
 
 // Carries out a line. One that starts with `#` is for the reader, and one with a quote is written as it stands.
-fn line(rt: &HostRuntime, text: &str, s: &mut State) -> Result<(), Stop> {
-    if text.is_empty() || text.starts_with('#') {
-        return Ok(());
+fn line(rt: &HostRuntime, text: &[u8], s: &mut State) -> Result<(), Stop> {
+    match text.first() {
+        None | Some(b'#') => return Ok(()),
+        Some(b'"') => return Ok(written(rt, text)?),
+        Some(_) => {}
     }
-    if text.starts_with('"') {
-        println!(rt; "{text}")?;
-        return Ok(());
-    }
-    let (word, numbers) = text.split_once(' ').unwrap_or((text, ""));
+    let (word, numbers) = numbers::first_word(text);
+    let word = str::from_utf8(word).map_err(|_| Slip::NoCommand)?;
     let called = s.called;
     let mut args = Args::new(numbers, called.as_slice());
     let command = commands::parsed(word, s.subject, &mut args)?;

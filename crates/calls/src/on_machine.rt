@@ -10,7 +10,7 @@ use std::io::Result;
 
 // Makes a call, and tells its answer.
 pub fn call(rt: &impl Print, s: &mut State, call: Call) -> Result<()> {
-    let n = s.lengths;
+    let [records, protections, memory, words, tags, buffer, answers] = s.lengths;
     let list = s.list;
     let batch = s.batch;
     let lent = &mut s.lent;
@@ -26,13 +26,13 @@ pub fn call(rt: &impl Print, s: &mut State, call: Call) -> Result<()> {
         call,
         list,
         batch,
-        &mut r[..n.records.min(RECORDS)],
-        &mut p[..n.protections.min(PROTECTIONS)],
-        &mut m[..n.memory.min(MEMORY)],
-        &mut w[..n.words.min(WORDS)],
-        &mut t[..n.tags.min(TAGS)],
-        &mut b[..n.buffer.min(BUFFER)],
-        &mut a[..n.answers.min(ANSWERS)],
+        &mut r[..records.min(RECORDS)],
+        &mut p[..protections.min(PROTECTIONS)],
+        &mut m[..memory.min(MEMORY)],
+        &mut w[..words.min(WORDS)],
+        &mut t[..tags.min(TAGS)],
+        &mut b[..buffer.min(BUFFER)],
+        &mut a[..answers.min(ANSWERS)],
     )?;
     Ok(())
 }

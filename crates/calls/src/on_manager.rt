@@ -9,7 +9,7 @@ use std::io::Result;
 
 // Makes a call, and tells its answer.
 pub fn call(rt: &impl Print, s: &mut State, call: Call) -> Result<()> {
-    let n = s.lengths;
+    let [records, protections, answers, ..] = s.lengths;
     let list = s.list;
     let batch = s.batch;
     let lent = &mut s.lent;
@@ -21,9 +21,9 @@ pub fn call(rt: &impl Print, s: &mut State, call: Call) -> Result<()> {
         call,
         list,
         batch,
-        &mut r[..n.records.min(RECORDS)],
-        &mut p[..n.protections.min(PROTECTIONS)],
-        &mut a[..n.answers.min(ANSWERS)],
+        &mut r[..records.min(RECORDS)],
+        &mut p[..protections.min(PROTECTIONS)],
+        &mut a[..answers.min(ANSWERS)],
     )?;
     Ok(())
 }

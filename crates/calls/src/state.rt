@@ -1,7 +1,7 @@
 // What a script has at a line: what is lent and how much of it, the list and another that it keeps, the items of a call over many mappings, whose calls are
 // made, and the numbers that it was called with.
 use crate::commands::{Pages, Setting, Subject};
-use crate::lent::{Lengths, Lent};
+use crate::lent::{BUFFERS, Lengths, Lent};
 use crate::numbers::Numbers;
 use crate::slips::Slip;
 use mapping::{BATCH, Batch, CAPACITY, Mapping, MappingList};
@@ -22,7 +22,7 @@ impl State {
     pub fn start() -> State {
         State {
             lent: Lent::zeros(),
-            lengths: Lengths::default(),
+            lengths: [0; BUFFERS],
             list: mapping::empty(),
             kept: mapping::empty(),
             batch: no_items(),
