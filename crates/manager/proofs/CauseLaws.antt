@@ -5,7 +5,7 @@ use mathlib.Core.List.{List, [], ◌∷◌, ◌++◌}
 use Rattle.std.proofs.Common.{Result}
 use Rattle.std.proofs.lemmas.Result.{err_from_is_err_and}
 use Rattle.std.specs.Result.{IsErrAnd}
-use Prim.Native.Nat.{ℕ, ◌*◌, ◌<◌}
+use Prim.Native.Nat.{ℕ, zero, suc, ◌*◌, ◌<◌}
 use native.Mathlib.Omega.{arith}
 use borrow.Author.Tests.{eq-eqb, ltb-true, leb-false, not-false}
 use lib.Dec.{eqb, ltb}
@@ -217,6 +217,33 @@ looked_found b l s p {seen} e = go (list_of.keeps_rules b l) refl
     go : (t : Bool) → list_of.keeps_rules b l ≡ t → (list_of.keeps_rules b l ≡ true) × (seen ≡ find l s p)
     go true k = (k, (let z : Some seen ≡ Some (find l s p) = sym e ∙ look_kept b l s p k in cc))
     go false k = absurd (let z : Some seen ≡ None = sym e ∙ look_broken b l s p k in cc)
+
+-- the refusal by what a look told, whatever stands for nothing told, is that of the tables
+pub told_rest : (b : Board) (l : MappingList) (s p : ℕ) (rs ps : List ℕ) (own : Seen → List Cause) (untold : Seen) → length l.items ≡ capacity
+    → first_refusal (told_tables b (is_some (look b l s p)) rs ps ++ own (unwrap_or (look b l s p) untold)) ≡ first_refusal (table_causes b (tables l rs ps) ++ own (find l s p))
+unfolding told_tables table_causes
+told_rest b l s p rs ps own untold long = go (first_refusal told) refl
+  where
+    seen : Seen
+    seen = unwrap_or (look b l s p) untold
+
+    told : List Cause
+    told = told_tables b (is_some (look b l s p)) rs ps
+
+    lent : List Cause
+    lent = table_causes b (tables l rs ps)
+
+    same : first_refusal told ≡ first_refusal lent
+    same = told_tables_lem b l rs ps long (looked_kept b l s p)
+
+    go : (n : ℕ) → first_refusal told ≡ n → first_refusal (told ++ own seen) ≡ first_refusal (lent ++ own (find l s p))
+    go zero e =
+        let none = sym same ∙ e in
+        let kept = list_keeps b (tables l rs ps) (tables_clear b (tables l rs ps) none).1 in
+        sym (refusal_rest told (own seen) refl e)
+        ∙ ap (λ (x : Option Seen). first_refusal (own (unwrap_or x untold))) (look_kept b l s p kept)
+        ∙ refusal_rest lent (own (find l s p)) refl none
+    go (suc n) e = sym (refusal_prefix told (own seen) (λ z. omega arith)) ∙ same ∙ refusal_prefix lent (own (find l s p)) (λ z. let w = sym same ∙ e in omega arith)
 
 -- the refusal of what is lent by what a look told
 pub tables_told : (b : Board) (l : MappingList) (rs ps : List ℕ) (s p : ℕ) {looked : Option Seen} {n : ℕ} → length l.items ≡ capacity → looked ≡ look b l s p

@@ -1,8 +1,8 @@
--- The order of mappings by space, then page: what its test says, its laws, and what it means for neighbours.
+-- The order of mappings by space, then page: what its test says, its laws, a number that rises as it does, and what it means for neighbours.
 use mathlib.Core.Path.{◌≡◌, refl, sym, subst, ◌∙◌}
 use mathlib.Core.Bool.{Bool, true, false, or-true, false≢true}
 use mathlib.Core.Logic.{◌⊎◌, inl, inr, ⊎_elim}
-use Prim.Native.Nat.{ℕ, zero, suc, ◌≤◌, ◌<◌}
+use Prim.Native.Nat.{ℕ, zero, suc, ◌+◌, ◌*◌, ◌≤◌, ◌<◌}
 use native.Mathlib.Omega.{arith}
 use native.Mathlib.Nat.{eq-or-lt_of_le}
 use borrow.Author.Tests.{ltb-true, lt-ltb, eqb-true, eq-eqb}
@@ -59,6 +59,21 @@ before_cong₂ {m} {m'} {n} {n'} e f h = subst (λ (x : Mapping). Before x n'.sp
 
 pub before_page : (m n : Mapping) (s p : ℕ) → MapsTo n s p → Before m n.space n.page → Before m s p
 before_page m n s p e h = subst (λ (x : ℕ). Before m x p) e.0 (subst (λ (y : ℕ). Before m n.space y) e.1 h)
+
+-- ---- a number that rises with the space, and in a space with the page; a page's field has 16 bits
+
+abbrev pub page_numbers : ℕ
+page_numbers = 65536
+
+abbrev pub key_of : ℕ → ℕ → ℕ
+key_of space page = space * page_numbers + page
+
+module _ (m : Mapping) (s p : ℕ) (own : m.page < page_numbers) (other : p < page_numbers) where
+  pub before_key : Before m s p → key_of m.space m.page < key_of s p
+  before_key = ⊎_elim (λ h. omega arith) (λ h. omega arith)
+
+  pub key_before : key_of m.space m.page < key_of s p → Before m s p
+  key_before h = ⊎_elim (λ k. inl k) (λ k. inr (omega arith, omega arith)) (lt_or_le m.space s)
 
 -- ---- neighbours
 

@@ -1,2 +1,3 @@
--- The laws of a step.
+-- The laws of a step, and of the kinds of steps.
 pub mod Making
+pub mod StepKinds
