@@ -6,7 +6,7 @@ use Rattle.edges.proofs.Full.{room_for_one_lem, fresh_pair_lem, mapped_pair_lem}
 use Rattle.edges.proofs.Lists.{lists_hold}
 use Rattle.edges.proofs.Opened.{opened}
 use Rattle.edges.proofs.Order.{order_holds}
-use Rattle.edges.specs.Cells.{cells, instruction_cells}
+use Rattle.edges.specs.Cells.{cells, instruction_cells, AnyColour}
 use Rattle.edges.specs.DirtyColours.{dirty_colours}
 use Rattle.edges.specs.Fetches.{fetches}
 use Rattle.edges.specs.Flushes.{flushes}
@@ -22,6 +22,10 @@ cells_hold = (refl, (refl, (refl, (refl, (refl, (refl, (refl, (refl, (refl, (ref
 
 instruction_cells_hold : EveryRowHolds instruction_cells
 instruction_cells_hold = (refl, (refl, (refl, (refl, (refl, (refl, (refl, (refl, (refl, (refl, (refl, (refl, (refl, (refl, (refl, (refl, (refl, (refl, (refl, (refl, (refl, (refl, (refl, (refl, (refl, (refl, (refl, tt)))))))))))))))))))))))))))
+
+pub any_colour : AnyColour
+any_colour c =
+    (λ own. (λ state. refl, λ state. refl), (λ own. (λ state. refl, λ state. refl), λ own. (λ state. refl, λ state. refl)))
 
 -- the rows of two lists
 both_hold : (xs ys : List Row) → EveryRowHolds xs → EveryRowHolds ys → EveryRowHolds (xs ++ ys)

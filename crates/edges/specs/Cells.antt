@@ -1,7 +1,7 @@
 -- Document 01, "The page model": both tables, request N3's row, request N6's two and request N8's, with request N9's states after a flush, and N8's
 -- table of the instruction colours, cell by cell in their order, as rows. Each speaks of the code's step and of the cell that the contracts of
 -- `page_model::table::Step::cell` and `instruction_cell` name, and so of the code too.
-use Rattle.std.specs.Prelude.{Bool, true, false, List, [], ◌∷◌, ◌++◌, ℕ}
+use Rattle.std.specs.Prelude.{Bool, true, false, List, [], ◌∷◌, ◌++◌, ◌≡◌, ◌×◌, ℕ}
 use Rattle.page_model.specs.declared.table.Step.{Step}
 use Rattle.page_model.specs.declared.table.Step.TheVariants.{Read, Write, DeviceRead, DeviceWrite, DeviceWritePart, BeginRead, BeginWrite, Fetch}
 use Rattle.page_model.specs.Cases.{step_of, row_of, instruction_row_of, state_number, operation_number, instruction_number}
@@ -9,7 +9,7 @@ use Rattle.page_model.specs.Instructions.{InstructionState, unfetched, fetched, 
 use Rattle.page_model.specs.Table.{ColourState, empty, present, dirty, stale, none, flush, purge, Cell, ◌⇒◌, role_if}
 use Rattle.edges.specs.Rows.{numbers, Row, ◌gives◌}
 
--- ---- the steps, as the code has them; the cells do not look at which colour a processor's step goes through
+-- ---- the steps, as the code has them; a processor's through colour 0, and `AnyColour` says that the cells are those of every colour
 
 abbrev pub read : Step
 read = Read 0
@@ -165,3 +165,11 @@ instruction_cells =
     ∷ other_instructions fetch fetched (none ⇛ fetched)
     ∷ other_instructions fetch outdated (none ⇛ outdated)
     ∷ []
+
+-- ---- and of a processor's step the rows are those of whichever colour it goes through
+
+abbrev pub SameCells : Step → Step → Type 0
+SameCells s t = (own : Bool) → ((state : ColourState) → step_numbers s own state ≡ step_numbers t own state) × ((state : InstructionState) → instruction_numbers s own state ≡ instruction_numbers t own state)
+
+abbrev pub AnyColour : Type 0
+AnyColour = (c : ℕ) → SameCells (Read c) read × SameCells (Write c) write × SameCells (Fetch c) fetch

@@ -58,10 +58,7 @@ fn whole_refusal(lent: Result<(), Refusal>, items: usize, answers: usize) -> Res
 fn is_wrong_length(lent: Result<(), Refusal>) -> bool
     ensures { result ≡ nat_eq (refusal_in lent) 1 }
 {
-    match lent {
-        Err(refusal) => refusal == Refusal::WrongLength,
-        Ok(()) => false,
-    }
+    lent == Err(Refusal::WrongLength)
 }
 
 // Inserts each item that is not refused, and answers each.

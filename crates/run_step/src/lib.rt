@@ -36,15 +36,9 @@ impl From<Result<Loaded, Refusal>> for Told {
 
     // What a read, or a word that a device takes, tells.
     fn from(got: Result<Loaded, Refusal>) -> Told {
-        match got {
-            Ok(Loaded { operations, word }) => Told {
-                answer: Ok(operations),
-                shown: Some(word),
-            },
-            Err(refusal) => Told {
-                answer: Err(refusal),
-                shown: None,
-            },
+        Told {
+            answer: got.map(|loaded| loaded.operations),
+            shown: got.ok().map(|loaded| loaded.word),
         }
     }
 }

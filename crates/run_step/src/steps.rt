@@ -240,10 +240,7 @@ fn device_write_part(
 fn first_word(answer: Result<FrameOps, Refusal>, word: u32) -> Option<u32>
     ensures { result ≡ first_word (outcome answer) (word ∷ []) }
 {
-    match answer {
-        Ok(_) => Some(word),
-        Err(_) => None,
-    }
+    answer.is_ok().then_some(word)
 }
 
 // The words w, w + 1 and so on, modulo 2^32.

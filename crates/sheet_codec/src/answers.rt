@@ -22,30 +22,21 @@ pub fn number_of(answer: Result<FrameOps, Refusal>) -> u8
 pub fn operations_of(answer: Result<FrameOps, Refusal>) -> FrameOps
     ensures { result ≡ operations_of (outcome answer) }
 {
-    match answer {
-        Ok(operations) => operations,
-        Err(_) => manager::nothing(),
-    }
+    answer.unwrap_or(manager::nothing())
 }
 
 // The answer of a call that changes the list: it has no operations.
 pub fn listed(answer: Result<MappingList, Refusal>) -> Result<FrameOps, Refusal>
     ensures { outcome result ≡ list_outcome answer }
 {
-    match answer {
-        Ok(_) => Ok(manager::nothing()),
-        Err(refusal) => Err(refusal),
-    }
+    answer.map(|_| manager::nothing())
 }
 
 // The list after such a call: a refusal leaves it.
 pub fn list_after(list: MappingList, answer: Result<MappingList, Refusal>) -> MappingList
     ensures { result ≡ list_left list answer }
 {
-    match answer {
-        Ok(next) => next,
-        Err(_) => list,
-    }
+    answer.unwrap_or(list)
 }
 
 // How many flushes an answer has.
