@@ -2,158 +2,154 @@
 // Memory starts as 64 f + o at offset o of frame f, and the cache as empty lines of zeros.
 #![tactic(auto)]
 
-mod show;
+mod store;
 
-// Standard output.
-const STDOUT: i32 = 1;
+use std::array;
+use std::io::Result;
+use store::Store;
 
-fn main() {
-    let mut memory = [0u32; 4096];
-    let mut words = [0u32; 1024];
-    let mut tags = [0u8; 128];
-    show::count_up(&mut memory, 0);
-    aliases(&mut memory, &mut words, &mut tags);
-    purges(&mut memory, &mut words, &mut tags);
-    flushes(&mut memory, &mut words, &mut tags);
-    losses(&mut memory, &mut words, &mut tags);
-    evictions(&mut memory, &mut words, &mut tags);
-    fetches(&mut memory, &mut words, &mut tags);
-    transfers(&mut memory);
-    words_moved(&mut memory);
-    rules(&mut tags);
+// Runs the cases. Where text cannot be written the rest is left out, and the status is 0 all the same.
+fn main(rt: HostRuntime) {
+    let _ = cases(&mut Store::start(&rt));
+}
+
+// The cases, one after the other on one store.
+fn cases(s: &mut Store<impl Print>) -> Result<()> {
+    aliases(s)?;
+    purges(s)?;
+    flushes(s)?;
+    losses(s)?;
+    evictions(s)?;
+    fetches(s)?;
+    transfers(s)?;
+    words_moved(s)?;
+    rules(s)
 }
 
 // One frame through two colours: the second finds memory's word until the first line is written back.
-fn aliases(memory: &mut [u32; 4096], words: &mut [u32; 1024], tags: &mut [u8; 128]) {
-    io::write_all(STDOUT, b"aliases\n");
-    show::read(memory, words, tags, 3, 1, 10);
-    show::write(memory, words, tags, 3, 1, 11, 5000);
-    show::read(memory, words, tags, 3, 1, 11);
-    show::read(memory, words, tags, 3, 2, 11);
-    show::read(memory, words, tags, 5, 1, 8);
-    show::memory_word(memory, 3, 11);
-    show::read(memory, words, tags, 3, 2, 11);
+fn aliases(s: &mut Store<impl Print>) -> Result<()> {
+    println!(s.rt; "aliases")?;
+    s.read(3, 1, 10)?;
+    s.write(3, 1, 11, 5000)?;
+    s.read(3, 1, 11)?;
+    s.read(3, 2, 11)?;
+    s.read(5, 1, 8)?;
+    s.memory_word(3, 11)?;
+    s.read(3, 2, 11)
 }
 
 // A purge empties a clean line, whose words stay; the next access finds memory's.
-fn purges(memory: &mut [u32; 4096], words: &mut [u32; 1024], tags: &mut [u8; 128]) {
-    io::write_all(STDOUT, b"purges\n");
-    show::purge(tags, 3, 2);
-    show::line(words, tags, 17, 3);
-    show::read(memory, words, tags, 3, 2, 11);
+fn purges(s: &mut Store<impl Print>) -> Result<()> {
+    println!(s.rt; "purges")?;
+    s.purge(3, 2)?;
+    s.line(17, 3)?;
+    s.read(3, 2, 11)
 }
 
 // A flush writes the dirty line and leaves both in, clean; another frame's line in the colour stays, and stays dirty. A word that a device brings then is
 // not found by a read, which hits the line, and is not written over when the line, now clean, is flushed once more or evicted.
-fn flushes(memory: &mut [u32; 4096], words: &mut [u32; 1024], tags: &mut [u8; 128]) {
-    io::write_all(STDOUT, b"flushes\n");
-    show::write(memory, words, tags, 3, 2, 63, 6000);
-    show::flush(memory, words, tags, 3, 2);
-    show::memory_word(memory, 3, 63);
-    show::line(words, tags, 17, 3);
-    show::line(words, tags, 23, 7);
-    show::write(memory, words, tags, 5, 1, 8, 7000);
-    show::flush(memory, words, tags, 3, 1);
-    show::line(words, tags, 9, 0);
-    show::memory_word(memory, 5, 8);
-    show::bring_word(memory, 3, 63, 6500);
-    show::read(memory, words, tags, 3, 2, 63);
-    show::flush(memory, words, tags, 3, 2);
-    show::memory_word(memory, 3, 63);
-    show::evict(memory, words, tags, 23);
-    show::memory_word(memory, 3, 63);
+fn flushes(s: &mut Store<impl Print>) -> Result<()> {
+    println!(s.rt; "flushes")?;
+    s.write(3, 2, 63, 6000)?;
+    s.flush(3, 2)?;
+    s.memory_word(3, 63)?;
+    s.line(17, 3)?;
+    s.line(23, 7)?;
+    s.write(5, 1, 8, 7000)?;
+    s.flush(3, 1)?;
+    s.line(9, 0)?;
+    s.memory_word(5, 8)?;
+    s.bring_word(3, 63, 6500)?;
+    s.read(3, 2, 63)?;
+    s.flush(3, 2)?;
+    s.memory_word(3, 63)?;
+    s.evict(23)?;
+    s.memory_word(3, 63)
 }
 
 // A purge of a dirty line writes nothing.
-fn losses(memory: &mut [u32; 4096], words: &mut [u32; 1024], tags: &mut [u8; 128]) {
-    io::write_all(STDOUT, b"losses\n");
-    show::write(memory, words, tags, 63, 7, 63, 77);
-    show::purge(tags, 63, 7);
-    show::line(words, tags, 63, 7);
-    show::memory_word(memory, 63, 63);
+fn losses(s: &mut Store<impl Print>) -> Result<()> {
+    println!(s.rt; "losses")?;
+    s.write(63, 7, 63, 77)?;
+    s.purge(63, 7)?;
+    s.line(63, 7)?;
+    s.memory_word(63, 63)
 }
 
 // Evicting a dirty line writes it; an empty line stays empty.
-fn evictions(memory: &mut [u32; 4096], words: &mut [u32; 1024], tags: &mut [u8; 128]) {
-    io::write_all(STDOUT, b"evictions\n");
-    show::write(memory, words, tags, 0, 0, 0, 9);
-    show::evict(memory, words, tags, 0);
-    show::line(words, tags, 0, 0);
-    show::memory_word(memory, 0, 0);
-    show::evict(memory, words, tags, 1);
-    show::line(words, tags, 1, 0);
-    show::memory_word(memory, 0, 8);
+fn evictions(s: &mut Store<impl Print>) -> Result<()> {
+    println!(s.rt; "evictions")?;
+    s.write(0, 0, 0, 9)?;
+    s.evict(0)?;
+    s.line(0, 0)?;
+    s.memory_word(0, 0)?;
+    s.evict(1)?;
+    s.line(1, 0)?;
+    s.memory_word(0, 8)
 }
 
 // Through the instruction page of colour 1, which is page 9: the line is number 73, a word written in the data cache is not found until it is flushed and
 // the line purged, and its eviction writes nothing.
-fn fetches(memory: &mut [u32; 4096], words: &mut [u32; 1024], tags: &mut [u8; 128]) {
-    io::write_all(STDOUT, b"fetches\n");
-    show::read(memory, words, tags, 3, 9, 11);
-    show::line(words, tags, 73, 3);
-    show::write(memory, words, tags, 3, 1, 11, 8000);
-    show::read(memory, words, tags, 3, 9, 11);
-    show::flush(memory, words, tags, 3, 1);
-    show::read(memory, words, tags, 3, 9, 11);
-    show::purge(tags, 3, 9);
-    show::read(memory, words, tags, 3, 9, 11);
-    show::evict(memory, words, tags, 73);
-    show::line(words, tags, 73, 3);
-    show::memory_word(memory, 3, 11);
+fn fetches(s: &mut Store<impl Print>) -> Result<()> {
+    println!(s.rt; "fetches")?;
+    s.read(3, 9, 11)?;
+    s.line(73, 3)?;
+    s.write(3, 1, 11, 8000)?;
+    s.read(3, 9, 11)?;
+    s.flush(3, 1)?;
+    s.read(3, 9, 11)?;
+    s.purge(3, 9)?;
+    s.read(3, 9, 11)?;
+    s.evict(73)?;
+    s.line(73, 3)?;
+    s.memory_word(3, 11)
 }
 
 // A transfer moves the 64 words of its frame, or its last twelve, and touches no neighbour.
-fn transfers(memory: &mut [u32; 4096]) {
-    io::write_all(STDOUT, b"transfers\n");
-    let mut buffer = [0u32; 64];
-    show::count_up(&mut buffer, 100);
-    show::device_write(memory, &buffer, 62, 0);
-    show::memory_word(memory, 61, 63);
-    show::memory_word(memory, 62, 0);
-    show::memory_word(memory, 62, 63);
-    show::memory_word(memory, 63, 0);
-    show::count_up(&mut buffer, 7000);
-    show::device_write(memory, &buffer[0..12], 62, 52);
-    show::memory_word(memory, 62, 51);
-    show::memory_word(memory, 62, 52);
-    show::memory_word(memory, 62, 63);
-    show::memory_word(memory, 63, 0);
-    show::device_read(memory, &mut buffer, 3);
-    show::buffer_word(&buffer, 0);
-    show::buffer_word(&buffer, 11);
-    show::buffer_word(&buffer, 63);
+fn transfers(s: &mut Store<impl Print>) -> Result<()> {
+    println!(s.rt; "transfers")?;
+    let mut buffer = array::from_fn(|i| 100 + i as u32);
+    s.device_write(&buffer, 62, 0)?;
+    s.memory_word(61, 63)?;
+    s.memory_word(62, 0)?;
+    s.memory_word(62, 63)?;
+    s.memory_word(63, 0)?;
+    buffer = array::from_fn(|i| 7000 + i as u32);
+    s.device_write(&buffer[0..12], 62, 52)?;
+    s.memory_word(62, 51)?;
+    s.memory_word(62, 52)?;
+    s.memory_word(62, 63)?;
+    s.memory_word(63, 0)?;
+    s.device_read(&mut buffer, 3)?;
+    println!(s.rt; "buffer {}", buffer[0])?;
+    println!(s.rt; "buffer {}", buffer[11])?;
+    println!(s.rt; "buffer {}", buffer[63])
 }
 
 // A word that a device brings, to the last offset and to the first, touches no neighbour; one that it takes is memory's.
-fn words_moved(memory: &mut [u32; 4096]) {
-    io::write_all(STDOUT, b"words\n");
-    show::bring_word(memory, 62, 63, 500);
-    show::memory_word(memory, 62, 62);
-    show::memory_word(memory, 62, 63);
-    show::memory_word(memory, 63, 0);
-    show::bring_word(memory, 62, 0, 600);
-    show::memory_word(memory, 61, 63);
-    show::memory_word(memory, 62, 0);
-    show::memory_word(memory, 62, 1);
-    show::take_word(memory, 62, 63);
-    show::take_word(memory, 3, 11);
+fn words_moved(s: &mut Store<impl Print>) -> Result<()> {
+    println!(s.rt; "words")?;
+    s.bring_word(62, 63, 500)?;
+    s.memory_word(62, 62)?;
+    s.memory_word(62, 63)?;
+    s.memory_word(63, 0)?;
+    s.bring_word(62, 0, 600)?;
+    s.memory_word(61, 63)?;
+    s.memory_word(62, 0)?;
+    s.memory_word(62, 1)?;
+    s.take_word(62, 63)?;
+    s.take_word(3, 11)
 }
 
 // Which tag bytes keep the rules.
-fn rules(tags: &mut [u8; 128]) {
-    io::write_all(STDOUT, b"rules\n");
-    show::rule(tags, 0, 0);
-    show::rule(tags, 0, 1);
-    show::rule(tags, 0, 64);
-    show::rule(tags, 0, 65);
-    show::rule(tags, 0, 128);
-    show::rule(tags, 0, 129);
-    show::rule(tags, 0, 192);
-    show::rule(tags, 0, 193);
-    show::rule(tags, 0, 0);
-    show::rule(tags, 64, 64);
-    show::rule(tags, 64, 65);
-    show::rule(tags, 64, 129);
-    show::rule(tags, 63, 129);
-    show::rule(tags, 64, 0);
+fn rules(s: &mut Store<impl Print>) -> Result<()> {
+    println!(s.rt; "rules")?;
+    for tag in [0, 1, 64, 65, 128, 129, 192, 193, 0] {
+        s.rule(0, tag)?;
+    }
+    for tag in [64, 65, 129] {
+        s.rule(64, tag)?;
+    }
+    s.rule(63, 129)?;
+    s.rule(64, 0)
 }

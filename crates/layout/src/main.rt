@@ -11,7 +11,12 @@ use std::array;
 // Standard input.
 const STDIN: i32 = 0;
 
-fn main(rt: HostRuntime) -> std::io::Result<()> {
+// Lays the program out. Where text cannot be written it is left out, and the status is 0 all the same.
+fn main(rt: HostRuntime) {
+    let _ = layout(&rt);
+}
+
+fn layout(rt: &impl Print) -> std::io::Result<()> {
     let mut how = [0u8; 2];
     io::read_full(STDIN, &mut how);
     let [first, way] = how;

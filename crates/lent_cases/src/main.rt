@@ -7,13 +7,18 @@ ghost use Rattle.std.specs.Prelude.{◌≤◌};
 use mapping::{Batch, Mapping, lent};
 use std::io::Result;
 
-fn main(rt: HostRuntime) -> Result<()> {
+// Runs the cases. Where text cannot be written the rest is left out, and the status is 0 all the same.
+fn main(rt: HostRuntime) {
+    let _ = cases(&rt);
+}
+
+fn cases(rt: &impl Print) -> Result<()> {
     let records = four();
-    lookups(&rt, &records)?;
-    places(&rt, &records)?;
-    shown(&rt, lent::batch(&records))?;
-    laid(&rt, &records, 4)?;
-    laid(&rt, &records, 3)
+    lookups(rt, &records)?;
+    places(rt, &records)?;
+    shown(rt, lent::batch(&records))?;
+    laid(rt, &records, 4)?;
+    laid(rt, &records, 3)
 }
 
 // Records in no order, of which the first and the third are of one page.
