@@ -25,7 +25,7 @@ instruction_cells_hold = (refl, (refl, (refl, (refl, (refl, (refl, (refl, (refl,
 
 pub any_colour : AnyColour
 any_colour c =
-    (λ own. (λ state. refl, λ state. refl), (λ own. (λ state. refl, λ state. refl), λ own. (λ state. refl, λ state. refl)))
+    (λ own. (λ state. refl, λ state. refl), λ own. (λ state. refl, λ state. refl), λ own. (λ state. refl, λ state. refl))
 
 -- the rows of two lists
 both_hold : (xs ys : List Row) → EveryRowHolds xs → EveryRowHolds ys → EveryRowHolds (xs ++ ys)

@@ -1,7 +1,7 @@
 -- Document 01, "The page model": both tables, request N3's row, request N6's two and request N8's, with request N9's states after a flush, and N8's
 -- table of the instruction colours, cell by cell in their order, as rows. Each speaks of the code's step and of the cell that the contracts of
 -- `page_model::table::Step::cell` and `instruction_cell` name, and so of the code too.
-use Rattle.std.specs.Prelude.{Bool, true, false, List, [], ◌∷◌, ◌++◌, ◌≡◌, ◌×◌, ℕ}
+use Rattle.std.specs.Prelude.{Bool, true, false, List, [], ◌∷◌, ◌++◌, ◌≡◌, ℕ}
 use Rattle.page_model.specs.declared.table.Step.{Step}
 use Rattle.page_model.specs.declared.table.Step.TheVariants.{Read, Write, DeviceRead, DeviceWrite, DeviceWritePart, BeginRead, BeginWrite, Fetch}
 use Rattle.page_model.specs.Cases.{step_of, row_of, instruction_row_of, state_number, operation_number, instruction_number}
