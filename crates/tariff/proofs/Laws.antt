@@ -1,43 +1,20 @@
 -- Laws of charges and accounts.
 use mathlib.Core.Path.{◌≡◌, refl, sym, ap, ◌∙◌}
 use mathlib.Core.Bool.{Bool, true, false, ◌&&◌}
-use mathlib.Core.List.{List, [], ◌∷◌}
+use mathlib.Core.List.{List}
 use mathlib.Core.Logic.{◌≢◌}
 use Prim.Native.Nat.{ℕ, zero, suc, ◌+◌, ◌≤◌, ◌<◌}
 use native.Mathlib.Omega.{arith}
 use borrow.Author.Tests.{lt-ltb, le-ltb, ltb-false}
 use lib.Dec.{ltb}
-use lib.ListN.{length, get_or, length-set}
+use lib.ListN.{length, length-set}
 use lib.Seq.{get_or-set_same, get_or-set_other}
 use Rattle.tariff.specs.declared.ChargeKind.{ChargeKind}
 use Rattle.tariff.specs.declared.ChargeKind.TheVariants.{Read, Write, Fetch, DeviceRead, DeviceWrite}
 use Rattle.tariff.specs.Accounts.{limit, balance, overdrawn, charged}
-use Rattle.tariff.specs.Tariff.{OrderSet, none, flush, purge, both, tariff, kind_number, set_number}
+use Rattle.tariff.specs.Tariff.{OrderSet, none, flush, purge, both, tariff}
 
 -- ---- the table
-
--- a row of the code's table is that of the tariff
-abbrev row : ChargeKind → List ℕ
-row kind = tariff kind none ∷ tariff kind flush ∷ tariff kind purge ∷ tariff kind both ∷ []
-
-pub row_cell : (kind : ChargeKind) (s : OrderSet) → get_or (row kind) (set_number s) 0 ≡ tariff kind s
-row_cell kind none = refl
-row_cell kind flush = refl
-row_cell kind purge = refl
-row_cell kind both = refl
-
-abbrev rows : List (List ℕ)
-rows = row Read ∷ row Write ∷ row Fetch ∷ row DeviceRead ∷ row DeviceWrite ∷ []
-
-kind_row : (kind : ChargeKind) → get_or rows (kind_number kind) [] ≡ row kind
-kind_row Read = refl
-kind_row Write = refl
-kind_row Fetch = refl
-kind_row DeviceRead = refl
-kind_row DeviceWrite = refl
-
-pub cell : (kind : ChargeKind) (s : OrderSet) → get_or (get_or rows (kind_number kind) []) (set_number s) 0 ≡ tariff kind s
-cell kind s = ap (λ (l : List ℕ). get_or l (set_number s) 0) (kind_row kind) ∙ row_cell kind s
 
 -- the dearest step is a fetch with both
 pub dearest : (kind : ChargeKind) (s : OrderSet) → tariff kind s ≤ 2420

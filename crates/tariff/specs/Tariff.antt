@@ -1,5 +1,5 @@
 -- Request N11's table: what a step costs, in whole cycles, by its cause and by which orders it has.
-use Rattle.std.specs.Prelude.{Bool, true, false, ◌||◌, ℕ}
+use Rattle.std.specs.Prelude.{Bool, true, false, ◌||◌, List, [], ◌∷◌, ℕ}
 use Rattle.page_model.specs.declared.Op.{Op}
 use Rattle.page_model.specs.declared.Op.TheVariants.{None, Flush, Purge, PurgeInstructions}
 use Rattle.page_model.specs.declared.Ops.{Ops}
@@ -61,17 +61,7 @@ order_set ops = set_of (is_flush ops.first || is_flush ops.second) (is_purge ops
 unfoldable pub charge : ChargeKind → Ops → ℕ
 charge kind ops = tariff kind (order_set ops)
 
--- ---- rows and columns of the code's table, counted from 0
+-- ---- a row of the code's table, in the order of its columns
 
-abbrev pub kind_number : ChargeKind → ℕ
-kind_number Read = 0
-kind_number Write = 1
-kind_number Fetch = 2
-kind_number DeviceRead = 3
-kind_number DeviceWrite = 4
-
-abbrev pub set_number : OrderSet → ℕ
-set_number none = 0
-set_number flush = 1
-set_number purge = 2
-set_number both = 3
+abbrev pub rates : ChargeKind → List ℕ
+rates kind = tariff kind none ∷ tariff kind flush ∷ tariff kind purge ∷ tariff kind both ∷ []

@@ -3,7 +3,7 @@
 
 ghost use Rattle.std.specs.Prelude.{◌≡◌, false, ◌||◌, ◌<◌, length};
 ghost use Rattle.tariff.specs.Accounts.{balance, overdrawn, charged};
-ghost use Rattle.tariff.specs.Tariff.{is_flush, is_purge, charge, kind_number};
+ghost use Rattle.tariff.specs.Tariff.{is_flush, is_purge, charge, rates};
 
 use page_model::{Op, Ops};
 
@@ -25,15 +25,6 @@ pub const TRANSFER_ACCOUNT: usize = 16;
 // The most that a charge may bring an account to.
 const LIMIT: u64 = 4_000_000_000;
 
-// Cycles, by the kind of charge and by the orders: none, a flush, a purge, both.
-const TARIFF: [[u32; 4]; 5] = [
-    [0, 1910, 1590, 2210],
-    [0, 1970, 1650, 2270],
-    [0, 2120, 1800, 2420],
-    [0, 930, 0, 0],
-    [0, 920, 600, 0],
-];
-
 // Whether an account has no room for what a step with these orders costs; one that is not there holds 0.
 pub fn lacks_room(accounts: &[u32], account: usize, kind: ChargeKind, ops: Ops) -> bool
     ensures { result ≡ overdrawn (balance accounts.now account) (charge kind ops) }
@@ -52,11 +43,11 @@ pub fn pay(accounts: &mut [u32], account: usize, kind: ChargeKind, ops: Ops)
 }
 
 // What a step with these orders costs.
-#[tactic(auto, using(crate::proofs::Laws::cell), unfolding(crate::specs::Tariff::charge))]
+#[tactic(auto, unfolding(crate::specs::Tariff::charge))]
 fn charge(kind: ChargeKind, ops: Ops) -> u32
     ensures { result ≡ charge kind ops }
 {
-    let [none, flush, purge, both] = TARIFF[row_of(kind)];
+    let [none, flush, purge, both] = rates(kind);
     match (has_flush(ops), has_purge(ops)) {
         (false, false) => none,
         (true, false) => flush,
@@ -65,11 +56,17 @@ fn charge(kind: ChargeKind, ops: Ops) -> u32
     }
 }
 
-// The row of a kind of charge.
-fn row_of(kind: ChargeKind) -> usize
-    ensures { result ≡ kind_number kind }
+// The cycles of a kind of charge, by the orders: none, a flush, a purge, both.
+fn rates(kind: ChargeKind) -> [u32; 4]
+    ensures { result ≡ rates kind }
 {
-    kind as usize
+    match kind {
+        ChargeKind::Read => [0, 1910, 1590, 2210],
+        ChargeKind::Write => [0, 1970, 1650, 2270],
+        ChargeKind::Fetch => [0, 2120, 1800, 2420],
+        ChargeKind::DeviceRead => [0, 930, 0, 0],
+        ChargeKind::DeviceWrite => [0, 920, 600, 0],
+    }
 }
 
 // Whether there is a flush among some orders.
