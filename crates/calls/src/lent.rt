@@ -143,7 +143,12 @@ impl Content {
         T::Error: Drop,
     {
         match self {
-            Content::Same(value) => places.fill(fitted(value)?),
+            Content::Same(value) => {
+                let value = fitted(value)?;
+                for place in places {
+                    *place = value;
+                }
+            }
             Content::Counted(first) => {
                 let mut n = first;
                 for place in places {
