@@ -2,7 +2,7 @@
 use mathlib.Core.Path.{◌∙◌}
 use Rattle.manager.proofs.CauseLaws.{some_number}
 use Rattle.machine.proofs.MergeLaws.{earlier_by}
-use Rattle.machine.proofs.RefusalOrder.{refusals_in_order}
+use Rattle.manager.proofs.RefusalOrder.{refusals_in_order}
 use Rattle.machine.proofs.plans.first.Goals as goal
 
 pub returns-then-le : goal.returns-then-le
