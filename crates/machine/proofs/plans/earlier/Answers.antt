@@ -17,15 +17,15 @@ number_of : (t : Bool) (r s : Refusal) → refusal_number (cond t s r) ≡ cond 
 number_of true r s = refl
 number_of false r s = refl
 
-lesser : (r s : Refusal) → refusal_number (ord_min cmp-value.it r s) ≡ earlier (refusal_number r) (refusal_number s)
-lesser r s = number_of (is_lt (cmp-value.it s r)) r s ∙ earlier_by _ _ (some_number r) (some_number s) (refusals_in_order r s)
+lesser : (r s : Refusal) {least : Refusal} → least ≡ ord_min cmp-value.it r s → refusal_number least ≡ earlier (refusal_number r) (refusal_number s)
+lesser r s e = ap refusal_number e ∙ number_of (is_lt (cmp-value.it s r)) r s ∙ earlier_by _ _ (some_number r) (some_number s) (refusals_in_order r s)
 
 pub returns-in-Err-Err-clause-plan : goal.returns-in-Err-Err-clause-plan
 unfolding with_own
-returns-in-Err-Err-clause-plan g c = rw (c.in-Err-Err.is-0, c.in-Err-Err.is-1) (ap Err (ap refusal_number c.min.ensures ∙ lesser _ _))
+returns-in-Err-Err-clause-plan g c = rw (c.in-Err-Err.is-0, c.in-Err-Err.is-1) (ap Err (lesser c.in-Err-Err.own c.in-Err-Err.managers search))
 
 pub returns-in-Err-Err-clause-refusal : goal.returns-in-Err-Err-clause-refusal
-returns-in-Err-Err-clause-refusal g c = rw (c.in-Err-Err.is-0, c.in-Err-Err.is-1) (ap refusal_number c.min.ensures ∙ lesser _ _)
+returns-in-Err-Err-clause-refusal g c = rw (c.in-Err-Err.is-0, c.in-Err-Err.is-1) (lesser c.in-Err-Err.own c.in-Err-Err.managers search)
 
 pub returns-in-Err-Ok-clause-plan : goal.returns-in-Err-Ok-clause-plan
 returns-in-Err-Ok-clause-plan g c = rw (c.in-Err-Ok.is-0, c.in-Err-Ok.is-1) (with_own_refused _ _ (some_number c.in-Err-Ok.own))
