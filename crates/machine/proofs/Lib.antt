@@ -2,7 +2,6 @@
 pub mod StoreLaws
 pub mod MergeLaws
 pub mod PlanLaws
-pub mod RefusalOrder
 pub mod StepLaws
 pub mod Opened
 pub mod CallLaws

@@ -1,5 +1,5 @@
 // The machine: memory and cache as the hardware has them. Each call asks the manager, carries out its operations, then makes the access. Here are the calls that change the list.
-#![tactic(auto)]
+#![tactic(auto, using(board::proofs::Geometry::board01_regular))]
 
 mod accesses;
 mod operations;

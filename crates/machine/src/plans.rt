@@ -1,7 +1,7 @@
 // What a call would do, found before anything changes: the machine's own refusal and the manager's plan or refusal are found apart, and of two refusals the one that is tested earlier is given.
 ghost use Rattle.std.specs.Prelude.{◌≡◌, true, nat_eq, length};
 ghost use Rattle.board.specs.Board.{Regular};
-ghost use Rattle.manager.specs.Answers.{refusal_number, refusal_in, by_number};
+ghost use Rattle.manager.specs.Answers.{refusal_in, by_number};
 ghost use Rattle.manager.specs.Refusals.{first_refusal};
 ghost use Rattle.cache.specs.Store.{store};
 ghost use Rattle.machine.specs.Scaffold.Plans.{store_causes, access_causes, earlier, with_own};
@@ -80,15 +80,8 @@ pub fn earlier<T: Copy>(
     ensures refusal { refusal_in result ≡ earlier (refusal_in own) (refusal_in managers) }
 {
     match (own, managers) {
-        (Err(own), Err(managers)) => Err(first(own, managers)),
+        (Err(own), Err(managers)) => Err(own.min(managers)),
         (Err(own), Ok(_)) => Err(own),
         (Ok(()), _) => managers,
     }
-}
-
-// Of two refusals the one that is tested first.
-fn first(own: Refusal, managers: Refusal) -> Refusal
-    ensures { refusal_number result ≡ earlier (refusal_number own) (refusal_number managers) }
-{
-    if own <= managers { own } else { managers }
 }

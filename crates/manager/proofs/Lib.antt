@@ -11,5 +11,6 @@ pub mod AcceptedLaws
 pub mod KeepsRules
 pub mod Passing
 pub mod FirstRefusal
+pub mod RefusalOrder
 pub mod ProtectionBuffer
 pub mod Theorems

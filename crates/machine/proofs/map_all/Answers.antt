@@ -25,12 +25,6 @@ told : (c : goal.After-map_batch-arg-2-1) → let st = (let a = c.args in machin
 told c =
     lent_refused board01 ((let a = c.args in machine_of a.list a.records.now a.protections.now a.memory.now a.words.now a.tags.now)) (items_length c.args.list _ c.well_formed.0) c.keeps_rules-kept.ensures c.earlier-lent.ensures.refusal c.store_refusal-own.ensures c.tables_refusal-managers.ensures
 
-pub store_refusal-own-requires : goal.store_refusal-own-requires
-store_refusal-own-requires c = board01_regular
-
-pub tables_refusal-managers-requires : goal.tables_refusal-managers-requires
-tables_refusal-managers-requires c = board01_regular
-
 pub map_batch-requires : goal.map_batch-requires
 map_batch-requires c =
     let a = c.args in

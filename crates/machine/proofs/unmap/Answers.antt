@@ -1,19 +1,12 @@
 -- `machine::unmap` meets its contract.
 use mathlib.Core.Path.{refl, sym}
 use Rattle.board.specs.Board.{board01}
-use Rattle.board.proofs.Geometry.{board01_regular}
 use Rattle.manager.specs.Calls.{commit_unmap}
 use Rattle.manager.specs.Tables.{tables}
 use Rattle.machine.specs.State.{machine_of, unmap}
 use Rattle.machine.proofs.PlanLaws.{unmap_planned}
 use Rattle.machine.proofs.StepLaws.{plan_refused, listed_refused, placed_made}
 use Rattle.machine.proofs.unmap.Goals as goal
-
-pub store_refusal-own-requires : goal.store_refusal-own-requires
-store_refusal-own-requires c = board01_regular
-
-pub plan_unmap-managers-requires : goal.plan_unmap-managers-requires
-plan_unmap-managers-requires c = board01_regular
 
 pub returns-in_err-place : goal.returns-in_err-place
 returns-in_err-place c =

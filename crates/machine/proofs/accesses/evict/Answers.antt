@@ -14,15 +14,6 @@ use Rattle.machine.proofs.PlanLaws.{evict_refused}
 use Rattle.machine.proofs.StepLaws.{call_refused, evict_ready, plain_made}
 use Rattle.machine.proofs.accesses.evict.Goals as goal
 
-pub lines-requires : goal.lines-requires
-lines-requires c = board01_regular
-
-pub access_refusal-own-requires : goal.access_refusal-own-requires
-access_refusal-own-requires c = board01_regular
-
-pub tables_refusal-managers-requires : goal.tables_refusal-managers-requires
-tables_refusal-managers-requires c = board01_regular
-
 pub returns-in_err-earlier : goal.returns-in_err-earlier
 returns-in_err-earlier c =
     let a = c.args in

@@ -54,12 +54,6 @@ managers : (l : MappingList) (rs ps : List ℕ) (space page : ℕ) {kind other :
     → plan ≡ plan_access board01 (tables l rs ps) space page kind → plan ≡ plan_access board01 (tables l rs ps) space page other
 managers l rs ps space page e told = told ∙ ap (plan_access board01 (tables l rs ps) space page) e
 
-pub access_refusal-own-requires : goal.access_refusal-own-requires
-access_refusal-own-requires c = board01_regular
-
-pub plan_access-managers-requires : goal.plan_access-managers-requires
-plan_access-managers-requires c = board01_regular
-
 pub returns-in_err-change : goal.returns-in_err-change
 returns-in_err-change c =
     let a = c.args in
@@ -68,9 +62,6 @@ returns-in_err-change c =
     (plan_refused board01 _ call _ _ (load_planned board01 _ a.cache a.space a.page a.offset c.in_err-change.ensures.plan c.access_refusal-own.ensures
     (managers a.list _ _ a.space a.page c.access-kind.ensures (c.plan_access-managers.ensures a.list (items_length a.list _ c.well_formed.0) c.look-looked.ensures))))
     c.from_residual.ensures.1
-
-pub colour_of-requires : goal.colour_of-requires
-colour_of-requires c = board01_regular
 
 pub load-word-requires : goal.load-word-requires
 load-word-requires c =

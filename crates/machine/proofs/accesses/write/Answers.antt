@@ -12,12 +12,6 @@ use Rattle.machine.proofs.PlanLaws.{write_planned}
 use Rattle.machine.proofs.StepLaws.{access_requires, plan_refused, call_refused, access_made}
 use Rattle.machine.proofs.accesses.write.Goals as goal
 
-pub access_refusal-own-requires : goal.access_refusal-own-requires
-access_refusal-own-requires c = board01_regular
-
-pub plan_access-managers-requires : goal.plan_access-managers-requires
-plan_access-managers-requires c = board01_regular
-
 pub returns-in_err-change : goal.returns-in_err-change
 returns-in_err-change c =
     let a = c.args in
@@ -26,9 +20,6 @@ returns-in_err-change c =
     (plan_refused board01 _ call _ _ (write_planned board01 _ a.space a.page a.offset a.word c.in_err-change.ensures.plan c.access_refusal-own.ensures
     (c.plan_access-managers.ensures a.list (items_length a.list _ c.well_formed.0) c.look-looked.ensures)))
     c.from_residual.ensures.1
-
-pub colour_of-colour-requires : goal.colour_of-colour-requires
-colour_of-colour-requires c = board01_regular
 
 pub put-requires : goal.put-requires
 unfolding causes

@@ -37,9 +37,6 @@ unlent : (frame : ℕ) (writes : Bool) → lent_buffer (begins writes frame) ≡
 unlent frame true = refl
 unlent frame false = refl
 
-pub store_refusal-own-requires : goal.store_refusal-own-requires
-store_refusal-own-requires c = board01_regular
-
 pub plan_transfer-managers-requires : goal.plan_transfer-managers-requires
 plan_transfer-managers-requires c =
     (board01_regular, elim c.if-writes.branch [ then-writes w ↦ subst⁻¹ (λ (s : code.Step). reach (step_of s) ≤ 8) w.step-is (omega arith) | else-writes w ↦ subst⁻¹ (λ (s : code.Step). reach (step_of s) ≤ 8) w.step-is (omega arith) ])

@@ -15,12 +15,6 @@ use Rattle.machine.proofs.PlanLaws.{bring_refused}
 use Rattle.machine.proofs.StepLaws.{call_refused, cleared, store_clear, plain_made}
 use Rattle.machine.proofs.transfers.bring_word.Goals as goal
 
-pub store_refusal-own-requires : goal.store_refusal-own-requires
-store_refusal-own-requires c = board01_regular
-
-pub word_refusal-managers-requires : goal.word_refusal-managers-requires
-word_refusal-managers-requires c = board01_regular
-
 pub returns-in_err-earlier : goal.returns-in_err-earlier
 returns-in_err-earlier c =
     let a = c.args in

@@ -11,9 +11,6 @@ use Rattle.machine.proofs.PlanLaws.{device_read_planned}
 use Rattle.machine.proofs.StepLaws.{transfer_requires, plan_refused, transfer_refused, stepped_made}
 use Rattle.machine.proofs.transfers.device_read.Goals as goal
 
-pub transfer_refusal-own-requires : goal.transfer_refusal-own-requires
-transfer_refusal-own-requires c = board01_regular
-
 pub plan_transfer-managers-requires : goal.plan_transfer-managers-requires
 plan_transfer-managers-requires c = (board01_regular, omega arith)
 

@@ -11,12 +11,6 @@ use Rattle.machine.proofs.PlanLaws.{part_planned}
 use Rattle.machine.proofs.StepLaws.{part_requires, plan_refused, call_refused, stepped_made}
 use Rattle.machine.proofs.transfers.device_write_part.Goals as goal
 
-pub transfer_refusal-own-requires : goal.transfer_refusal-own-requires
-transfer_refusal-own-requires c = board01_regular
-
-pub plan_device_write_part-managers-requires : goal.plan_device_write_part-managers-requires
-plan_device_write_part-managers-requires c = board01_regular
-
 pub returns-in_err-change : goal.returns-in_err-change
 returns-in_err-change c =
     let a = c.args in

@@ -1,7 +1,6 @@
 -- `machine::end_transfer` meets its contract.
 use mathlib.Core.Path.{refl, sym, ap, ◌∙◌}
 use Rattle.board.specs.Board.{board01}
-use Rattle.board.proofs.Geometry.{board01_regular}
 use Rattle.page_model.specs.Record.{freed}
 use Rattle.mapping.proofs.Laws.{items_length}
 use Rattle.manager.specs.declared.FrameOps.{FrameOps}
@@ -12,12 +11,6 @@ use Rattle.machine.specs.State.{machine_of, end_transfer}
 use Rattle.machine.proofs.PlanLaws.{end_refused}
 use Rattle.machine.proofs.StepLaws.{call_refused, plain_made}
 use Rattle.machine.proofs.transfers.end_transfer.Goals as goal
-
-pub store_refusal-own-requires : goal.store_refusal-own-requires
-store_refusal-own-requires c = board01_regular
-
-pub end_refusal-managers-requires : goal.end_refusal-managers-requires
-end_refusal-managers-requires c = board01_regular
 
 pub returns-in_err-earlier : goal.returns-in_err-earlier
 returns-in_err-earlier c =

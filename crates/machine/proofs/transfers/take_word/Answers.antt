@@ -16,12 +16,6 @@ use Rattle.machine.proofs.PlanLaws.{take_refused}
 use Rattle.machine.proofs.StepLaws.{loaded_refused, cleared, store_clear, plain_made}
 use Rattle.machine.proofs.transfers.take_word.Goals as goal
 
-pub store_refusal-own-requires : goal.store_refusal-own-requires
-store_refusal-own-requires c = board01_regular
-
-pub word_refusal-managers-requires : goal.word_refusal-managers-requires
-word_refusal-managers-requires c = board01_regular
-
 pub returns-in_err-earlier : goal.returns-in_err-earlier
 returns-in_err-earlier c =
     let a = c.args in

@@ -6,12 +6,12 @@ use Prim.Native.Nat.{ℕ, ◌<◌}
 use native.Mathlib.Omega.{arith}
 use lib.Dec.{leb}
 use lib.ListN.{get_or}
-use Rattle.std.specs.Ordering.{partial_le}
+use Rattle.std.specs.Ordering.{is_lt}
 use Rattle.bits.specs.Mask.{all}
 use Rattle.bits.proofs.Mask.{all_at}
 use Rattle.manager.specs.declared.refusal.Refusal.{Refusal}
 use Rattle.manager.specs.declared.refusal.Refusal.TheVariants.{WrongLength, WrongBatch, BrokenRules, NoSuchPage, NoSuchFrame, NoSuchRights, NoSuchOffset, NoSuchPart, AlreadyMapped, NotMapped, ListFull, NotWritable, NotFetchable, Busy, NoTransfer}
-use Rattle.manager.specs.contracts.refusal.RefusalPartialOrd.TheImpl.{partial_cmp-value}
+use Rattle.manager.specs.contracts.refusal.RefusalOrd.TheImpl.{cmp-value}
 use Rattle.manager.specs.Answers.{refusal_number}
 use Rattle.manager.specs.Refusals.{refusal_place}
 
@@ -56,7 +56,7 @@ agreed false true e = e
 agreed false false e = refl
 
 abbrev by_code : Refusal → Refusal → Bool
-by_code r s = partial_le partial_cmp-value.it r s
+by_code r s = not (is_lt (cmp-value.it s r))
 
 abbrev by_place : Refusal → Refusal → Bool
 by_place r s = leb (refusal_place (refusal_number r)) (refusal_place (refusal_number s))
