@@ -137,12 +137,6 @@ module _ (line : ℕ → Single → Answer → List ℕ) (call_at : ℕ → Sing
       ∙ ap from (sym (add-one i)))
       (ran_both x y)
 
-  pub ran_counted : (st : State) {i n : ℕ} {l m : List ℕ} {at k f p : ℕ} {now : State} → i ≡ n
-      → Ran (advance_all board01 line call_at i (run_from st)) i l at now m k f p
-      → Ran (advance_all board01 line call_at n (run_from st)) n l at now m k f p
-  ran_counted st {l = l} {m = m} {at = at} {k = k} {f = f} {p = p} {now = now} e x =
-      subst (λ (n : ℕ). Ran (advance_all board01 line call_at n (run_from st)) n l at now m k f p) e x
-
   -- all calls from where a run ended
   pub ran_all : {r : Run} {j i : ℕ} {l m n : List ℕ} {at k end f g p q : ℕ} {now next : State}
       → Ran r j l at now m k f p
