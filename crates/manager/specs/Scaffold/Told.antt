@@ -1,5 +1,5 @@
 -- The causes of refusal as the code tests them, by what one look at the list told: where that was a look at this list, they are those of `Refusals`
--- (`told_tables_lem`, `told_found`).
+-- (`told_tables_lem`, `looked_found`).
 use Rattle.std.specs.Prelude.{Bool, not, ◌&&◌, List, [], ◌∷◌, ℕ, ◌*◌, eqb, length, is_some}
 use Rattle.board.specs.declared.Board.{Board}
 use Rattle.mapping.specs.declared.Seen.{Seen}
