@@ -11,10 +11,11 @@ mod slips;
 mod state;
 mod tell;
 
-ghost use Rattle.io.specs.Counts.{IsPrefixLen};
+ghost use Rattle.std.specs.Io.{ReadsAtMost};
 
 use commands::{Call, Command, Subject};
 use numbers::{Args, Numbers};
+use printing::BestEffort;
 use slips::{Slip, Stop};
 use state::State;
 use std::env::FillError;
@@ -22,16 +23,19 @@ use std::fs::File;
 use std::os::fd::AsRawFd;
 use std::rt::Env;
 
-// Runs the scripts that the arguments name, each from the start. Where text cannot be written the rest is left out, and the status is 0 all the same.
+// What the program is given: standard output, on which it goes on where a text cannot be written, and the files.
+type Host<'a> = BestEffort<&'a HostRuntime>;
+
+// Runs the scripts that the arguments name, each from the start, also where text cannot be written; the status is 0.
 fn main(rt: HostRuntime) {
-    let _ = scripts(&rt);
+    let _ = scripts(&BestEffort(&rt));
 }
 
 // Runs the scripts one after the other. An argument that does not fit is taken for an empty name.
-fn scripts(rt: &HostRuntime) -> std::io::Result<()> {
+fn scripts(rt: &Host) -> std::io::Result<()> {
     for i in 1..usize::MAX {
         let mut name = io::buffer();
-        let n = match rt.arg(i, &mut name) {
+        let n = match rt.0.arg(i, &mut name) {
             Ok(n) => n,
             Err(FillError::TooLong) => 0,
             Err(FillError::NotPresent) => break,
@@ -42,11 +46,11 @@ fn scripts(rt: &HostRuntime) -> std::io::Result<()> {
 }
 
 // Runs a script from the start, and says so where there is none. What ends it before its last line is told there.
-fn script(rt: &HostRuntime, name: &[u8]) -> std::io::Result<()> {
+fn script(rt: &Host, name: &[u8]) -> std::io::Result<()> {
     written(rt, name)?;
     let mut text = io::large_buffer();
     match read(rt, name, &mut text) {
-        Ok(text) => match lines(rt, name, text, &mut State::start(), outer) {
+        Ok(n) => match lines(rt, name, &text[..n], &mut State::start(), outer) {
             Err(Stop::Output(error)) => Err(error),
             _ => Ok(()),
         },
@@ -54,10 +58,12 @@ fn script(rt: &HostRuntime, name: &[u8]) -> std::io::Result<()> {
     }
 }
 
-// Reads a script, which has fewer bytes than the buffer takes.
-fn read<'a>(rt: &HostRuntime, name: &[u8], text: &'a mut [u8]) -> Result<&'a [u8], Slip> {
+// Reads a script, which has fewer bytes than the buffer takes, and answers how many it has.
+fn read(rt: &Host, name: &[u8], text: &mut [u8]) -> Result<usize, Slip>
+    ensures { ReadsAtMost result text.new }
+{
     let path = str::from_utf8(name).map_err(|_| Slip::NoScript)?;
-    let file = File::open(rt, path).map_err(|_| Slip::NoScript)?;
+    let file = File::open(rt.0, path).map_err(|_| Slip::NoScript)?;
     let n = io::read_full(file.as_raw_fd(), text);
     if n == text.len() {
         return Err(Slip::TooLong);
@@ -65,21 +71,15 @@ fn read<'a>(rt: &HostRuntime, name: &[u8], text: &'a mut [u8]) -> Result<&'a [u8
     if n == 0 {
         return Err(Slip::NoScript);
     }
-    Ok(&text[..n])
+    Ok(n)
 }
 
 // ---- lines
 
 // Carries out the lines of a script up to its end, or to one that has a slip, which is told.
-fn lines<F>(
-    rt: &HostRuntime,
-    name: &[u8],
-    text: &[u8],
-    s: &mut State,
-    carry_out: F,
-) -> Result<(), Stop>
+fn lines<F>(rt: &Host, name: &[u8], text: &[u8], s: &mut State, carry_out: F) -> Result<(), Stop>
 where
-    F: Fn(&HostRuntime, &[u8], &mut State) -> Result<(), Stop>,
+    F: Fn(&Host, &[u8], &mut State) -> Result<(), Stop>,
     requires { F.IsAlwaysCallable carry_out }
 {
     for (line, number) in text.split(|b| *b == b'\n').zip(1u64..) {
@@ -107,7 +107,7 @@ fn written(rt: &impl Print, line: &[u8]) -> std::io::Result<()> {
 }
 
 // Carries out a line that may call a script by `do NAME NUMBER..`. The line is written, and its numbers stand for `$1` and so on in that script.
-fn outer(rt: &HostRuntime, text: &[u8], s: &mut State) -> Result<(), Stop> {
+fn outer(rt: &Host, text: &[u8], s: &mut State) -> Result<(), Stop> {
     let Some(call) = text.strip_prefix(b"do ") else {
         return line(rt, text, s);
     };
@@ -115,13 +115,14 @@ fn outer(rt: &HostRuntime, text: &[u8], s: &mut State) -> Result<(), Stop> {
     let (name, numbers) = numbers::first_word(call);
     s.called = Args::new(numbers, &[]).all()?;
     let mut text = io::large_buffer();
-    lines(rt, name, read(rt, name, &mut text)?, s, line)?;
+    let n = read(rt, name, &mut text)?;
+    lines(rt, name, &text[..n], s, line)?;
     s.called = Numbers::none();
     Ok(())
 }
 
 // Carries out a line. One that starts with `#` is for the reader, and one with a quote is written as it stands.
-fn line(rt: &HostRuntime, text: &[u8], s: &mut State) -> Result<(), Stop> {
+fn line(rt: &Host, text: &[u8], s: &mut State) -> Result<(), Stop> {
     match text.first() {
         None | Some(b'#') => return Ok(()),
         Some(b'"') => return Ok(written(rt, text)?),
@@ -144,7 +145,7 @@ fn line(rt: &HostRuntime, text: &[u8], s: &mut State) -> Result<(), Stop> {
 }
 
 // Makes a call, and tells its answer and what it changed.
-fn made(rt: &HostRuntime, call: Call, s: &mut State) -> std::io::Result<()> {
+fn made(rt: &Host, call: Call, s: &mut State) -> std::io::Result<()> {
     let list = s.list;
     let lent = s.lent;
     match s.subject {

@@ -5,11 +5,12 @@
 ghost use Rattle.std.specs.Prelude.{◌≤◌};
 
 use mapping::{Batch, Mapping, lent};
+use printing::BestEffort;
 use std::io::Result;
 
-// Runs the cases. Where text cannot be written the rest is left out, and the status is 0 all the same.
+// Runs the cases, all of them also where text cannot be written; the status is 0.
 fn main(rt: HostRuntime) {
-    let _ = cases(&rt);
+    let _ = cases(&BestEffort(&rt));
 }
 
 fn cases(rt: &impl Print) -> Result<()> {
