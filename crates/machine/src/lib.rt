@@ -76,7 +76,15 @@ pub fn map_all(
     let kept = mapping::keeps_rules(BOARD01, list);
     let managers = manager::refusals::tables_refusal(BOARD01, kept, records, protections);
     let lent = plans::earlier(own, managers);
-    manager::batch::map_batch(BOARD01, list, records, protections, batch, answers, lent)
+    manager::batch::map_batch(
+        BOARD01,
+        list,
+        records,
+        protections,
+        batch,
+        answers,
+        manager::number_in(lent),
+    )
 }
 
 // Takes the mapping of a page of a space off the list.

@@ -31,19 +31,26 @@ abbrev pub refusal_in : {A : Type 0} → Result A Refusal → ℕ
 refusal_in (Ok x) = 0
 refusal_in (Err r) = refusal_number r
 
--- what is planned, or the refusal by its number
+-- what is planned, or the refusal by the number that it stands for
+abbrev pub numbered_by : {A E : Type 0} → (E → ℕ) → Result A E → Result A ℕ
+numbered_by number (Ok x) = Ok x
+numbered_by number (Err r) = Err (number r)
+
 abbrev pub by_number : {A : Type 0} → Result A Refusal → Result A ℕ
-by_number (Ok x) = Ok x
-by_number (Err r) = Err (refusal_number r)
+by_number = numbered_by refusal_number
 
 -- A refusal is never an acceptance, whatever its number. An accepted call names the frame of its operations, and 0 where it has none by its kind.
 pub data Outcome : Type 0 where
   refused : ℕ → Outcome
   accepted : ℕ → Ops → Outcome
 
+-- operations, or a refusal that stands for a number
+abbrev pub outcome_by : {E : Type 0} → (E → ℕ) → Result FrameOps E → Outcome
+outcome_by number (Ok o) = accepted o.frame o.ops
+outcome_by number (Err r) = refused (number r)
+
 abbrev pub outcome : Result FrameOps Refusal → Outcome
-outcome (Ok o) = accepted o.frame o.ops
-outcome (Err r) = refused (refusal_number r)
+outcome = outcome_by refusal_number
 
 abbrev pub is_refusal : Outcome → Bool
 is_refusal (refused n) = true

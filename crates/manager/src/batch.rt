@@ -15,7 +15,7 @@ use super::refusals::mapping_refusal;
 use board::Board;
 use mapping::{Batch, MappingList};
 
-// Maps the items in turn, where `lent` says whether what is lent is refused. Each item's answer is 0, or the number of its refusal.
+// Maps the items in turn, where `lent` is the number of the refusal in what is lent, or 0. Each item's answer is 0, or the number of its refusal.
 pub fn map_batch(
     board: Board,
     list: MappingList,
@@ -23,15 +23,15 @@ pub fn map_batch(
     protections: &mut [u8],
     batch: Batch,
     answers: &mut [u8],
-    lent: Result<(), Refusal>,
+    lent: u8,
 ) -> Result<MappingList, Refusal>
-    requires { Regular board × (refusal_in lent ≡ 0 → keeps_rules board list ≡ true) }
+    requires { Regular board × (lent ≡ 0 → keeps_rules board list ≡ true) }
     ensures { batch_result (list_outcome result) answers.new (tables (list_left list result) records.now protections.new)
-        ≡ batch_made board (refusal_in lent) (tables list records.now protections.old) (items_of batch) answers.old }
+        ≡ batch_made board lent (tables list records.now protections.old) (items_of batch) answers.old }
 {
     whole_refusal(lent, batch.count, answers.len())?;
-    if let Err(refusal) = lent {
-        answers.fill(refusal.number());
+    if lent != 0 {
+        answers.fill(lent);
         return Ok(list);
     }
     let next = insert_all(board, list, batch, answers);
@@ -43,22 +43,16 @@ pub fn map_batch(
 
 // The refusal of the whole.
 #[tactic(auto, unfolding(crate::specs::Refusals::first_refusal, crate::specs::Scaffold::Inserted::whole_refusal))]
-fn whole_refusal(lent: Result<(), Refusal>, items: usize, answers: usize) -> Result<(), Refusal>
-    ensures { refusal_in result ≡ whole_refusal (refusal_in lent) items answers }
+fn whole_refusal(lent: u8, items: usize, answers: usize) -> Result<(), Refusal>
+    ensures { refusal_in result ≡ whole_refusal lent items answers }
 {
-    if is_wrong_length(lent) {
-        return lent;
+    if lent == Refusal::WrongLength.number() {
+        return Err(Refusal::WrongLength);
     }
     if items > mapping::BATCH || answers != items {
         return Err(Refusal::WrongBatch);
     }
     Ok(())
-}
-
-fn is_wrong_length(lent: Result<(), Refusal>) -> bool
-    ensures { result ≡ nat_eq (refusal_in lent) 1 }
-{
-    lent == Err(Refusal::WrongLength)
 }
 
 // Inserts each item that is not refused, and answers each.

@@ -18,7 +18,7 @@ use super::commits::{COLOURS, commit_change, commit_map, commit_plan, commit_unm
 use super::plans::{plan_access, plan_device_write_part, plan_map, plan_transfer, plan_unmap};
 use super::records::{record_at, refill};
 use super::refusals::{end_refusal, tables_refusal, word_refusal};
-use super::{AccessKind, FrameOps, Refusal, nothing, records};
+use super::{AccessKind, FrameOps, Refusal, nothing, number_in, records};
 use board::BOARD01;
 use mapping::{Batch, Mapping, MappingList};
 use page_model::{Step, busy};
@@ -57,7 +57,15 @@ pub fn map_all(
 {
     let kept = mapping::keeps_rules(BOARD01, list);
     let lent = tables_refusal(BOARD01, kept, records, protections);
-    map_batch(BOARD01, list, records, protections, batch, answers, lent)
+    map_batch(
+        BOARD01,
+        list,
+        records,
+        protections,
+        batch,
+        answers,
+        number_in(lent),
+    )
 }
 
 // Takes the mapping of a page of a space off the list. The frame's record stays: words may lie in the cache.

@@ -1,14 +1,14 @@
 // What carries a plan out. Of the board a commit asks only how many colours it has.
 #![tactic(auto, unfolding(crate::specs::Tables::refill))]
 
-ghost use Rattle.std.specs.Prelude.{◌≡◌};
+ghost use Rattle.std.specs.Prelude.{◌≡◌, ℕ};
 ghost use Rattle.board.specs.declared.Board as any;
-ghost use Rattle.manager.specs.Answers.{by_number, outcome};
+ghost use Rattle.manager.specs.Answers.{numbered_by, outcome_by};
 ghost use Rattle.manager.specs.Calls.{commit_map, commit_unmap, commit_change, call_result, step_result};
 ghost use Rattle.manager.specs.Tables.{tables, Colours};
 
 use super::records::{put_record, refill};
-use super::{Change, FrameOps, Refusal};
+use super::{Change, FrameOps};
 use board::BOARD01;
 use mapping::{Mapping, MappingList};
 use page_model::FrameRecord;
@@ -53,6 +53,7 @@ pub fn commit_unmap(
 }
 
 // Stores a frame's next record, and brings the protections up to it.
+#[inline(always)]
 pub fn commit_change(
     colours: usize,
     list: MappingList,
@@ -70,6 +71,7 @@ pub fn commit_change(
 }
 
 // Commits a step's change, and answers its operations.
+#[inline(always)]
 pub fn carry_out(
     colours: usize,
     list: MappingList,
@@ -87,18 +89,18 @@ pub fn carry_out(
     FrameOps { frame, ops }
 }
 
-// Carries a plan out, or hands on its refusal and commits nothing.
-pub fn commit_plan(
+// Carries a plan out, or hands on its refusal, of any type, and commits nothing.
+pub fn commit_plan<E>(
     colours: usize,
     list: MappingList,
     records: &mut [u32],
     protections: &mut [u8],
-    plan: Result<Change, Refusal>,
-) -> Result<FrameOps, Refusal>
+    plan: Result<Change, E>,
+) -> Result<FrameOps, E>
     requires { Colours colours }
-    ensures { (b : any.Board) → b.colours ≡ colours
-        → call_result (outcome result) (tables list records.new protections.new)
-        ≡ step_result b (tables list records.old protections.old) (by_number plan) }
+    ensures { (b : any.Board) (number : E → ℕ) → b.colours ≡ colours
+        → call_result (outcome_by number result) (tables list records.new protections.new)
+        ≡ step_result b (tables list records.old protections.old) (numbered_by number plan) }
 {
     let change = plan?;
     Ok(carry_out(colours, list, records, protections, change))

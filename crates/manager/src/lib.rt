@@ -19,7 +19,7 @@ pub use calls::{
     end_transfer, fetch, map, map_all, read, start, take_word, unmap, write,
 };
 use page_model::{FrameRecord, Op, Ops};
-pub use refusal::Refusal;
+pub use refusal::{Refusal, number_in};
 
 // The operations of a call, on one frame.
 #[derive(Clone, Copy, Debug, PartialEq, Eq)]

@@ -85,6 +85,7 @@ pub fn plan_access(
 }
 
 // What a device's transfer of a page, or the beginning of one, makes of a frame.
+#[inline(always)]
 pub fn plan_transfer(
     board: Board,
     list: MappingList,
@@ -125,6 +126,7 @@ pub fn plan_device_write_part(
 }
 
 // What a step makes of a frame's record, which its mark may bar.
+#[inline(always)]
 fn plan_step(board: Board, records: &[u32], frame: u8, step: Step) -> Result<Change, Refusal>
     requires { Regular board × (reach (step_of step) ≤ board.colours) }
     ensures { (list : any.MappingList) (protections : List ℕ) → frame_record.keeps_rules board.colours (record_at records.now frame) ≡ true

@@ -1,6 +1,6 @@
 // Why a call is refused: the error of every call, plan and test.
 ghost use Rattle.std.specs.Prelude.{◌≡◌};
-ghost use Rattle.manager.specs.Answers.{refusal_number};
+ghost use Rattle.manager.specs.Answers.{refusal_number, refusal_in};
 
 use std::error::Error;
 use std::fmt;
@@ -57,6 +57,16 @@ impl Refusal {
             Refusal::NoTransfer => 16,
             Refusal::NotFetchable => 17,
         }
+    }
+}
+
+// The number of what a test refuses, or 0 where it refuses nothing.
+pub fn number_in(test: Result<(), Refusal>) -> u8
+    ensures { result ≡ refusal_in test }
+{
+    match test {
+        Ok(()) => 0,
+        Err(refusal) => refusal.number(),
     }
 }
 

@@ -1,6 +1,6 @@
 // The busy mark of a frame (request N6): what transfer that takes a while a device has begun there and not ended.
 ghost use Rattle.std.specs.Prelude.{◌≡◌};
-ghost use Rattle.page_model.specs.Busy.{mark_after};
+ghost use Rattle.page_model.specs.Busy.{mark_after, mark_at};
 ghost use Rattle.page_model.specs.Cases.{step_of};
 ghost use Rattle.page_model.specs.Record.{mark_fits};
 
@@ -32,6 +32,17 @@ pub fn mark_after(step: Step, mark: u32) -> u32
     match step {
         Step::BeginRead => READING,
         Step::BeginWrite => WRITING,
+        _ => mark,
+    }
+}
+
+// The same by the number of the step in the tables: a number that stands for no step leaves the mark.
+pub fn mark_at(step: u8, mark: u32) -> u32
+    ensures { result ≡ mark_at step mark }
+{
+    match step {
+        5 => READING,
+        6 => WRITING,
         _ => mark,
     }
 }

@@ -2,7 +2,7 @@
 ghost use Rattle.std.specs.Prelude.{◌≡◌, ◌≤◌, ◌<◌};
 ghost use Rattle.bits.specs.Mask.{width, bit};
 ghost use Rattle.page_model.specs.Cases.{instruction_of_code};
-ghost use Rattle.page_model.specs.Masks.{masks_keep_rules, with_class, moved};
+ghost use Rattle.page_model.specs.Masks.{masks_keep_rules, mask_state, with_class, moved};
 ghost use Rattle.page_model.specs.Record.{instruction_state_from};
 
 // Bit c of a mask stands for colour c. Present and dirty colours are held.
@@ -27,6 +27,19 @@ pub struct Classes {
     pub held: MaskState,
     pub stale: MaskState,
     pub empty: MaskState,
+}
+
+impl From<u8> for MaskState {
+    ghost from_gives = { λ number state. state ≡ mask_state number };
+
+    // The state of a colour by the number of its state in the tables; of any other number, that of neither mask.
+    fn from(number: u8) -> MaskState {
+        match number {
+            1 | 2 => MaskState::Held,
+            3 => MaskState::Stale,
+            _ => MaskState::Empty,
+        }
+    }
 }
 
 impl Masks {

@@ -1,6 +1,6 @@
 // What is told of an answer: its number, its operations, and how many of them are flushes and purges.
-ghost use Rattle.std.specs.Prelude.{◌≡◌, ◌≤◌};
-ghost use Rattle.manager.specs.Answers.{operations_of, outcome, number_of};
+ghost use Rattle.std.specs.Prelude.{◌≡◌, ◌≤◌, ℕ};
+ghost use Rattle.manager.specs.Answers.{operations_of, outcome, outcome_by, number_of};
 ghost use Rattle.manager.specs.Calls.{list_outcome, list_left};
 ghost use Rattle.sheet_codec.specs.Totals.{flushes_of, purges_of, Counts};
 
@@ -18,9 +18,9 @@ pub fn number_of(answer: Result<FrameOps, Refusal>) -> u8
     }
 }
 
-// The operations with their frame: of a refusal none, on frame 0.
-pub fn operations_of(answer: Result<FrameOps, Refusal>) -> FrameOps
-    ensures { result ≡ operations_of (outcome answer) }
+// The operations with their frame: of a refusal, of any type, none, on frame 0.
+pub fn operations_of<E: Drop>(answer: Result<FrameOps, E>) -> FrameOps
+    ensures { (number : E → ℕ) → result ≡ operations_of (outcome_by number answer) }
 {
     answer.unwrap_or(manager::nothing())
 }

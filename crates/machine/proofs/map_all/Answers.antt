@@ -21,7 +21,7 @@ use Rattle.machine.proofs.PlanLaws.{lent_refused}
 use Rattle.machine.proofs.map_all.Goals as goal
 
 -- the refusal in all that is lent
-told : (c : goal.After-map_batch-arg-2-1) → let st = (let a = c.args in machine_of a.list a.records.now a.protections.now a.memory.now a.words.now a.tags.now) in refusal_in c.earlier-lent.result ≡ earlier (first_refusal (store_causes board01 st.store true)) (first_refusal (table_causes board01 st.tables))
+told : (c : goal.After-number_in) → let st = (let a = c.args in machine_of a.list a.records.now a.protections.now a.memory.now a.words.now a.tags.now) in refusal_in c.earlier-lent.result ≡ earlier (first_refusal (store_causes board01 st.store true)) (first_refusal (table_causes board01 st.tables))
 told c =
     lent_refused board01 ((let a = c.args in machine_of a.list a.records.now a.protections.now a.memory.now a.words.now a.tags.now)) (items_length c.args.list _ c.well_formed.0) c.keeps_rules-kept.ensures c.earlier-lent.ensures.refusal c.store_refusal-own.ensures c.tables_refusal-managers.ensures
 
@@ -29,7 +29,7 @@ pub map_batch-requires : goal.map_batch-requires
 map_batch-requires c =
     let a = c.args in
     let t = tables a.list a.records.now a.protections.now in
-    (board01_regular, λ z. list_keeps board01 t (tables_clear board01 t (earlier_neither _ _ (sym (told c) ∙ z))).1)
+    (board01_regular, λ z. list_keeps board01 t (tables_clear board01 t (earlier_neither _ _ (sym (told c) ∙ sym c.number_in.ensures ∙ z))).1)
 
 pub returns : goal.returns
 returns c =
@@ -37,5 +37,5 @@ returns c =
     let st = (let a = c.args in machine_of a.list a.records.now a.protections.now a.memory.now a.words.now a.tags.now) in
     let items = items_of a.batch in
     ap (beside st.store) (c.map_batch.ensures
-    ∙ ap (λ (lent : ℕ). batch_made board01 lent st.tables items a.answers.now) (lent_refused board01 (let a = c.args in machine_of a.list a.records.now a.protections.now a.memory.now a.words.now a.tags.now) (items_length c.args.list _ c.well_formed.0) c.keeps_rules-kept.ensures c.earlier-lent.ensures.refusal c.store_refusal-own.ensures c.tables_refusal-managers.ensures ∙ sym (lent_merged board01 st (map_of zero_mapping))))
+    ∙ ap (λ (lent : ℕ). batch_made board01 lent st.tables items a.answers.now) (c.number_in.ensures ∙ lent_refused board01 (let a = c.args in machine_of a.list a.records.now a.protections.now a.memory.now a.words.now a.tags.now) (items_length c.args.list _ c.well_formed.0) c.keeps_rules-kept.ensures c.earlier-lent.ensures.refusal c.store_refusal-own.ensures c.tables_refusal-managers.ensures ∙ sym (lent_merged board01 st (map_of zero_mapping))))
     ∙ map_all_performed board01 st items a.answers.now

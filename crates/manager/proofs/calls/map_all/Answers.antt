@@ -17,12 +17,12 @@ pub map_batch-requires : goal.map_batch-requires
 map_batch-requires c =
     let t = tables c.args.list c.args.records.now c.args.protections.now in
     let lent : refusal_in c.tables_refusal-lent.result ≡ first_refusal (table_causes board01 (tables c.args.list c.args.records.now c.args.protections.now)) = c.tables_refusal-lent.ensures ∙ told_tables_lem _ c.args.list _ _ (items_length c.args.list _ c.well_formed.0) c.keeps_rules-kept.ensures in
-    (board01_regular, λ z. list_keeps board01 t (tables_clear board01 t (sym lent ∙ z)).1)
+    (board01_regular, λ z. list_keeps board01 t (tables_clear board01 t (sym lent ∙ sym c.number_in.ensures ∙ z)).1)
 
 pub returns : goal.returns
 returns c =
     let a = c.args in
     let lent : refusal_in c.tables_refusal-lent.result ≡ first_refusal (table_causes board01 (tables c.args.list c.args.records.now c.args.protections.now)) = c.tables_refusal-lent.ensures ∙ told_tables_lem _ c.args.list _ _ (items_length c.args.list _ c.well_formed.0) c.keeps_rules-kept.ensures in
     c.map_batch.ensures
-    ∙ ap (λ (n : ℕ). batch_made board01 n (tables c.args.list c.args.records.now c.args.protections.now) (items_of a.batch) a.answers.now) lent
+    ∙ ap (λ (n : ℕ). batch_made board01 n (tables c.args.list c.args.records.now c.args.protections.now) (items_of a.batch) a.answers.now) (c.number_in.ensures ∙ lent)
     ∙ map_all_made board01 (tables c.args.list c.args.records.now c.args.protections.now) (items_of a.batch) a.answers.now
