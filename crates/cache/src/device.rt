@@ -4,6 +4,7 @@ ghost use Rattle.board.specs.Board.{Regular, memory_words};
 ghost use Rattle.cache.specs.Store.{store, memory_word};
 ghost use Rattle.cache.specs.Cache.{device_read, device_write, bring_word};
 
+use crate::copy::copy;
 use board::Board;
 
 // Copies a frame's words in memory to the device's buffer.
@@ -12,7 +13,7 @@ pub fn device_read(board: Board, memory: &[u32], buffer: &mut [u32], frame: usiz
     ensures { (words tags : List ℕ) → buffer.new ≡ device_read board frame (store memory.now words tags) }
 {
     let from = board.memory_at(frame, 0);
-    buffer.copy_from_slice(&memory[from..from + board.page]);
+    copy(buffer, &memory[from..from + board.page]);
 }
 
 // Copies the words of the device's buffer, of which there are some, to a frame's words in memory from an offset on.
@@ -22,7 +23,7 @@ pub fn device_write(board: Board, memory: &mut [u32], buffer: &[u32], frame: usi
     ensures { (words tags : List ℕ) → store memory.new words tags ≡ device_write board frame first buffer.now (store memory.old words tags) }
 {
     let at = board.memory_at(frame, first);
-    memory[at..at + buffer.len()].copy_from_slice(buffer);
+    copy(&mut memory[at..at + buffer.len()], buffer);
 }
 
 // Stores a word that a device brings at an offset of a frame.

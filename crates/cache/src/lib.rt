@@ -3,6 +3,7 @@
 #![tactic(auto)]
 
 pub mod access;
+mod copy;
 pub mod device;
 pub mod line;
 pub mod operation;

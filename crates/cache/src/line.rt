@@ -4,6 +4,7 @@ ghost use Rattle.board.specs.Board.{Regular, lines, memory_words, cache_words};
 ghost use Rattle.cache.specs.Store.{store, WellFormedStore};
 ghost use Rattle.cache.specs.Cache.{copy_out, write_back, evict, fill};
 
+use crate::copy::copy;
 use crate::tag::Tag;
 use board::Board;
 
@@ -43,7 +44,10 @@ pub fn fill(
 {
     let from = board.memory_at(frame, board.line_offset(line));
     let at = board.line_at(line);
-    words[at..at + board.line].copy_from_slice(&memory[from..from + board.line]);
+    copy(
+        &mut words[at..at + board.line],
+        &memory[from..from + board.line],
+    );
     tags[line] = Tag::Clean(frame).byte();
 }
 
@@ -55,5 +59,8 @@ fn copy_out(board: Board, memory: &mut [u32], words: &[u32], frame: usize, line:
 {
     let at = board.memory_at(frame, board.line_offset(line));
     let from = board.line_at(line);
-    memory[at..at + board.line].copy_from_slice(&words[from..from + board.line]);
+    copy(
+        &mut memory[at..at + board.line],
+        &words[from..from + board.line],
+    );
 }

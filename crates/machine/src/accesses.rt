@@ -144,6 +144,7 @@ pub fn evict(
 }
 
 // The processor reads a word through a cache.
+#[inline(always)]
 fn load(
     list: MappingList,
     records: &mut [u32],

@@ -7,6 +7,8 @@ pub mod Rules
 pub mod First
 pub mod Lookups
 pub mod Place
+mod InOrder
+mod Moves
 pub mod Including
 pub mod Without
 pub mod Change

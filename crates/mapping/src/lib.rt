@@ -3,10 +3,11 @@
 
 pub mod lent;
 
-ghost use Rattle.std.specs.Prelude.{◌≡◌, true};
+ghost use Rattle.std.specs.Prelude.{◌≡◌, ◌+◌, ◌*◌, ◌≤◌, ◌&&◌, true, eqb, length, take};
 ghost use Rattle.board.specs.declared.Board as any;
+ghost use Rattle.mapping.specs.declared.MappingList as any_list;
 ghost use Rattle.mapping.specs.Entry.{is_rights, zero_mapping, in_range, is_zero, is_at, is_before};
-ghost use Rattle.mapping.specs.Rules.{keeps_rules};
+ghost use Rattle.mapping.specs.Rules.{all_in_range, rising, every_zero, keeps_rules};
 ghost use Rattle.mapping.specs.Change.{empty, insert_at, remove};
 ghost use Rattle.mapping.specs.Look.{find, look, ToldWithin};
 
@@ -93,17 +94,17 @@ impl Mapping {
     fn is_before(self, space: u8, page: u16) -> bool
         ensures { result ≡ is_before self space page }
     {
-        (self.space, self.page) < (space, page)
+        key(self.space, self.page) < key(space, page)
     }
 
-    // Whether all fields are 0. Three of them make up a word, so that they are read at once.
-    fn is_zero(self) -> bool
-        ensures { result ≡ is_zero self }
+    // A number that is 0 exactly if all fields are. Three of them make up a word, so that they are read at once.
+    fn content(self) -> u32
+        ensures { eqb result 0 ≡ is_zero self }
     {
         let word = u32::from(self.page)
             | u32::from(self.frame) << 16
             | u32::from(self.rights) << 24;
-        self.space == 0 && word == 0
+        u32::from(self.space) | word
     }
 }
 
@@ -126,9 +127,37 @@ pub fn keeps_rules(board: Board, list: MappingList) -> bool
         return false;
     }
     let (listed, rest) = list.items.split_at(list.count);
-    listed.iter().all(|m| m.in_range(board))
-        && listed.is_sorted_by(|m, n| m.is_before(n.space, n.page))
-        && rest.iter().all(|m| m.is_zero())
+    in_order(board, listed) && all_zero(rest)
+}
+
+// Whether every record is in range and stands before the next, in one pass.
+fn in_order(board: Board, records: &[Mapping]) -> bool
+    ensures { (l : any_list.MappingList) → records.now ≡ take l.count l.items → l.count ≤ length l.items → result ≡ (all_in_range board l && rising l) }
+{
+    // The least key that the next record may have.
+    let mut least = 0;
+    for m in records {
+        if !m.in_range(board) {
+            return false;
+        }
+        let key = key(m.space, m.page);
+        if key < least {
+            return false;
+        }
+        least = key + 1;
+    }
+    true
+}
+
+// Whether all fields of every record are 0. All contents are put together and tested once, which costs half of a test of each.
+fn all_zero(records: &[Mapping]) -> bool
+    ensures { result ≡ every_zero records.now }
+{
+    let mut content = 0;
+    for m in records {
+        content |= m.content();
+    }
+    content == 0
 }
 
 // What a list that keeps its rules tells of a page of a space, found by halving. The rules are not tested. In a list that breaks them the place is
@@ -165,7 +194,7 @@ pub fn insert_at(list: MappingList, i: usize, m: Mapping) -> MappingList
         return list;
     }
     let mut next = list;
-    next.items.copy_within(i..CAPACITY - 1, i + 1);
+    next.items[i + 1..].copy_from_slice(&list.items[i..CAPACITY - 1]);
     next.items[i] = m;
     next.count += 1;
     next
@@ -179,8 +208,15 @@ pub fn remove(list: MappingList, i: usize) -> MappingList
         return list;
     }
     let mut next = list;
-    next.items.copy_within(i + 1.., i);
+    next.items[i..CAPACITY - 1].copy_from_slice(&list.items[i + 1..]);
     next.items[CAPACITY - 1] = Mapping::zero();
     next.count -= 1;
     next
+}
+
+// A number that is smaller for pages that stand earlier: rising order of space, then page.
+fn key(space: u8, page: u16) -> u32
+    ensures { result ≡ space * 65536 + page }
+{
+    u32::from(space) * 65536 + u32::from(page)
 }

@@ -1,13 +1,15 @@
 -- `mapping::insert_at` meets its contract.
-use Prim.Native.Nat.{ℕ, ◌+◌}
+use Prim.Native.Nat.{ℕ, ◌+◌, ◌-◌}
 use mathlib.Core.List.{List}
 use mathlib.Core.Logic.{⊎_elim}
 use mathlib.Core.Path.{sym, ap, ◌∙◌}
 use native.Mathlib.Omega.{arith}
+use lib.ListN.{length}
 use Rattle.mapping.specs.declared.MappingList.{MappingList}
 use Rattle.mapping.specs.declared.Mapping.{Mapping}
 use Rattle.mapping.proofs.Change.{insert_at_full, insert_at_past, insert_at_room}
 use Rattle.mapping.proofs.Including.{copied_up}
+use Rattle.mapping.proofs.Moves.{part_length, part_copied, part_below}
 use Rattle.mapping.proofs.Records.{items_length}
 use Rattle.mapping.proofs.insert_at.Goals as goal
 
@@ -19,8 +21,12 @@ pub returns : goal.returns
 returns c =
     let l = c.args.list in
     let long = items_length l _ c.well_formed.0 in
-    let copy = c.copy_within.ensures in
-    ap (λ (xs : List Mapping). list_of xs (l.count + 1)) (copied_up l.items c.args.i c.args.m (omega arith) c.copy_within.new.self 255 long copy.len copy.by_index.0 copy.by_index.1)
+    let i = c.args.i in
+    let copied = c.copy_from_slice.ensures.after in
+    ap (λ (xs : List Mapping). list_of xs (l.count + 1))
+    (copied_up l.items i c.args.m (omega arith) _ 255 long (part_length l.items (i + 1) (length l.items - (i + 1)) i copied (omega arith) (omega arith) (omega arith))
+    (λ k d le lt. part_copied l.items (i + 1) (length l.items - (i + 1)) i copied (omega arith) (omega arith) (omega arith) k d le (omega arith))
+    (part_below l.items (i + 1) (length l.items - (i + 1)) i copied (omega arith) (omega arith) (omega arith)))
     ∙ sym (insert_at_room l _ _ (omega arith) (omega arith))
   where
     list_of : List Mapping → ℕ → MappingList

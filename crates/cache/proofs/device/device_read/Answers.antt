@@ -8,4 +8,4 @@ use Rattle.cache.proofs.device.device_read.Goals as goal
 pub returns : goal.returns
 unfolding device_read
 returns c words tags =
-    c.copy_from_slice.ensures.after ∙ part_lent c.args.memory.now _ (c.memory_at-from.ensures.value ∙ memory_at_zero _ c.requires.3 c.args.frame)
+    c.copy.ensures ∙ part_lent c.args.memory.now _ (c.memory_at-from.ensures.value ∙ memory_at_zero _ c.requires.3 c.args.frame)
