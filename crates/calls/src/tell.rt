@@ -136,21 +136,27 @@ fn changed<T: Copy + PartialEq + Display>(
             r.last = place;
             continue;
         }
-        ended(rt, letter, run)?;
-        run = is_changed.then_some(Run {
-            first: place,
-            last: place,
-            value: *new,
-        });
+        if let Some(over) = run {
+            ended(rt, letter, over)?;
+            run = None;
+        }
+        if is_changed {
+            run = Some(Run {
+                first: place,
+                last: place,
+                value: *new,
+            });
+        }
     }
-    ended(rt, letter, run)
+    match run {
+        Some(last) => ended(rt, letter, last),
+        None => Ok(()),
+    }
 }
 
-// A run that is over, if there is one.
-fn ended<T: Copy + Display>(rt: &impl Print, letter: char, run: Option<Run<T>>) -> io::Result<()> {
-    let Some(Run { first, last, value }) = run else {
-        return Ok(());
-    };
+// A run that is over.
+fn ended<T: Copy + Display>(rt: &impl Print, letter: char, run: Run<T>) -> io::Result<()> {
+    let Run { first, last, value } = run;
     if first < last {
         print!(rt; " {letter}{first}-{last}={value}")
     } else {

@@ -13,3 +13,4 @@ pub mod Colours
 pub mod Passing
 pub mod Theorems
 pub mod Listed
+pub mod Numbers

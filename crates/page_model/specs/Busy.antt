@@ -1,5 +1,5 @@
 -- Request N6: the busy mark of a frame, which says what transfer that takes a while a device has begun there and not ended.
-use Rattle.std.specs.Prelude.{Bool, cond, not, ℕ, eqb}
+use Rattle.std.specs.Prelude.{Bool, not, ℕ, eqb}
 use Rattle.page_model.specs.Table.{Step, read, write, device_read, device_write, device_write_part, begin_read, begin_write, fetch}
 
 -- no transfer; a device reads the frame; a device writes it
@@ -34,7 +34,3 @@ mark_after device_write_part mark = mark
 mark_after begin_read mark = reading
 mark_after begin_write mark = writing
 mark_after (fetch c) mark = mark
-
--- the same by the number of the step, 0 to 7 in the order of the table: a number that stands for no step leaves the mark
-abbrev pub mark_at : ℕ → ℕ → ℕ
-mark_at step mark = cond (eqb step 5) reading (cond (eqb step 6) writing mark)

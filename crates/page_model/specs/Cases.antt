@@ -1,5 +1,5 @@
 -- What the code's enums stand for, the rows of document 01's tables that its cells are of, and the states and operations as numbers.
-use Rattle.std.specs.Prelude.{ℕ, Option, None, Some}
+use Rattle.std.specs.Prelude.{cond, ◌||◌, ℕ, eqb, Option, None, Some}
 use Rattle.page_model.specs.declared.masks.Classes.{Classes}
 use Rattle.page_model.specs.declared.masks.MaskState as masks
 use Rattle.page_model.specs.declared.masks.MaskState.TheVariants as Masked
@@ -12,6 +12,7 @@ use Rattle.page_model.specs.declared.table.Operation as actions
 use Rattle.page_model.specs.declared.table.Operation.TheVariants.{Flush, Purge}
 use Rattle.page_model.specs.declared.table.Step as steps
 use Rattle.page_model.specs.declared.table.Step.TheVariants.{Read, Write, DeviceRead, DeviceWrite, DeviceWritePart, BeginRead, BeginWrite, Fetch}
+use Rattle.page_model.specs.Busy.{reading, writing}
 use Rattle.page_model.specs.Table.{ColourState, empty, present, dirty, stale, Operation, none, flush, purge, Cell, ◌⇒◌, Role, other, read_cell, write_cell, device_read_cell, device_write_cell, device_write_part_cell, begin_read_cell, begin_write_cell, fetch_cell, Step, read, write, device_read, device_write, device_write_part, begin_read, begin_write, fetch}
 use Rattle.page_model.specs.Instructions.{InstructionState, unfetched, fetched, outdated, InstructionCell, ◌⇛◌, left_cell, outdated_cell, fetched_cell}
 
@@ -127,3 +128,21 @@ abbrev pub instruction_number : InstructionState → ℕ
 instruction_number unfetched = state_number empty
 instruction_number fetched = state_number present
 instruction_number outdated = state_number stale
+
+abbrev pub step_number : Step → ℕ
+step_number (read c) = 0
+step_number (write c) = 1
+step_number device_read = 2
+step_number device_write = 3
+step_number device_write_part = 4
+step_number begin_read = 5
+step_number begin_write = 6
+step_number (fetch c) = 7
+
+-- where the masks have a colour in the state of a number, and the mark after the step of a number: one that stands for no state is in neither mask, and
+-- one that stands for no step leaves the mark
+abbrev pub mask_state : ℕ → masks.MaskState
+mask_state n = cond (eqb n (state_number present) || eqb n (state_number dirty)) Masked.Held (cond (eqb n (state_number stale)) Masked.Stale Masked.Empty)
+
+abbrev pub mark_at : ℕ → ℕ → ℕ
+mark_at step mark = cond (eqb step (step_number begin_read)) reading (cond (eqb step (step_number begin_write)) writing mark)

@@ -1,5 +1,5 @@
 -- The masks of the colours that are held and of those that are stale, and what they are after each class of colours went to a state.
-use Rattle.std.specs.Prelude.{Bool, true, false, cond, not, ◌&&◌, ◌||◌, ℕ, ◌^◌, eqb, ltb}
+use Rattle.std.specs.Prelude.{Bool, true, false, cond, not, ◌&&◌, ℕ, ◌^◌, eqb, ltb}
 use Rattle.std.specs.Int.Bits.{bit_or}
 use Rattle.bits.specs.Mask.{bit, mask_of, all}
 use Rattle.page_model.specs.declared.masks.Masks.{Masks}
@@ -18,11 +18,6 @@ masks_of n h s = record { held = mask_of n h; stale = mask_of n s }
 -- no bit stands past the n colours, and none in both masks
 abbrev pub masks_keep_rules : ℕ → Masks → Bool
 masks_keep_rules n m = ltb m.held (2 ^ n) && ltb m.stale (2 ^ n) && all n (λ k. not (bit m.held k && bit m.stale k))
-
--- The masks' state of a colour by the number of its state in the tables, 0 to 3 from the left: present and dirty colours are held. One whose number
--- stands for no state is in neither mask.
-abbrev pub mask_state : ℕ → MaskState
-mask_state n = cond (eqb n 1 || eqb n 2) Held (cond (eqb n 3) Stale Empty)
 
 -- whether colours in a state stand in the held mask, and in the stale one
 abbrev pub in_held : MaskState → Bool

@@ -1,7 +1,7 @@
 // The busy mark of a frame (request N6): what transfer that takes a while a device has begun there and not ended.
 ghost use Rattle.std.specs.Prelude.{◌≡◌};
-ghost use Rattle.page_model.specs.Busy.{mark_after, mark_at};
-ghost use Rattle.page_model.specs.Cases.{step_of};
+ghost use Rattle.page_model.specs.Busy.{mark_after};
+ghost use Rattle.page_model.specs.Cases.{step_of, mark_at};
 ghost use Rattle.page_model.specs.Record.{mark_fits};
 
 use super::Step;

@@ -68,14 +68,15 @@ impl FrameRecord {
             && self.dirty_colour == self.told_colour(colours as u32)
     }
 
-    // Whether the masks for instructions keep the rules, with none held beside a dirty colour, nor while a device writes.
+    // Whether the masks for instructions keep the rules, with none held beside a dirty colour, nor while a device writes: one test, and no branch on
+    // what the record holds.
     #[tactic(auto, unfolding(crate::specs::Record::instructions_keep_rules))]
     fn instructions_keep_rules(self, colours: usize) -> bool
         requires { colours ≤ width }
         ensures { result ≡ instructions_keep_rules colours self }
     {
         self.instructions.keep_rules(colours)
-            && (self.instructions.held == 0 || self.dirty != 1 && self.busy != busy::WRITING)
+            && (self.instructions.held == 0) | (self.dirty != 1) & (self.busy != busy::WRITING)
     }
 
     // Whether no bit is past the colours, none in both masks, the flag 0 or 1, and with the flag set exactly one held bit.

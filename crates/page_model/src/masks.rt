@@ -1,8 +1,8 @@
 // The masks of the colours that are held and of those that are stale, and how a step moves the colours between them: class by class.
 ghost use Rattle.std.specs.Prelude.{◌≡◌, ◌≤◌, ◌<◌};
 ghost use Rattle.bits.specs.Mask.{width, bit};
-ghost use Rattle.page_model.specs.Cases.{instruction_of_code};
-ghost use Rattle.page_model.specs.Masks.{masks_keep_rules, mask_state, with_class, moved};
+ghost use Rattle.page_model.specs.Cases.{instruction_of_code, mask_state};
+ghost use Rattle.page_model.specs.Masks.{masks_keep_rules, with_class, moved};
 ghost use Rattle.page_model.specs.Record.{instruction_state_from};
 
 // Bit c of a mask stands for colour c. Present and dirty colours are held.
