@@ -1,6 +1,6 @@
 -- The test of the list's rules and the facts that it says, for any board and any list.
 use mathlib.Core.Path.{◌≡◌, refl, sym, ap, ap₂, ◌∙◌, fun_ext}
-use mathlib.Core.Bool.{Bool, true, false, ◌&&◌, ◌||◌, or-true, and-true, and_assoc}
+use mathlib.Core.Bool.{Bool, true, false, ◌&&◌, ◌||◌, or-true, and-true, and-false, and_assoc}
 use mathlib.Core.List.{List, [], ◌∷◌}
 use mathlib.Core.Logic.{⊎_elim}
 use Prim.Native.Nat.{ℕ, zero, suc, ◌+◌, ◌≤◌, ◌<◌}
@@ -9,6 +9,8 @@ use native.Mathlib.Omega.{arith}
 use native.Mathlib.Nat.{le_refl}
 use lib.Dec.{eqb, ltb}
 use lib.ListN.{length, get_or, take, drop, get_or-eq_default}
+use lib.Seq.{length-take-le, get_or-take}
+use Rattle.std.specs.List.{list_all, IsAllAdjacentAnswer}
 use borrow.Author.Tests.{leb-true, le-leb, lt-leb, lt-ltb, le-ltb}
 use Rattle.bits.specs.Mask.{all}
 use Rattle.bits.proofs.Mask.{all_at, all_of, or_within}
@@ -17,10 +19,10 @@ use Rattle.std.proofs.lemmas.Bool.Decides.{nat_tests}
 use Rattle.board.specs.declared.Board.{Board}
 use Rattle.mapping.specs.declared.Mapping.{Mapping}
 use Rattle.mapping.specs.declared.MappingList.{MappingList}
-use Rattle.mapping.specs.Entry.{capacity, zero_mapping, is_zero, mapping_at}
-use Rattle.mapping.specs.Rules.{all_in_range, rising, every_zero, rest_zero, keeps_rules}
+use Rattle.mapping.specs.Entry.{capacity, zero_mapping, in_range, is_zero, is_before, mapping_at}
+use Rattle.mapping.specs.Rules.{all_in_range, rises_at, rising, every_zero, rest_zero, keeps_rules}
 use Rattle.mapping.specs.Facts.{Rules}
-use Rattle.mapping.proofs.Tests.{chain_last, and_both, lt_or_le}
+use Rattle.mapping.proofs.Tests.{chain_last, and_both, all_not, lt_or_le}
 use Rattle.mapping.proofs.Entry.{in_range_true, range_in_range, is_zero_true, is_zero_zero}
 use Rattle.mapping.proofs.Order.{neighbours_order}
 
@@ -74,6 +76,46 @@ pub rest_zeros : (l : MappingList) {rest : List Mapping} → rest ≡ drop l.cou
 unfolding rest_zero
 rest_zeros l e = ap (λ (ms : List Mapping). every_zero ms) e
 
+-- ---- the same tests of a part of the records, as `all` and `is_sorted_by` give them: for a caller who tests a list by these
+
+taken : (t : Mapping → Bool) (ms : List Mapping) (n : ℕ) → n ≤ length ms → list_all t (take n ms) ≡ all n (λ i. t (get_or ms i zero_mapping))
+unfolding all
+taken t ms zero h = refl
+taken t [] (suc n) h = absurd (omega arith)
+taken t (m ∷ ms) (suc n) h = ap (λ (r : Bool). t m && r) (taken t ms n (omega arith))
+
+every_is_zero : (ms : List Mapping) → list_all is_zero ms ≡ every_zero ms
+unfolding every_zero
+every_is_zero [] = refl
+every_is_zero (m ∷ ms) = ap (λ (r : Bool). is_zero m && r) (every_is_zero ms)
+
+module _ (b : Board) (l : MappingList) (inside : l.count ≤ length l.items) where
+  pub listed_in_range : list_all (in_range b) (take l.count l.items) ≡ all_in_range b l
+  unfolding all_in_range
+  listed_in_range = taken (in_range b) l.items l.count inside
+
+  pub rest_is_zero : list_all is_zero (drop l.count l.items) ≡ rest_zero l
+  unfolding rest_zero
+  rest_is_zero = every_is_zero (drop l.count l.items)
+
+  -- each listed record stands before the next
+  stands : ℕ → Bool
+  stands k = is_before (get_or (take l.count l.items) k zero_mapping) (get_or (take l.count l.items) (k + 1) zero_mapping).space (get_or (take l.count l.items) (k + 1) zero_mapping).page
+
+  stands_at : (k : ℕ) → suc k < l.count → stands k ≡ rises_at l k
+  unfolding stands rises_at
+  stands_at k h =
+      ap₂ (λ (m n : Mapping). is_before m n.space n.page) (get_or-take l.count l.items k zero_mapping (omega arith))
+      (get_or-take l.count l.items (k + 1) zero_mapping (omega arith) ∙ ap (mapping_at l) (add-one k))
+
+  pub listed_rising : (r : Bool) → IsAllAdjacentAnswer (λ m n t. t ≡ is_before m n.space n.page) (take l.count l.items) r → r ≡ rising l
+  unfolding rising stands
+  listed_rising true h = sym (all_of _ _ (λ k o. sym (h k zero_mapping (omega (arith, length-take-le l.count l.items inside)) ∙ stands_at k (omega arith))))
+  listed_rising false h =
+      let k = h.0 in
+      let o : suc k < l.count = omega (arith, h.1, length-take-le l.count l.items inside) in
+      sym (all_not _ _ k (omega arith) (sym (h.2 zero_mapping ∙ stands_at k o)))
+
 module _ (b : Board) (l : MappingList) where
   -- ---- from the test to the facts
 
@@ -102,6 +144,14 @@ module _ (b : Board) (l : MappingList) where
   pub keeps_over : capacity < l.count → keeps_rules b l ≡ false
   unfolding keeps_rules
   keeps_over h = rw (lt-leb _ _ h)
+
+  pub keeps_unranged : all_in_range b l ≡ false → keeps_rules b l ≡ false
+  unfolding keeps_rules
+  keeps_unranged e = rw (e, and-false)
+
+  pub keeps_unordered : rising l ≡ false → keeps_rules b l ≡ false
+  unfolding keeps_rules
+  keeps_unordered e = rw (e, and-false)
 
   pub keeps_rest : l.count ≤ capacity → all_in_range b l ≡ true → rising l ≡ true → rest_zero l ≡ keeps_rules b l
   unfolding keeps_rules
