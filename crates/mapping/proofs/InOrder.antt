@@ -5,6 +5,7 @@ use mathlib.Core.List.{List}
 use mathlib.Core.Logic.{⊎_elim}
 use Prim.Native.Nat.{ℕ, zero, suc, ◌+◌, ◌≤◌, ◌<◌}
 use native.Mathlib.Nat.{eq-or-lt_of_le}
+use native.Mathlib.Numerals.{add-one}
 use native.Mathlib.Omega.{arith}
 use lib.ListN.{length, get_or, take}
 use lib.Seq.{length-take-le, get_or-take}
@@ -80,6 +81,10 @@ module _ (b : Board) (rs : List Mapping) (l : MappingList) (e : rs ≡ take l.co
   stands_at : (k : ℕ) → suc k < l.count → stands rs k ≡ rises_at l k
   unfolding rises_at
   stands_at k h = ap₂ (λ (m n : Mapping). is_before m n.space n.page) (at_place k (omega arith)) (at_place (suc k) h)
+
+  -- the next one's place as a sum
+  pub stands_next : (k : ℕ) → suc k < l.count → is_before (record_at rs k) (record_at rs (k + 1)).space (record_at rs (k + 1)).page ≡ rises_at l k
+  stands_next k h = ap (λ (n : ℕ). is_before (record_at rs k) (record_at rs n).space (record_at rs n).page) (add-one k) ∙ stands_at k h
 
   pub unranged : (i : ℕ) → i < length rs → in_range b (record_at rs i) ≡ false → false ≡ (all_in_range b l && rising l)
   unfolding all_in_range

@@ -9,7 +9,6 @@ use native.Mathlib.Omega.{arith}
 use native.Mathlib.Nat.{le_refl}
 use lib.Dec.{eqb, ltb}
 use lib.ListN.{length, get_or, take, drop, get_or-eq_default}
-use lib.Seq.{length-take-le, get_or-take}
 use Rattle.std.specs.List.{list_all, IsAllAdjacentAnswer}
 use borrow.Author.Tests.{leb-true, le-leb, lt-leb, lt-ltb, le-ltb}
 use Rattle.bits.specs.Mask.{all}
@@ -20,11 +19,12 @@ use Rattle.board.specs.declared.Board.{Board}
 use Rattle.mapping.specs.declared.Mapping.{Mapping}
 use Rattle.mapping.specs.declared.MappingList.{MappingList}
 use Rattle.mapping.specs.Entry.{capacity, zero_mapping, in_range, is_zero, is_before, mapping_at}
-use Rattle.mapping.specs.Rules.{all_in_range, rises_at, rising, every_zero, rest_zero, keeps_rules}
+use Rattle.mapping.specs.Rules.{all_in_range, rising, every_zero, rest_zero, keeps_rules}
 use Rattle.mapping.specs.Facts.{Rules}
 use Rattle.mapping.proofs.Tests.{chain_last, and_both, all_not, lt_or_le}
 use Rattle.mapping.proofs.Entry.{in_range_true, range_in_range, is_zero_true, is_zero_zero}
 use Rattle.mapping.proofs.Order.{neighbours_order}
+use Rattle.mapping.proofs.InOrder.{listed_length, stands_next}
 
 -- ---- the places past the count, one by one
 
@@ -98,23 +98,13 @@ module _ (b : Board) (l : MappingList) (inside : l.count ≤ length l.items) whe
   unfolding rest_zero
   rest_is_zero = every_is_zero (drop l.count l.items)
 
-  -- each listed record stands before the next
-  stands : ℕ → Bool
-  stands k = is_before (get_or (take l.count l.items) k zero_mapping) (get_or (take l.count l.items) (k + 1) zero_mapping).space (get_or (take l.count l.items) (k + 1) zero_mapping).page
-
-  stands_at : (k : ℕ) → suc k < l.count → stands k ≡ rises_at l k
-  unfolding stands rises_at
-  stands_at k h =
-      ap₂ (λ (m n : Mapping). is_before m n.space n.page) (get_or-take l.count l.items k zero_mapping (omega arith))
-      (get_or-take l.count l.items (k + 1) zero_mapping (omega arith) ∙ ap (mapping_at l) (add-one k))
-
   pub listed_rising : (r : Bool) → IsAllAdjacentAnswer (λ m n t. t ≡ is_before m n.space n.page) (take l.count l.items) r → r ≡ rising l
-  unfolding rising stands
-  listed_rising true h = sym (all_of _ _ (λ k o. sym (h k zero_mapping (omega (arith, length-take-le l.count l.items inside)) ∙ stands_at k (omega arith))))
+  unfolding rising
+  listed_rising true h = sym (all_of _ _ (λ k o. sym (h k zero_mapping (omega (arith, listed_length b _ l refl inside)) ∙ stands_next b _ l refl inside k (omega arith))))
   listed_rising false h =
       let k = h.0 in
-      let o : suc k < l.count = omega (arith, h.1, length-take-le l.count l.items inside) in
-      sym (all_not _ _ k (omega arith) (sym (h.2 zero_mapping ∙ stands_at k o)))
+      let o : suc k < l.count = omega (arith, h.1, listed_length b _ l refl inside) in
+      sym (all_not _ _ k (omega arith) (sym (h.2 zero_mapping ∙ stands_next b _ l refl inside k o)))
 
 module _ (b : Board) (l : MappingList) where
   -- ---- from the test to the facts
